@@ -1,0 +1,41 @@
+use Rattle.std.proofs.Common.{◌≡◌, ℕ, ◌<◌, sym, ap, ◌∙◌, arith}
+use Rattle.flake_rate.proofs.Divisors.{gcd-zero_left}
+use Rattle.flake_rate.specs.Bar.{bar_numerator, bar_denominator}
+use Rattle.flake_rate.specs.Divisor.{gcd}
+use Rattle.flake_rate.specs.Limits.{IsRate, IsMiss, IsBar, IsTold}
+use Rattle.flake_rate.specs.Miss.{miss_numerator, miss_denominator, FitsRate}
+use Rattle.flake_rate.specs.Rate.{rate_numerator, rate_denominator}
+use Rattle.flake_rate.specs.declared.bar.Bar.{Bar}
+use Rattle.flake_rate.specs.declared.miss.Miss.{Miss}
+use Rattle.flake_rate.specs.declared.rate.Rate.{Rate}
+
+-- what any value of the three types keeps
+
+pub rate_within : (rate : Rate) → IsRate (rate_numerator rate) (rate_denominator rate)
+rate_within rate = rate.in_limits
+
+pub rate_lowest : (rate : Rate) → gcd (rate_numerator rate) (rate_denominator rate) ≡ 1
+rate_lowest rate = rate.lowest_terms
+
+pub miss_within : (miss : Miss) → IsMiss (miss_numerator miss) (miss_denominator miss)
+miss_within miss = miss.in_limits
+
+pub miss_lowest : (miss : Miss) → gcd (miss_numerator miss) (miss_denominator miss) ≡ 1
+miss_lowest miss = miss.lowest_terms
+
+pub bar_within : (bar : Bar) → IsBar (bar_numerator bar) (bar_denominator bar)
+bar_within bar = bar.in_limits
+
+-- a miss rate of 0 in lowest terms is 0/1
+pub miss_denominator-zero : (miss : Miss) → miss_numerator miss ≡ 0 → miss_denominator miss ≡ 1
+miss_denominator-zero miss e =
+    sym (gcd-zero_left miss.d) ∙ ap (λ n. gcd n miss.d) (sym e) ∙ miss.lowest_terms
+
+-- at a miss rate of 0/1 a broken test fails more often wherever a sound one doesn't always fail
+told_at_zero : (c d a b : ℕ) → c ≡ 0 → d ≡ 1 → a < b → IsTold c d a b
+told_at_zero c d a b c_is d_is h = rw (c_is, d_is) (omega arith)
+
+-- a miss rate of 0 fits every flake rate
+pub zero_miss_fits : (miss : Miss) (rate : Rate) → miss_numerator miss ≡ 0 → FitsRate miss rate
+zero_miss_fits miss rate e =
+    told_at_zero miss.c miss.d rate.a rate.b e (miss_denominator-zero miss e) rate.in_limits.1

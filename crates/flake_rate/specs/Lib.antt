@@ -1,0 +1,5 @@
+pub mod Bar
+pub mod Divisor
+pub mod Limits
+pub mod Miss
+pub mod Rate
