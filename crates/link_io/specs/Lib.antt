@@ -1,0 +1,9 @@
+pub mod Counts
+pub mod FaultPlan
+pub mod MemSink
+pub mod MemSource
+pub mod Pieces
+pub mod Put
+pub mod PutAll
+pub mod Standard
+pub mod Took
