@@ -1,0 +1,4 @@
+pub mod IdTexts
+pub mod NameTexts
+pub mod Places
+pub mod SameValues

@@ -1,0 +1,4 @@
+pub mod CommitId
+pub mod Limits
+pub mod Moment
+pub mod Name

@@ -1,0 +1,25 @@
+//! The small values of the farm, each of which holds exactly what was read: ids of commits, names, moments in time,
+//! keys of requests, the stage of a run, and want of memory as an error of its own.
+//!
+//! The crate stands on `hex` for digits and on `thiserror` for the texts of its refusals, and on nothing of the farm.
+//! A value is made by the one call that tests its limits, so the layers above take it as legal and test nothing again.
+//! They may use every name below. What a value holds is seen through `id_bytes` and `moment_ms` of `specs/`, and a
+//! name is seen as the list of its bytes; why a text is refused is said by `id_fault` and `name_fault`.
+#![tactic(auto)]
+
+mod commit_id;
+mod key;
+pub mod laws;
+mod memory;
+mod moment;
+mod name;
+mod stage;
+#[cfg(test)]
+mod tests;
+
+pub use commit_id::{CommitId, ID_BYTES, ID_DIGITS, IdFault};
+pub use key::Key;
+pub use memory::Memory;
+pub use moment::{MOMENT_MAX_MS, MOMENT_MIN_MS, Moment, MomentFault};
+pub use name::{NAME_FIRST_BYTE, NAME_LAST_BYTE, NAME_MAX_BYTES, Name, NameFault};
+pub use stage::Stage;

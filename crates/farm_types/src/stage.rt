@@ -1,0 +1,8 @@
+/// What a run of a test is for.
+#[derive(Clone, Copy, Debug, PartialEq, Eq, PartialOrd, Ord, Hash)]
+pub enum Stage {
+    /// To find the culprit among the suspects.
+    Search,
+    /// To confirm the culprit that was found, at it and just below it.
+    Verify,
+}
