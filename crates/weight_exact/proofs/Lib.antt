@@ -1,0 +1,14 @@
+pub mod Setups
+pub mod Likelihoods
+pub mod SumTo
+pub mod Floors
+pub mod Cancels
+pub mod Shares
+pub mod Budgets
+pub mod FactorNumbers
+pub mod Plans
+pub mod PlainTable
+pub mod Scaled
+pub mod LiveWeights
+pub mod Powering
+pub mod Budgeting

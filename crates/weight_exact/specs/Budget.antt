@@ -1,0 +1,27 @@
+-- How many runs fit in 128 bits.
+use Rattle.std.specs.Prelude.{ℕ, zero, suc, sum, ◌*◌, ◌^◌, ◌<◌, ◌≤◌, Bool, nat_lt, if◌then◌else◌}
+use Rattle.weight_exact.specs.Factors.{greatest_factor}
+use Rattle.weight_exact.specs.Weights.{Setup}
+use Rattle.weight_exact.specs.declared.factors.Factors.{Factors}
+
+-- a total prior weight times the greatest number of F runs, in basis points, fits 128 bits
+abbrev pub Fits : ℕ → Factors → ℕ → Type 0
+Fits prior_total f runs = prior_total * greatest_factor f ^ runs * 10000 < 2 ^ 128
+
+-- the budget of a search: the greatest number of runs that fits
+pub record IsBudget (prior_total : ℕ) (f : Factors) (runs : ℕ) : Type 0 where
+  pub fits : Fits prior_total f runs
+  pub greatest : (more : ℕ) → Fits prior_total f more → more ≤ runs
+
+-- the last number below n that passes a test, or 0
+abbrev pub last_below : (ℕ → Bool) → ℕ → ℕ
+last_below test zero = 0
+last_below test (suc n) = if test n then n else last_below test n
+
+-- the budget as a number: fewer than 128 runs fit, since the greatest number is at least 2
+unfoldable pub budget_of : ℕ → Factors → ℕ
+budget_of prior_total f = last_below (λ runs. nat_lt (prior_total * greatest_factor f ^ runs * 10000) (2 ^ 128)) 128
+
+-- the budget of a search: by the sum of its priors
+abbrev pub run_budget : Setup → ℕ
+run_budget s = budget_of (sum s.priors) s.factors

@@ -1,0 +1,14 @@
+pub mod Factors
+pub mod Weights
+pub mod Limits
+pub mod Share
+pub mod Load
+pub mod Common
+pub mod Counts
+pub mod Plain
+pub mod Example
+pub mod Budget
+pub mod Plan
+pub mod PowerTable
+pub mod Powers
+pub mod PowersInside

@@ -1,0 +1,266 @@
+//! The laws of the inference: what holds of likelihoods, weights, shares, budgets and plans, over every list of runs.
+//!
+//! A function here does nothing: its contract is the law. What computes has contracts over the same definitions.
+ghost use Rattle.std.specs.Prelude.{◌≡◌, ◌↔◌, ℕ, ◌+◌, ◌*◌, ◌-◌, ◌^◌, ◌<◌, ◌≤◌, max, List, [], ◌∷◌, ◌++◌, map, length, IsPermutation, slice_index, sum, count_by, Some, None};
+ghost use Rattle.flake_rate.specs.Divisor.{gcd};
+ghost use Rattle.flake_rate.specs.Limits.{IsRate, IsMiss, IsTold};
+ghost use Rattle.weight_exact.specs.Budget.{Fits, IsBudget, budget_of};
+ghost use Rattle.weight_exact.specs.Common.{common, live_weight, live_total};
+ghost use Rattle.weight_exact.specs.Counts.{fails_in, fails_out, passes_in, passes_out, passes};
+ghost use Rattle.weight_exact.specs.Example.{four_suspects, all_five, fail_at, pass_at};
+ghost use Rattle.weight_exact.specs.Factors.{factor, factors, greatest_factor};
+ghost use Rattle.weight_exact.specs.Load.{floor, is_fail_above, live, load};
+ghost use Rattle.weight_exact.specs.Plain.{on_plain_table};
+ghost use Rattle.weight_exact.specs.Plan.{distance, IsNearest, nearest, pick, plan};
+ghost use Rattle.weight_exact.specs.Share.{share, basis_points, IsReached, is_at_bar, last_to, reached};
+ghost use Rattle.weight_exact.specs.Weights.{Setup, hypotheses, suspects, prior, likelihood, weight, sum_to, cumulative, total, AreInRange};
+ghost use Rattle.weight_exact.specs.declared.factors.Factors.{Factors};
+ghost use Rattle.weight_exact.specs.declared.run.Run.{Run};
+ghost use Rattle.weight_exact.specs.declared.run.Verdict.TheVariants.{Pass, Fail};
+
+/// Runs are independent, so likelihoods multiply: that of one list of runs after another is the product of the two,
+/// and one run more multiplies the weight of each hypothesis by its number for that run.
+pub fn runs_are_independent()
+    ensures lists { (f : Factors) (i : ℕ) (runs more : List Run) →
+        likelihood f i (runs ++ more) ≡ likelihood f i runs * likelihood f i more }
+    ensures one_more { (s : Setup) (runs : List Run) (r : Run) (i : ℕ) →
+        weight s (runs ++ r ∷ []) i ≡ weight s runs i * factor s.factors i r }
+{}
+
+/// A likelihood counts the runs by verdict and by whether the culprit was in the tree. So their order doesn't matter.
+/// It is at most the greatest of the four numbers to the power of the number of runs.
+pub fn likelihood_counts_runs()
+    ensures product { (f : Factors) (i : ℕ) (runs : List Run) →
+        likelihood f i runs
+        ≡ f.fail_in ^ fails_in i runs * f.fail_out ^ fails_out i runs
+        * f.pass_in ^ passes_in i runs * f.pass_out ^ passes_out i runs }
+    ensures each_once { (i : ℕ) (runs : List Run) →
+        fails_in i runs + fails_out i runs + passes_in i runs + passes_out i runs ≡ length runs }
+    ensures any_order { (f : Factors) (i : ℕ) (runs other : List Run) →
+        IsPermutation runs other → likelihood f i other ≡ likelihood f i runs }
+    ensures bounded { (f : Factors) (i : ℕ) (runs : List Run) →
+        likelihood f i runs ≤ greatest_factor f ^ length runs }
+{}
+
+/// Where a broken test never passes, a pass clears each suspect in its tree, for good. A fail at or below the floor
+/// then tells no hypothesis from another: it multiplies each by the same number.
+pub fn a_pass_clears()
+    ensures cleared { (s : Setup) (runs : List Run) (r : Run) (i : ℕ) →
+        s.factors.pass_in ≡ 0 → r.verdict ≡ Pass → i ≤ r.position →
+        weight s (runs ++ r ∷ []) i ≡ 0 }
+    ensures others { (s : Setup) (runs : List Run) (r : Run) (i : ℕ) →
+        r.verdict ≡ Pass → r.position < i →
+        weight s (runs ++ r ∷ []) i ≡ weight s runs i * s.factors.pass_out }
+    ensures for_good { (s : Setup) (runs : List Run) (i : ℕ) →
+        1 ≤ i → i ≤ floor s.factors runs → weight s runs i ≡ 0 }
+    ensures fail_below { (s : Setup) (runs : List Run) (r : Run) (i : ℕ) →
+        r.verdict ≡ Fail → r.position ≤ floor s.factors runs → 1 ≤ i →
+        weight s (runs ++ r ∷ []) i ≡ weight s runs i * s.factors.fail_out }
+{}
+
+/// Where a broken test never passes, a pass raises the floor to its position and a fail keeps it. Where it may pass,
+/// the floor is 0.
+pub fn floor_after_one_run_more()
+    ensures pass { (f : Factors) (runs : List Run) (r : Run) →
+        f.pass_in ≡ 0 → r.verdict ≡ Pass →
+        floor f (runs ++ r ∷ []) ≡ max (floor f runs) r.position }
+    ensures fail { (f : Factors) (runs : List Run) (r : Run) →
+        r.verdict ≡ Fail → floor f (runs ++ r ∷ []) ≡ floor f runs }
+    ensures may_pass { (f : Factors) (runs : List Run) → 1 ≤ f.pass_in → floor f runs ≡ 0 }
+{}
+
+/// A fail above the floor adds one to the load. Where a broken test never passes, a run at or below the floor keeps it,
+/// a pass at or above the floor leaves the number of fails above that pass, and no pass adds to it. Where it may pass,
+/// each run adds one.
+pub fn load_after_one_run_more()
+    ensures fail_above { (f : Factors) (runs : List Run) (r : Run) →
+        r.verdict ≡ Fail → floor f runs < r.position →
+        load f (runs ++ r ∷ []) ≡ load f runs + 1 }
+    ensures fail_below { (f : Factors) (runs : List Run) (r : Run) →
+        f.pass_in ≡ 0 → r.verdict ≡ Fail → r.position ≤ floor f runs →
+        load f (runs ++ r ∷ []) ≡ load f runs }
+    ensures pass_below { (f : Factors) (runs : List Run) (r : Run) →
+        f.pass_in ≡ 0 → r.verdict ≡ Pass → r.position ≤ floor f runs →
+        load f (runs ++ r ∷ []) ≡ load f runs }
+    ensures pass_above { (f : Factors) (runs : List Run) (r : Run) →
+        f.pass_in ≡ 0 → r.verdict ≡ Pass → floor f runs ≤ r.position →
+        load f (runs ++ r ∷ []) ≡ count_by (is_fail_above r.position) runs }
+    ensures pass_adds_none { (f : Factors) (runs : List Run) (r : Run) →
+        f.pass_in ≡ 0 → r.verdict ≡ Pass → load f (runs ++ r ∷ []) ≤ load f runs }
+    ensures may_pass { (f : Factors) (runs : List Run) (r : Run) →
+        1 ≤ f.pass_in → load f (runs ++ r ∷ []) ≡ load f runs + 1 }
+{}
+
+/// What all hypotheses above the floor have in common cancels: each likelihood there is one factor, positive where a
+/// sound tree may pass and may fail, times the likelihood of the live runs; up to the floor it is 0. Where a broken test
+/// may pass, each run is live.
+pub fn settled_runs_cancel()
+    ensures above { (f : Factors) (runs : List Run) (i : ℕ) →
+        floor f runs < i →
+        likelihood f i runs ≡ common f runs * likelihood f i (live f runs) }
+    ensures below { (f : Factors) (runs : List Run) (i : ℕ) →
+        1 ≤ i → i ≤ floor f runs → likelihood f i runs ≡ 0 }
+    ensures positive { (f : Factors) (runs : List Run) →
+        1 ≤ f.fail_out → 1 ≤ f.pass_out → 1 ≤ common f runs }
+    ensures may_pass { (f : Factors) (runs : List Run) →
+        1 ≤ f.pass_in → (live f runs ≡ runs) × (common f runs ≡ 1) }
+{}
+
+/// The live runs say all that the runs say: the weights by the live runs alone give the same shares, the same named
+/// hypothesis and the same plan, where a sound tree may pass and may fail. In basis points they fit in 128 bits while the
+/// load fits.
+pub fn live_runs_suffice()
+    ensures shares { (s : Setup) (runs : List Run) (i : ℕ) →
+        1 ≤ s.factors.fail_out → 1 ≤ s.factors.pass_out → 1 ≤ i → i ≤ hypotheses s →
+        basis_points s runs i ≡ share (live_weight s runs i) (live_total s runs) }
+    ensures named { (s : Setup) (runs : List Run) →
+        1 ≤ s.factors.fail_out → 1 ≤ s.factors.pass_out →
+        reached s runs
+        ≡ last_to
+        (λ i. is_at_bar s.bar_numerator s.bar_denominator
+        (live_total s runs) (live_weight s runs i))
+        (hypotheses s) }
+    ensures planned { (s : Setup) (runs : List Run) (k j : ℕ) →
+        1 ≤ s.factors.fail_out → 1 ≤ s.factors.pass_out → floor s.factors runs < suspects s →
+        pick s runs k j
+        ≡ nearest
+        (λ i. distance (live_total s runs) j k (sum_to (live_weight s runs) i))
+        (floor s.factors runs) (suspects s - floor s.factors runs - 1) }
+    ensures fits { (s : Setup) (runs : List Run) →
+        Fits (sum s.priors) s.factors (load s.factors runs) →
+        live_total s runs * 10000 < 2 ^ 128 }
+{}
+
+/// The total weight is never 0: where "no culprit" has a prior weight, and a sound tree may pass and may fail, that
+/// hypothesis keeps a weight whatever the runs at the suspects' positions say.
+pub fn total_is_positive()
+    ensures { (s : Setup) (runs : List Run) →
+        1 ≤ prior s (hypotheses s) → 1 ≤ s.factors.fail_out → 1 ≤ s.factors.pass_out →
+        AreInRange s runs → 1 ≤ total s runs }
+{}
+
+/// A bar above one half is reached by one hypothesis at most, and `reached` computes which, or that none does.
+pub fn at_most_one_reaches_the_bar()
+    ensures one { (s : Setup) (runs : List Run) (i j : ℕ) →
+        s.bar_denominator < 2 * s.bar_numerator → 1 ≤ total s runs →
+        IsReached s runs i → IsReached s runs j → i ≡ j }
+    ensures named { (s : Setup) (runs : List Run) (i : ℕ) →
+        s.bar_denominator < 2 * s.bar_numerator → 1 ≤ total s runs →
+        (reached s runs ≡ Some i) ↔ IsReached s runs i }
+    ensures none_named { (s : Setup) (runs : List Run) →
+        (reached s runs ≡ None) ↔ ((i : ℕ) → ¬ IsReached s runs i) }
+{}
+
+/// The computed budget is the budget, the only one, and less than 128. What fits, fits with fewer runs.
+pub fn there_is_one_budget()
+    ensures computed { (prior_total : ℕ) (f : Factors) →
+        1 ≤ prior_total → 2 ≤ greatest_factor f → Fits prior_total f 0 →
+        IsBudget prior_total f (budget_of prior_total f) }
+    ensures only { (prior_total : ℕ) (f : Factors) (runs : ℕ) →
+        1 ≤ prior_total → 2 ≤ greatest_factor f → IsBudget prior_total f runs →
+        runs ≡ budget_of prior_total f }
+    ensures few { (prior_total : ℕ) (f : Factors) (runs : ℕ) →
+        1 ≤ prior_total → 2 ≤ greatest_factor f → Fits prior_total f runs → runs < 128 }
+    ensures fewer { (prior_total : ℕ) (f : Factors) (runs fewer : ℕ) →
+        1 ≤ greatest_factor f → fewer ≤ runs → Fits prior_total f runs →
+        Fits prior_total f fewer }
+{}
+
+/// The four likelihood numbers of rates within their limits. Each is at most 100,000, three are positive, and the
+/// fourth is 0 exactly where a broken test never passes. A fail speaks for the hypotheses whose culprit is in the tree,
+/// and a pass for the others. With no misses, a rate a/b in lowest terms has the numbers b and a for a fail, and 0 and
+/// 1 for a pass.
+pub fn likelihood_numbers_of_rates()
+    ensures positive { (a b c d : ℕ) → IsRate a b → IsMiss c d →
+        (1 ≤ (factors a b c d).fail_in)
+        × (1 ≤ (factors a b c d).fail_out)
+        × (1 ≤ (factors a b c d).pass_out) }
+    ensures no_misses { (a b c d : ℕ) → IsRate a b →
+        ((factors a b c d).pass_in ≡ 0) ↔ (c ≡ 0) }
+    ensures fail_speaks_for_in { (a b c d : ℕ) → IsMiss c d → IsTold c d a b →
+        (factors a b c d).fail_out < (factors a b c d).fail_in }
+    ensures pass_speaks_for_out { (a b c d : ℕ) → IsRate a b → IsTold c d a b →
+        (factors a b c d).pass_in < (factors a b c d).pass_out }
+    ensures small { (a b c d : ℕ) → IsRate a b → IsMiss c d →
+        greatest_factor (factors a b c d) ≤ 100000 }
+    ensures more_than_one { (a b c d : ℕ) → IsRate a b → IsMiss c d → IsTold c d a b →
+        2 ≤ greatest_factor (factors a b c d) }
+    ensures lowest_terms { (a b : ℕ) → IsRate a b → gcd a b ≡ 1 →
+        factors a b 0 1
+        ≡ record { fail_in = b; fail_out = a; pass_in = 0; pass_out = 1 } }
+{}
+
+/// Lowest terms change nothing that is seen: where a broken test never passes, the plain table of the rate a/b weighs
+/// each hypothesis b - a more for each pass, and so gives the same shares, the same hypotheses at the bar and the same
+/// plans.
+pub fn plain_table_gives_the_same()
+    ensures weights { (s : Setup) (a b : ℕ) →
+        IsRate a b → gcd a b ≡ 1 → s.factors ≡ factors a b 0 1 →
+        (runs : List Run) (i : ℕ) →
+        weight (on_plain_table s a b) runs i ≡ weight s runs i * (b - a) ^ passes runs }
+    ensures shares { (s : Setup) (a b : ℕ) →
+        IsRate a b → gcd a b ≡ 1 → s.factors ≡ factors a b 0 1 →
+        (runs : List Run) (i : ℕ) →
+        basis_points (on_plain_table s a b) runs i ≡ basis_points s runs i }
+    ensures at_bar { (s : Setup) (a b : ℕ) →
+        IsRate a b → gcd a b ≡ 1 → s.factors ≡ factors a b 0 1 →
+        (runs : List Run) (i : ℕ) →
+        IsReached (on_plain_table s a b) runs i ↔ IsReached s runs i }
+    ensures named { (s : Setup) (a b : ℕ) →
+        IsRate a b → gcd a b ≡ 1 → s.factors ≡ factors a b 0 1 →
+        (runs : List Run) →
+        reached (on_plain_table s a b) runs ≡ reached s runs }
+    ensures plans { (s : Setup) (a b : ℕ) →
+        IsRate a b → gcd a b ≡ 1 → s.factors ≡ factors a b 0 1 →
+        (runs : List Run) (k : ℕ) →
+        plan (on_plain_table s a b) runs k ≡ plan s runs k }
+{}
+
+/// A plan of width k has k positions, and the j-th is the position above the floor whose cumulative weight is nearest
+/// to j parts in k + 1 of the total, the smaller one on a tie. There is one such position.
+pub fn plan_is_nearest()
+    ensures width { (s : Setup) (runs : List Run) (k : ℕ) → length (plan s runs k) ≡ k }
+    ensures each { (s : Setup) (runs : List Run) (k j : ℕ) →
+        j < k → slice_index (plan s runs k) j ≡ pick s runs k (j + 1) }
+    ensures nearest { (s : Setup) (runs : List Run) (k j : ℕ) →
+        floor s.factors runs < suspects s →
+        IsNearest (λ i. distance (total s runs) j k (cumulative s runs i))
+        (floor s.factors runs) (suspects s) (pick s runs k j) }
+    ensures one { (away : ℕ → ℕ) (low n i j : ℕ) →
+        IsNearest away low n i → IsNearest away low n j → i ≡ j }
+{}
+
+/// Shares, the bar and the plan depend on weights only as parts of their total: a common positive factor changes none.
+pub fn only_parts_of_the_total_count()
+    ensures shares { (v whole w other : ℕ) →
+        1 ≤ whole → 1 ≤ other → v * other ≡ w * whole → share v whole ≡ share w other }
+    ensures bar { (t u v whole w other : ℕ) →
+        1 ≤ whole → 1 ≤ other → v * other ≡ w * whole →
+        (t * whole ≤ v * u) ↔ (t * other ≤ w * u) }
+    ensures nearest { (sums others : ℕ → ℕ) (whole other j k low more : ℕ) →
+        1 ≤ whole → 1 ≤ other →
+        ((i : ℕ) → low < i → i ≤ low + 1 + more → sums i * other ≡ others i * whole) →
+        nearest (λ i. distance whole j k (sums i)) low more
+        ≡ nearest (λ i. distance other j k (others i)) low more }
+{}
+
+/// Worked numbers. Four suspects and "no culprit", all of weight 1, with a flake rate of 1/10, no misses and a bar of
+/// 9/10, and the budgets of a few searches: of a total prior weight of 5, of 1001, and of the greatest there is.
+pub fn worked_numbers()
+    ensures weights_after_a_fail { map (weight four_suspects (fail_at 2 ∷ [])) all_five ≡ 10 ∷ 10 ∷ 1 ∷ 1 ∷ 1 ∷ [] }
+    ensures shares_after_a_pass { map (basis_points four_suspects (fail_at 2 ∷ pass_at 1 ∷ [])) all_five
+        ≡ 0 ∷ 7692 ∷ 769 ∷ 769 ∷ 769 ∷ [] }
+    ensures none_named_yet { reached four_suspects (fail_at 2 ∷ pass_at 1 ∷ []) ≡ None }
+    ensures shares_after_two_fails { map (basis_points four_suspects (fail_at 2 ∷ pass_at 1 ∷ fail_at 2 ∷ [])) all_five
+        ≡ 0 ∷ 9708 ∷ 97 ∷ 97 ∷ 97 ∷ [] }
+    ensures second_named { reached four_suspects (fail_at 2 ∷ pass_at 1 ∷ fail_at 2 ∷ []) ≡ Some 2 }
+    ensures tie_of_two_and_three { distance (total four_suspects []) 1 1 (cumulative four_suspects [] 2)
+        ≡ distance (total four_suspects []) 1 1 (cumulative four_suspects [] 3) }
+    ensures first_plan { plan four_suspects [] 1 ≡ 2 ∷ [] }
+    ensures first_plan_of_three { plan four_suspects [] 3 ≡ 1 ∷ 2 ∷ 4 ∷ [] }
+    ensures budget_of_five { budget_of 5 (factors 1 10 0 1) ≡ 33 }
+    ensures budget_of_a_thousand { budget_of 1001 (factors 1 10 0 1) ≡ 31 }
+    ensures budget_of_the_greatest { budget_of 66535000 (factors 1 1000 0 1) ≡ 8 }
+    ensures budget_at_one_percent { budget_of 180 (factors 1 100 0 1) ≡ 16 }
+    ensures budget_with_misses { budget_of 5 (factors 1 10 1 10) ≡ 35 }
+{}

@@ -1,0 +1,31 @@
+//! Exact Bayesian inference over whole numbers: the definitions, and the arithmetic that computes them.
+//!
+//! A search has n suspects, the hypotheses 1 to n, and the hypothesis n + 1 that there is no culprit, only a flake.
+//! `specs/` holds the inference's definitions over plain lists of runs: priors, the likelihood of a run, weights,
+//! shares, the bar, floor and load, the budget and the plan. Here stand the public laws over them (`laws`) and the
+//! exact arithmetic that the belief of a search is computed with: `budget`, `Powers`, `Sums` and the counter `Steps`.
+//! It stands on `flake_rate`. The layer above may cite every definition, and takes products from `times` alone.
+#![tactic(auto)]
+
+mod factors;
+pub mod laws;
+mod limits;
+mod memory;
+mod power_table;
+mod powers;
+mod run;
+mod run_budget;
+mod steps;
+mod sums;
+
+pub use factors::Factors;
+pub use limits::{MAX_CALM, MAX_SUSPECTS, MAX_WEIGHT};
+pub use memory::Memory;
+pub use powers::{Counts, Powers};
+pub use run::{Run, Verdict};
+pub use run_budget::{MAX_PRIOR_TOTAL, MIN_PRIOR_TOTAL, budget};
+pub use steps::Steps;
+pub use sums::Sums;
+
+#[cfg(test)]
+mod tests;
