@@ -1,0 +1,3 @@
+pub mod Legal
+pub mod Repeats
+pub mod SameContents
