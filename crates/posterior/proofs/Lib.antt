@@ -1,0 +1,13 @@
+pub mod CountLemmas
+pub mod LiveCounts
+pub mod KeptWeights
+pub mod Bounds
+pub mod Stands
+pub mod Counting
+pub mod Walking
+pub mod Readers
+pub mod Noting
+pub mod Remade
+pub mod Reclosed
+pub mod Matching
+pub mod Begun

@@ -1,0 +1,6 @@
+pub mod Kept
+pub mod StandsFor
+pub mod Counted
+pub mod KeptWeight
+pub mod BeliefFacts
+pub mod BeliefInside

@@ -1,0 +1,16 @@
+//! The belief of a search: what Bayes' rule says of its suspects after any list of runs, in exact whole numbers.
+//!
+//! A [`Belief`] is started from prior weights, a flake rate, a miss rate and a bar, and takes runs one by one. Its
+//! contracts say what it stands for (`specs/StandsFor.antt`): the plain list of the runs that it was told, by the
+//! definitions of `weight_exact`, on which it stands with `flake_rate`. It keeps counts and not runs, so a long search
+//! costs no more memory than a short one. The layer above may cite `StandsFor` and the setup, and nothing else of it.
+#![tactic(auto)]
+
+mod belief;
+mod tallies;
+mod weigh;
+
+pub use belief::{Belief, Noted};
+
+#[cfg(test)]
+mod tests;
