@@ -1,0 +1,10 @@
+pub mod Text
+pub mod Form
+pub mod Fates
+pub mod Answer
+pub mod Lines
+pub mod Words
+pub mod Miss
+pub mod Weights
+pub mod Setup
+pub mod Trial

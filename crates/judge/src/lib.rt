@@ -1,0 +1,32 @@
+//! The judge: it answers the lines of one search, what becomes of each run, the shares of the hypotheses, and where the
+//! search stands.
+//!
+//! `specs/` says it whole, from bytes to bytes: lines, words and numbers (`Text`), the form of an input (`Form`), the
+//! fate of each run line (`Fates`) and the text of the answer (`Answer`), over the definitions of the inference in
+//! `weight_exact`. The code reads the input once and keeps a `posterior::Belief` in place of the runs; limits and lowest
+//! terms are those of `flake_rate`, and line feeds are found by `memchr`. The layer above may use [`judge`], whose
+//! contract is that definition, and cite the laws over it ([`laws`]).
+#![tactic(auto)]
+
+mod answer;
+mod fate;
+mod fault;
+pub mod laws;
+mod lines;
+mod miss;
+mod numeral;
+mod opening;
+mod report;
+mod run_line;
+mod search;
+mod standing;
+#[cfg(test)]
+mod tests;
+mod trial;
+mod words;
+
+pub use answer::judge;
+pub use fate::Fate;
+pub use fault::JudgeFault;
+pub use run_line::RunLine;
+pub use standing::Standing;

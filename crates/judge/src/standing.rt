@@ -1,0 +1,45 @@
+//! Where a search stands.
+
+ghost use Rattle.std.specs.Prelude.{Some};
+
+use std::fmt;
+
+/// Where a search stands.
+#[derive(Clone, Copy, Debug, PartialEq, Eq)]
+pub enum Standing {
+    /// No hypothesis reaches the bar.
+    Searching,
+    /// The suspect at this position reaches the bar.
+    Named(u16),
+    /// The hypothesis that there is no culprit reaches the bar.
+    NoCulprit,
+    /// A run would not fit the budget while the search went on.
+    Inconclusive,
+}
+
+impl Standing {
+    ghost use Rattle.std.specs.Prelude.{◌≡◌};
+    ghost use Rattle.judge.specs.Fates.{is_searching};
+
+    /// Whether the search goes on.
+    pub fn is_searching(self) -> bool
+        ensures { result ≡ is_searching self }
+    {
+        matches!(self, Standing::Searching)
+    }
+}
+
+impl fmt::Display for Standing {
+    ghost use Rattle.judge.specs.Answer.{standing_word};
+
+    ghost output = { λ standing. Some (standing_word standing) };
+
+    fn fmt<W: fmt::Write>(&self, f: &mut fmt::Formatter<W>) -> fmt::Result {
+        match self {
+            Standing::Searching => write!(f, "searching"),
+            Standing::Named(position) => write!(f, "named {position}"),
+            Standing::NoCulprit => write!(f, "no culprit"),
+            Standing::Inconclusive => write!(f, "inconclusive"),
+        }
+    }
+}
