@@ -1,0 +1,32 @@
+//! The program: makes the real input and output, calls `finder` with the words, and ends with its status. Where the
+//! command did not do its work, one line on standard error says why.
+//!
+//! The adapters over standard input and output are the trusted edge: no contract says which bytes the system gives
+//! or takes. What the program does with them is the contract of `finder`.
+#![tactic(auto)]
+
+use finder_program::{Status, finder};
+use link_io::{InputSource, OutputSink};
+use std::process::ExitCode;
+use std::{env, io};
+
+fn main(rt: HostRuntime) -> ExitCode {
+    let status = run(&rt);
+    if status != Status::Done {
+        let _ = eprintln!(rt; "culprit_finder: {status}");
+    }
+    ExitCode::from(status.exit_code())
+}
+
+/// Runs the command that the process's words name. Words that aren't text name none.
+fn run(rt: &HostRuntime) -> Status {
+    let Ok(words) = env::args(rt) else {
+        return Status::Usage;
+    };
+    let Ok(words) = words.skip(1).collect::<Vec<String>>(rt.alloc()) else {
+        return Status::Memory;
+    };
+    let mut input = InputSource::new(rt.reader());
+    let mut output = OutputSink::new(io::writer(rt));
+    finder(rt.alloc(), &words, &mut input, &mut output)
+}

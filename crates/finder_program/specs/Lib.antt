@@ -1,0 +1,5 @@
+pub mod Words
+pub mod ExitCode
+pub mod Streams
+pub mod ReadInput
+pub mod JudgeCommand
