@@ -1,0 +1,5 @@
+pub mod Rising
+pub mod Valleys
+pub mod Costs
+pub mod Plans
+pub mod Alive

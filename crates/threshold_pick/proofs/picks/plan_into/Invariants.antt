@@ -1,0 +1,12 @@
+use Rattle.std.proofs.Common.{ℕ, ◌-◌, ◌*◌, ◌^◌, ◌≤◌, slice_index}
+use Rattle.threshold_pick.specs.Sums.{suspects_in}
+use Rattle.threshold_pick.specs.Picks.{IsPick}
+use Rattle.threshold_pick.proofs.picks.plan_into.Given as goal
+
+-- The picks before this place are written
+abbrev pub invariant-loop-place : goal.invariant-loop-place
+invariant-loop-place g l = record {
+  picks : (j : ℕ) → 1 ≤ j → j ≤ l.place → IsPick l.sums l.floor j l.k (slice_index l.out (j - 1));
+  counted : l.fn.steps ≤ l.steps;
+  cost : 2 ^ (l.steps - l.fn.steps) ≤ (8 * suspects_in l.sums) ^ l.place;
+}

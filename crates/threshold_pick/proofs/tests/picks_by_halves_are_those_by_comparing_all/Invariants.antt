@@ -1,0 +1,4 @@
+use Rattle.threshold_pick.proofs.tests.picks_by_halves_are_those_by_comparing_all.Given as goal
+
+abbrev pub ghosts-compare : goal.ghosts-compare
+ghosts-compare g a = record { name = a.blank.name; parts = a.blank.parts }

@@ -1,0 +1,4 @@
+use Rattle.threshold_pick.proofs.tests.plans_are_those_worked_out_by_hand.Given as goal
+
+abbrev pub ghosts-plan : goal.ghosts-plan
+ghosts-plan g a = record { name = a.blank.name; parts = a.blank.parts }

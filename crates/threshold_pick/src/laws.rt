@@ -1,0 +1,37 @@
+//! The laws that tie picks over sums to the plan of a search. A function here does nothing: its contract is the law.
+
+ghost use Rattle.std.specs.Prelude.{◌≡◌, ℕ, ◌+◌, ◌*◌, ◌^◌, ◌<◌, ◌≤◌, List};
+ghost use Rattle.weight_exact.specs.Load.{floor};
+ghost use Rattle.weight_exact.specs.Plan.{pick, plan};
+ghost use Rattle.weight_exact.specs.Weights.{Setup, suspects, hypotheses, prior, total};
+ghost use Rattle.weight_exact.specs.declared.run.Run.{Run};
+ghost use Rattle.threshold_pick.specs.Sums.{RiseAbove};
+ghost use Rattle.threshold_pick.specs.Picks.{IsPick, ArePicks};
+ghost use Rattle.threshold_pick.specs.Cumulative.{AreCumulative};
+
+/// Over sums that are the cumulative weights of a search, up to one common factor, what is picked is the plan of the
+/// search, while a suspect is left above its floor.
+pub fn picks_are_the_plan()
+    ensures pick { (s : Setup) (runs : List Run) (sums : List ℕ) (j k i : ℕ) →
+        AreCumulative s runs sums → 1 ≤ total s runs → floor s.factors runs < suspects s →
+        IsPick sums (floor s.factors runs) j k i → i ≡ pick s runs k j }
+    ensures plan { (s : Setup) (runs : List Run) (sums positions : List ℕ) (k : ℕ) →
+        AreCumulative s runs sums → 1 ≤ total s runs → floor s.factors runs < suspects s →
+        ArePicks sums (floor s.factors runs) k positions → positions ≡ plan s runs k }
+{}
+
+/// Such sums rise above the floor, as a pick requires: a hypothesis with a prior weight keeps a weight there, since only
+/// a pass that clears it could take the last of it.
+pub fn sums_rise_above_the_floor()
+    ensures { (s : Setup) (runs : List Run) (sums : List ℕ) →
+        AreCumulative s runs sums → 1 ≤ total s runs →
+        ((i : ℕ) → 1 ≤ i → i ≤ hypotheses s → 1 ≤ prior s i) →
+        1 ≤ s.factors.fail_in → 1 ≤ s.factors.fail_out → 1 ≤ s.factors.pass_out →
+        RiseAbove (floor s.factors runs) sums }
+{}
+
+/// What the cost of a pick says: it takes at most two steps more than the number of suspects has binary digits.
+pub fn steps_are_few()
+    ensures { (suspects digits steps : ℕ) →
+        suspects < 2 ^ digits → 2 ^ steps ≤ 8 * suspects → steps ≤ digits + 2 }
+{}

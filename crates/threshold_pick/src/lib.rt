@@ -1,0 +1,18 @@
+//! Where to run next: the positions at which the cumulative weight of the suspects is nearest to evenly spaced
+//! thresholds.
+//!
+//! A search that may have k runs at once cuts what it believes into k + 1 parts, as near to equal as whole suspects
+//! allow: bisection, with the quantiles of the posterior for the middle. [`pick`] finds one such position by halves,
+//! and [`plan_into`] all k. They stand on `weight_exact`: they read its `Sums`, count on its `Steps`, and meet its
+//! definition of the plan. The layer above passes the sums and the floor of a belief. By the laws the positions are then
+//! the plan of the runs that the belief stands for.
+#![tactic(auto)]
+
+pub mod laws;
+mod picks;
+mod threshold;
+
+pub use picks::{MAX_WIDTH, pick, plan_into};
+
+#[cfg(test)]
+mod tests;
