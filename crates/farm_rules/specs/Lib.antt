@@ -1,0 +1,4 @@
+pub mod Due
+pub mod Reruns
+pub mod Orders
+pub mod Day
