@@ -1,0 +1,30 @@
+ghost use Rattle.std.specs.Prelude.{◌≡◌, ◌≤◌, ◌≤ℤ◌};
+ghost use Rattle.farm_rules.specs.Day.{day_at};
+ghost use Rattle.farm_types.specs.Moment.{moment_ms};
+
+use farm_types::Moment;
+
+/// The smallest time zone: local time is 12 hours behind UTC.
+pub const ZONE_MIN_MINUTES: i32 = -720;
+
+/// The greatest time zone: local time is 14 hours ahead of UTC.
+pub const ZONE_MAX_MINUTES: i32 = 840;
+
+/// The last day that a moment can fall on, 2100-01-01, in days since 1970-01-01.
+pub const LAST_DAY: u32 = 47_482;
+
+const MS_PER_MINUTE: i64 = 60_000;
+
+const MS_PER_DAY: i64 = 86_400_000;
+
+/// The day of a moment by the local clock, in whole days since 1970-01-01, where local time is `zone_minutes` minutes
+/// ahead of UTC.
+pub fn day_of(moment: Moment, zone_minutes: i32) -> u32
+    requires zone_low { ZONE_MIN_MINUTES ≤ℤ zone_minutes }
+    requires zone_high { zone_minutes ≤ℤ ZONE_MAX_MINUTES }
+    ensures day { result ≡ day_at (moment_ms moment) zone_minutes }
+    ensures in_range { result ≤ LAST_DAY }
+{
+    let local_ms = moment.ms() as i64 + zone_minutes as i64 * MS_PER_MINUTE;
+    local_ms.div_euclid(MS_PER_DAY) as u32
+}

@@ -1,0 +1,159 @@
+ghost use Rattle.std.specs.Prelude.{◌≡◌, ◌≤◌, ◌<◌, ◌+◌, ◌^◌, ◌↔◌, length, map, false, None, Some, [], ◌∷◌, ◌++◌, IfSome, IfNone, IfOk, IfErr, OnOk, IsSome};
+ghost use Rattle.std.specs.Option.{option_map};
+ghost use Rattle.farm_rules.specs.Orders.{candidates, earliest, has_order, next_order, orders_of};
+ghost use Rattle.farm_types.specs.CommitId.{id_bytes};
+ghost use Rattle.revert_orders.specs.Request.{as_next, confirmed_of, earlier_of, named_day, searches_of};
+
+use crate::{Candidate, Draft, NoOrder};
+use farm_types::{CommitId, Memory};
+use indexmap::IndexMap;
+use std::alloc::Global;
+use std::marker::Model;
+
+/// An order that stood until it was taken back: its number, counted from 1, its commit, and its day, in days since
+/// 1970-01-01.
+#[derive(Clone, Copy, Debug, PartialEq, Eq)]
+pub struct RevertOrder {
+    pub order: u32,
+    pub commit: CommitId,
+    pub day: u32,
+}
+
+/// The revert orders that stand, numbered from 1 in the order in which they were given. No commit has two, and there
+/// are fewer than 2^32.
+#[derive(Debug, Drop)]
+pub struct Orders {
+    days: IndexMap<CommitId, u32>,
+}
+
+impl Model for Orders {
+    ghost use Rattle.std.specs.Prelude.{◌<◌, ◌^◌, length};
+    ghost use Rattle.indexmap.specs.IndexMap.{spare};
+    ghost use Rattle.revert_orders.specs.Book.{Book, orders_in};
+
+    ghost Value = { Book };
+
+    ghost view = { λ orders. record { orders = orders_in orders.days.entries; room = spare orders.days } };
+
+    ghost invariant = { λ orders. length orders.days.entries < 2 ^ 32 };
+}
+
+impl Orders {
+    ghost use Rattle.revert_orders.specs.Book.{IsOnePerCommit, ordered};
+
+    /// No orders, which takes no memory.
+    pub fn start(alloc: Global) -> Orders
+        ensures { result.orders ≡ [] }
+    {
+        Orders {
+            days: IndexMap::new(alloc),
+        }
+    }
+
+    /// How many orders stand.
+    pub fn len(&self) -> u32
+        ensures len { result ≡ length self.now.orders }
+        ensures one_per_commit { IsOnePerCommit self.now.orders }
+    {
+        self.days.len() as u32
+    }
+
+    /// Whether a commit has an order.
+    pub fn has_order(&self, commit: CommitId) -> bool
+        ensures { result ≡ has_order self.now.orders (id_bytes commit) }
+    {
+        self.days.contains_key(&commit)
+    }
+
+    /// The next order: of the candidates whose commit has no order it is for the one with the smallest search number,
+    /// on a tie for the first of them. The candidates may stand in any order. `limit` is how many orders a day may have.
+    /// Nothing is added, and no memory is taken.
+    pub fn next(&self, confirmed: &[Candidate], day: u32, limit: u32) -> Result<Draft, NoOrder>
+        requires { length self.now.orders + 1 < 2 ^ 32 }
+        ensures next { as_next result ≡ next_order (searches_of confirmed.now) self.now.orders day limit }
+        ensures number { IfOk result (λ draft. draft.order ≡ length self.now.orders + 1) }
+        ensures dated { named_day result day ≡ day }
+        ensures free { IfOk result (λ draft. has_order self.now.orders (id_bytes draft.commit) ≡ false) }
+    {
+        let Some(chosen) = self.earliest(confirmed) else {
+            return Err(NoOrder::NoRevert);
+        };
+        let count = self.count(day);
+        if count >= limit {
+            return Err(NoOrder::DailyLimit { day, count });
+        }
+        Ok(Draft {
+            order: self.len() + 1,
+            commit: chosen.commit,
+            search: chosen.search,
+            day,
+        })
+    }
+
+    /// Makes room for one more order, and for one in its place should it be taken back. Without memory nothing changes.
+    pub fn reserve(&mut self) -> Result<(), Memory>
+        ensures orders { self.new.orders ≡ self.old.orders }
+        ensures ok { OnOk result (2 ≤ self.new.room) }
+        ensures room { self.old.room ≤ self.new.room }
+    {
+        self.days.reserve(2)?;
+        Ok(())
+    }
+
+    /// Adds an order, which takes no memory.
+    pub fn add(&mut self, draft: Draft)
+        requires room { 1 ≤ self.old.room }
+        requires number { draft.order ≡ length self.old.orders + 1 }
+        requires free { has_order self.old.orders (id_bytes draft.commit) ≡ false }
+        ensures added { self.new.orders ≡ self.old.orders ++ ordered draft.commit draft.day ∷ [] }
+        ensures room { self.old.room ≤ self.new.room + 1 }
+    {
+        let Ok(_) = self.days.insert(draft.commit, draft.day) else {
+            unreachable!();
+        };
+    }
+
+    /// Takes the last order back, where one stands.
+    pub fn take_last(&mut self) -> Option<RevertOrder>
+        ensures taken { IfSome result (λ last. self.old.orders ≡ self.new.orders ++ ordered last.commit last.day ∷ []) }
+        ensures number { IfSome result (λ last. last.order ≡ length self.old.orders) }
+        ensures found { IsSome result ↔ (0 < length self.old.orders) }
+        ensures none { IfNone result (self.new.orders ≡ self.old.orders) }
+        ensures room { self.old.room ≤ self.new.room }
+    {
+        let order = self.len();
+        let (commit, day) = self.days.pop()?;
+        Some(RevertOrder { order, commit, day })
+    }
+
+    /// Of the candidates whose commit has no order, the one with the smallest search number, the first on a tie.
+    fn earliest(&self, confirmed: &[Candidate]) -> Option<Candidate>
+        ensures { option_map confirmed_of result ≡ earliest (candidates (searches_of confirmed.now) self.now.orders) }
+    {
+        let mut best: Option<Candidate> = None;
+        for candidate in confirmed {
+            if !self.has_order(candidate.commit) {
+                best = Some(earlier(best, *candidate));
+            }
+        }
+        best
+    }
+
+    /// How many orders of a day stand.
+    fn count(&self, day: u32) -> u32
+        ensures { result ≡ orders_of day self.now.orders }
+    {
+        let of_day = self.days.values().filter(|other| **other == day);
+        of_day.count() as u32
+    }
+}
+
+/// The best so far, or this later candidate where its search number is smaller.
+fn earlier(best: Option<Candidate>, candidate: Candidate) -> Candidate
+    ensures { Some (confirmed_of result) ≡ earlier_of (option_map confirmed_of best) (Some (confirmed_of candidate)) }
+{
+    match best {
+        Some(found) if found.search <= candidate.search => found,
+        _ => candidate,
+    }
+}
