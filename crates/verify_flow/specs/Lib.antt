@@ -1,0 +1,3 @@
+pub mod Verification
+pub mod StandsFor
+pub mod Answer
