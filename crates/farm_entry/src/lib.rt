@@ -1,0 +1,39 @@
+//! What a farm of searches is told, records and answers: its settings, the entries of its history, the commands that
+//! it takes, and the replies and refusals that it gives.
+//!
+//! The crate stands on `farm_types`, `flake_rate`, `suspect_range` and `weight_exact` for the values that these hold,
+//! and on `thiserror` for the texts of its refusals. The types are plain: their fields are public, and what is legal
+//! is said of whole histories. The layers above may use every name below. Contracts see lists and the opening of a
+//! search as what they hold, see settings through `settings_lease_ms`, `settings_daily` and `settings_zone_minutes` of
+//! `specs/`, and say by `settings_fault` why numbers are no settings.
+#![tactic(auto)]
+
+mod command;
+mod entry;
+pub mod laws;
+mod limits;
+mod opening;
+mod order_page;
+mod refusal;
+mod reply;
+mod settings;
+mod shares;
+mod standing;
+mod suspects;
+#[cfg(test)]
+mod tests;
+
+pub use command::{Command, OpenAsk};
+pub use entry::{Entry, Fate, What};
+pub use limits::{MAX_ENTRIES, MAX_RERUNS, MAX_SEARCHES, MAX_WIDTH};
+pub use opening::{BoxedOpening, Opening};
+pub use order_page::{OrderLine, OrderPage};
+pub use refusal::{OpenFault, Refusal};
+pub use reply::{Reply, SearchPage, Totals};
+pub use settings::{
+    LEASE_MAX_MS, LEASE_MIN_MS, MAX_DAILY, Settings, SettingsFault, ZONE_MAX_MINUTES,
+    ZONE_MIN_MINUTES,
+};
+pub use shares::Shares;
+pub use standing::Standing;
+pub use suspects::Suspects;

@@ -1,0 +1,114 @@
+use crate::{Fate, OrderPage, Shares, Standing};
+use farm_types::{CommitId, Name, Stage};
+use weight_exact::Verdict;
+
+/// What a farm answers to a command that it doesn't refuse. A standing is the one right after the entry that answers
+/// the command was recorded.
+#[derive(Debug, PartialEq, Eq, Drop)]
+pub enum Reply {
+    /// A search was opened.
+    Opened {
+        /// The number of the search, from 1.
+        search: u32,
+        /// How many runs its exact arithmetic has room for.
+        budget: u32,
+        /// Where the search stands.
+        standing: Standing,
+    },
+    /// A run was handed out.
+    Leased {
+        /// The number of the run, from 1.
+        run: u32,
+        /// The search that the run is for.
+        search: u32,
+        /// What the run is for.
+        stage: Stage,
+        /// The position to be tested: the base with suspects 1 to this one applied.
+        position: u16,
+        /// The commit at the position.
+        commit: CommitId,
+        /// The test to be run.
+        test: Name,
+        /// From when on the run is given to another worker, in milliseconds since 1970-01-01 in UTC.
+        deadline: u64,
+    },
+    /// The verdict of a run was taken.
+    Reported {
+        /// The number of the run.
+        run: u32,
+        /// The search that the run was for.
+        search: u32,
+        /// The verdict that was recorded, which is that of the first report.
+        verdict: Verdict,
+        /// What the report did to the search.
+        fate: Fate,
+        /// Where the search stands.
+        standing: Standing,
+    },
+    /// A search was cancelled.
+    Cancelled {
+        /// The number of the search.
+        search: u32,
+    },
+    /// An order was handed out.
+    Ordered {
+        /// The number of the order, from 1.
+        order: u32,
+        /// The commit to be reverted.
+        commit: CommitId,
+        /// The search that confirmed it.
+        search: u32,
+        /// The day of the order in the farm's time zone, in days since 1970-01-01.
+        day: u32,
+    },
+    /// A search is shown.
+    Search(SearchPage),
+    /// The totals of the farm are shown.
+    Farm(Totals),
+    /// All orders are shown.
+    Orders(OrderPage),
+}
+
+/// What is shown of a search.
+#[derive(Debug, PartialEq, Eq, Drop)]
+pub struct SearchPage {
+    /// The number of the search, from 1.
+    pub search: u32,
+    /// The test that is searched.
+    pub test: Name,
+    /// How many runs its exact arithmetic has room for.
+    pub budget: u32,
+    /// How many of its runs were handed out, at both stages.
+    pub leases: u32,
+    /// How many runs count in the belief.
+    pub counted: u32,
+    /// How many reruns count in the verification.
+    pub verified: u32,
+    /// Where the search stands.
+    pub standing: Standing,
+    /// The commit of the suspect that the standing names, if it names one.
+    pub commit: Option<CommitId>,
+    /// How the belief is shared out.
+    pub shares: Shares,
+}
+
+/// What is counted of a farm.
+#[derive(Clone, Copy, Debug, PartialEq, Eq, Hash)]
+pub struct Totals {
+    /// The entries of the history.
+    pub entries: u64,
+    /// The searches, which are those of the next four counts together.
+    pub searches: u64,
+    /// The searches that are still searching.
+    pub searching: u64,
+    /// The searches that are being verified.
+    pub verifying: u64,
+    /// The searches whose culprit is confirmed.
+    pub confirmed: u64,
+    /// The searches that ended in another way.
+    pub ended: u64,
+    /// The reports that were counted, at both stages.
+    pub counted: u64,
+    /// The orders.
+    pub orders: u64,
+}
