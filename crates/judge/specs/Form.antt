@@ -29,7 +29,7 @@ miss_of _ = None
 abbrev pub miss_line : List ℕ → Option (ℕ × ℕ)
 miss_line line = option_and_then miss_of (keyword_numbers (codes "miss") line)
 
--- `search A B T U CALM W1 .. Wn`: the flake rate a/b, the bar t/u, and the prior weights
+-- `search A B T U CALM WEIGHT ..`: the flake rate a/b, the bar t/u, and the prior weights
 abbrev pub is_rate : ℕ → ℕ → Bool
 is_rate a b = nat_le 1 a && nat_lt a b && nat_le b 1000
 

@@ -19,7 +19,7 @@ use std::alloc::Global;
 /// Answers one search: what becomes of each of its runs, the shares of its hypotheses and where it
 /// stands.
 ///
-/// The input is `search A B T U CALM W1 .. Wn` (the flake rate A/B, the bar T/U, the prior weight of
+/// The input is `search A B T U CALM WEIGHT ..` (the flake rate A/B, the bar T/U, the prior weight of
 /// "no culprit" and those of the suspects), where a line `miss C D` (the miss rate C/D) may stand
 /// before it, and then a line `run R K pass` or `run R K fail` for each run.
 ///

@@ -37,7 +37,7 @@ pub struct Terms {
 impl Search {
     ghost use Rattle.judge.specs.Setup.{setup_of};
 
-    /// The search of a line `search A B T U CALM W1 .. Wn`, with this miss rate.
+    /// The search of a line `search A B T U CALM WEIGHT ..`, with this miss rate.
     ///
     /// `None` where the line is outside the form: also where a number is outside its limits, and
     /// where the miss rate does not fit the flake rate.
