@@ -4,7 +4,7 @@ ghost use Rattle.threshold_pick.specs.Sums.{suspects_in, whole, RiseAbove};
 
 use crate::laws::steps_are_few;
 use crate::{MAX_WIDTH, pick, plan_into};
-use std::alloc::Global;
+use std::alloc::{AllocError, Global};
 use std::marker::Brand;
 use std::process::Abort;
 use std::sync::ledger::{Blank, Ledger};
@@ -125,15 +125,52 @@ fn plans_are_those_worked_out_by_hand(rt: HostRuntime) -> Result<(), Fail> {
     Ok(())
 }
 
+/// Sums over bands of suspects, each up to a position and with one weight for each suspect, and then "no culprit".
+fn banded(alloc: Global, bands: &[(u16, u32)], calm: u32) -> Result<Vec<u32>, AllocError> {
+    let mut numbers = Vec::new(alloc);
+    let mut sum: u32 = 0;
+    for (last, weight) in bands {
+        for _ in numbers.len()..usize::from(*last) {
+            sum = sum.saturating_add(*weight);
+            numbers.push(sum)?;
+        }
+    }
+    numbers.push(sum.saturating_add(calm))?;
+    Ok(numbers)
+}
+
 #[test]
-fn a_search_of_120_suspects_begins_at_its_quantiles(rt: HostRuntime) -> Result<(), Fail> {
-    // Each suspect has weight 1, and "no culprit" has 60.
-    let mut numbers: Vec<u32> = (1..=120).collect(rt.alloc())?;
-    numbers.push(180)?;
-    let sums = sums_of(rt.alloc(), &numbers)?;
-    let mut positions = [0; 4];
-    plan::<Brand>(&rt, &sums, 0, &mut positions, Blank::new(1));
-    assert_eq!(rt; positions, [36, 72, 108, 120]);
+fn a_search_of_120_suspects_closes_in_on_its_culprit(rt: HostRuntime) -> Result<(), Fail> {
+    // Each suspect has weight 1, and "no culprit" has 60. Each run with suspect 87 in fails, at a flake rate of 1/100,
+    // and each other passes. In rounds of three runs, at the first three of four positions: the weights after the runs
+    // so far, the floor, and the plan.
+    let rounds: [(&[(u16, u32)], u16, [u16; 4]); 5] = [
+        (&[(120, 1)], 0, [36, 72, 108, 120]),
+        (&[(72, 0), (108, 100), (120, 1)], 72, [79, 87, 94, 101]),
+        (
+            &[(79, 0), (87, 1_000_000), (94, 10_000), (108, 100), (120, 1)],
+            79,
+            [81, 82, 84, 85],
+        ),
+        (
+            &[(84, 0), (87, 1_000_000), (94, 10_000), (108, 100), (120, 1)],
+            84,
+            [85, 85, 86, 86],
+        ),
+        (
+            &[(86, 0), (87, 1_000_000), (94, 10_000), (108, 100), (120, 1)],
+            86,
+            [87, 87, 87, 87],
+        ),
+    ];
+    for (bands, floor, expected) in rounds {
+        let numbers = banded(rt.alloc(), bands, 60)?;
+        assert!(rt; 0 < numbers.len());
+        let sums = sums_of(rt.alloc(), &numbers)?;
+        let mut positions = [0; 4];
+        plan::<Brand>(&rt, &sums, floor, &mut positions, Blank::new(1));
+        assert_eq!(rt; positions, expected, "above {floor}");
+    }
     Ok(())
 }
 
