@@ -1,39 +1,72 @@
-ghost use Rattle.std.specs.Prelude.{◌≡◌, ◌≤◌, ◌<◌, ◌+◌, ◌^◌, length, false};
+ghost use Rattle.std.specs.Prelude.{◌≡◌, ◌≤◌, ◌+◌, length, false};
 ghost use Rattle.farm_rules.specs.Orders.{has_order};
 ghost use Rattle.farm_types.specs.CommitId.{id_bytes};
 
-use crate::{Candidate, Draft, NoOrder, Orders, RevertOrder, date_text, day_of};
+use crate::{
+    Candidate, Draft, LAST_DAY, NoOrder, Orders, RevertOrder, ZONE_MAX_MINUTES, ZONE_MIN_MINUTES,
+    date_text, day_of,
+};
 use farm_types::{CommitId, Memory, Moment};
+use std::alloc::Global;
 use std::test::Fail;
 
 // The id that ends in this number.
-fn id(number: u16) -> CommitId {
-    let [high, low] = number.to_be_bytes();
+fn id(number: u8) -> CommitId {
     let mut bytes = [0; 20];
-    bytes[18] = high;
-    bytes[19] = low;
+    bytes[19] = number;
     CommitId::of(bytes)
 }
 
 // A search with this number, and its culprit.
-fn found(search: u32, commit: u16) -> Candidate {
+fn found(search: u32, commit: u8) -> Candidate {
     Candidate {
         search,
         commit: id(commit),
     }
 }
 
-// Asks for the next order and adds it where one is given.
+// An order for the culprit of a search, on day 20.
+fn draft(order: u32, search: u32, commit: u8) -> Draft {
+    Draft {
+        order,
+        commit: id(commit),
+        search,
+        day: 20,
+    }
+}
+
+// What an order is when it is taken back.
+fn taken(draft: Draft) -> Option<RevertOrder> {
+    Some(RevertOrder {
+        order: draft.order,
+        commit: draft.commit,
+        day: draft.day,
+    })
+}
+
+fn full(day: u32, count: u32) -> Result<Draft, NoOrder> {
+    Err(NoOrder::DailyLimit { day, count })
+}
+
+// The next order, of orders that are few.
+fn ask(orders: &Orders, confirmed: &[Candidate], day: u32, limit: u32) -> Result<Draft, NoOrder> {
+    if orders.len() == u32::MAX {
+        return Err(NoOrder::NoRevert);
+    }
+    orders.next(confirmed, day, limit)
+}
+
+// Asks for the next order, of orders that are few, and adds it where one is given.
 fn give(
     orders: &mut Orders,
     confirmed: &[Candidate],
     day: u32,
     limit: u32,
 ) -> Result<Result<Draft, NoOrder>, Memory> {
-    if orders.len() >= u32::MAX {
-        return Err(Memory);
-    }
     orders.reserve()?;
+    if orders.len() == u32::MAX {
+        return Ok(Err(NoOrder::NoRevert));
+    }
     let next = orders.next(confirmed, day, limit);
     if let Ok(draft) = next {
         orders.add(draft);
@@ -42,7 +75,7 @@ fn give(
 }
 
 // What add does, take_last undoes.
-fn added_and_taken(orders: &mut Orders, draft: Draft) -> Option<RevertOrder>
+fn add_and_take(orders: &mut Orders, draft: Draft) -> Option<RevertOrder>
     requires room { 1 ≤ orders.old.room }
     requires number { draft.order ≡ length orders.old.orders + 1 }
     requires free { has_order orders.old.orders (id_bytes draft.commit) ≡ false }
@@ -50,6 +83,22 @@ fn added_and_taken(orders: &mut Orders, draft: Draft) -> Option<RevertOrder>
 {
     orders.add(draft);
     orders.take_last()
+}
+
+// The date of a day that has one.
+fn date_of(alloc: Global, day: u32) -> Result<String, Memory> {
+    if day > LAST_DAY {
+        return Err(Memory);
+    }
+    date_text(alloc, day)
+}
+
+// The day of a moment in a zone that there is.
+fn local_day(ms: u64, zone: i32) -> Option<u32> {
+    if !(ZONE_MIN_MINUTES..=ZONE_MAX_MINUTES).contains(&zone) {
+        return None;
+    }
+    Some(day_of(Moment::of(ms).ok()?, zone))
 }
 
 #[test]
@@ -66,7 +115,7 @@ fn days_have_their_dates(rt: HostRuntime) -> Result<(), Fail> {
         (47_482, "2100-01-01"),
     ];
     for (day, date) in cases {
-        assert_eq!(rt; date_text(rt.alloc(), day)?.as_str(), date);
+        assert_eq!(rt; date_of(rt.alloc(), day)?.as_str(), date);
     }
     Ok(())
 }
@@ -97,7 +146,7 @@ fn a_day_ends_at_local_midnight(rt: HostRuntime) -> Result<(), Fail> {
         (4_102_444_800_000, 840, 47_482),
     ];
     for (ms, zone, day) in cases {
-        assert_eq!(rt; day_of(Moment::of(ms)?, zone), day, "at {ms} and {zone}");
+        assert_eq!(rt; local_day(ms, zone), Some(day), "at {ms} and {zone}");
     }
     Ok(())
 }
@@ -105,25 +154,17 @@ fn a_day_ends_at_local_midnight(rt: HostRuntime) -> Result<(), Fail> {
 #[test]
 fn the_smallest_search_number_is_next(rt: HostRuntime) -> Result<(), Fail> {
     let mut orders = Orders::start(rt.alloc());
+    // Of the two searches with one number the first in the list comes first.
     let confirmed = [found(9, 90), found(4, 40), found(7, 70), found(4, 41)];
-    let mut given = Vec::new(rt.alloc());
-    for _ in 0..4 {
-        given.push(give(&mut orders, &confirmed, 20, 9)??)?;
-    }
-    let draft = |order, search, commit| Draft {
-        order,
-        commit: id(commit),
-        search,
-        day: 20,
-    };
-    // Of two searches with one number the first in the list comes first.
     let want = [
         draft(1, 4, 40),
         draft(2, 4, 41),
         draft(3, 7, 70),
         draft(4, 9, 90),
     ];
-    assert_eq!(rt; given.as_slice(), want.as_slice());
+    for next in want {
+        assert_eq!(rt; give(&mut orders, &confirmed, 20, 9)?, Ok(next));
+    }
     assert_eq!(rt; orders.len(), 4);
     assert_eq!(rt;
         give(&mut orders, &confirmed, 20, 9)?,
@@ -135,54 +176,65 @@ fn the_smallest_search_number_is_next(rt: HostRuntime) -> Result<(), Fail> {
 #[test]
 fn a_commit_with_an_order_is_passed_over(rt: HostRuntime) -> Result<(), Fail> {
     let mut orders = Orders::start(rt.alloc());
-    assert!(rt; give(&mut orders, &[found(1, 10)], 5, 9)?.is_ok());
+    assert_eq!(rt;
+        give(&mut orders, &[found(1, 10)], 20, 9)?,
+        Ok(draft(1, 1, 10))
+    );
     assert!(rt; orders.has_order(id(10)));
     assert!(rt; !orders.has_order(id(11)));
     // Another search that found the same commit is passed over too.
-    let next = orders_next(&orders, &[found(0, 10), found(8, 11)], 5, 9);
-    let want = Draft {
-        order: 2,
-        commit: id(11),
-        search: 8,
-        day: 5,
-    };
-    assert_eq!(rt; next, Ok(want));
+    let confirmed = [found(0, 10), found(8, 11)];
+    assert_eq!(rt; ask(&orders, &confirmed, 20, 9), Ok(draft(2, 8, 11)));
     Ok(())
 }
 
-// The next order, of orders that are few.
-fn orders_next(
-    orders: &Orders,
-    confirmed: &[Candidate],
-    day: u32,
-    limit: u32,
-) -> Result<Draft, NoOrder> {
-    if orders.len() >= u32::MAX {
-        return Err(NoOrder::NoRevert);
-    }
-    orders.next(confirmed, day, limit)
+#[test]
+fn no_revert_comes_before_the_limit(rt: HostRuntime) -> Result<(), Fail> {
+    let mut orders = Orders::start(rt.alloc());
+    assert_eq!(rt; ask(&orders, &[], 20, 0), Err(NoOrder::NoRevert));
+    assert_eq!(rt; ask(&orders, &[found(1, 10)], 20, 0), full(20, 0));
+    assert_eq!(rt;
+        give(&mut orders, &[found(1, 10)], 20, 1)?,
+        Ok(draft(1, 1, 10))
+    );
+    assert_eq!(rt;
+        ask(&orders, &[found(1, 10)], 20, 1),
+        Err(NoOrder::NoRevert)
+    );
+    assert_eq!(rt; ask(&orders, &[found(2, 20)], 20, 1), full(20, 1));
+    Ok(())
 }
 
 #[test]
-fn refusals_come_in_order(rt: HostRuntime) -> Result<(), Fail> {
+fn each_day_has_a_limit_of_its_own(rt: HostRuntime) -> Result<(), Fail> {
     let mut orders = Orders::start(rt.alloc());
-    let full = |day, count| Err(NoOrder::DailyLimit { day, count });
-    // No candidate, and a limit that is reached.
-    assert_eq!(rt; orders_next(&orders, &[], 5, 0), Err(NoOrder::NoRevert));
-    assert_eq!(rt; orders_next(&orders, &[found(1, 10)], 5, 0), full(5, 0));
-    assert!(rt; give(&mut orders, &[found(1, 10)], 5, 2)?.is_ok());
-    assert!(rt; give(&mut orders, &[found(2, 20)], 5, 2)?.is_ok());
-    assert_eq!(rt; orders_next(&orders, &[found(3, 30)], 5, 2), full(5, 2));
-    assert_eq!(rt; orders_next(&orders, &[found(3, 30)], 5, 1), full(5, 2));
-    assert_eq!(rt;
-        orders_next(&orders, &[found(2, 20)], 5, 2),
-        Err(NoOrder::NoRevert)
-    );
-    // The next day has a count of its own, and the day before too.
-    assert!(rt; orders_next(&orders, &[found(3, 30)], 6, 1).is_ok());
-    assert!(rt; give(&mut orders, &[found(3, 30)], 4, 1)?.is_ok());
-    assert_eq!(rt; orders_next(&orders, &[found(4, 40)], 4, 1), full(4, 1));
-    assert!(rt; orders_next(&orders, &[found(4, 40)], 5, 3).is_ok());
+    let confirmed = [found(1, 10), found(2, 20), found(3, 30)];
+    for _ in 0..2 {
+        assert!(rt; give(&mut orders, &confirmed, 20, 2)?.is_ok());
+    }
+    // The day, the limit, and whether an order is given or else how many stand.
+    let cases = [
+        (20, 2, Some(2)),
+        (20, 1, Some(2)),
+        (20, 3, None),
+        (21, 1, None),
+        (19, 1, None),
+        (19, 0, Some(0)),
+    ];
+    for (day, limit, standing) in cases {
+        let want = match standing {
+            Some(count) => full(day, count),
+            None => Ok(Draft {
+                day,
+                ..draft(3, 3, 30)
+            }),
+        };
+        assert_eq!(rt;
+            ask(&orders, &confirmed, day, limit),
+            want,
+            "on {day} at {limit}"
+        );
+    }
     Ok(())
 }
 
@@ -191,23 +243,31 @@ fn an_order_can_be_taken_back(rt: HostRuntime) -> Result<(), Fail> {
     let mut orders = Orders::start(rt.alloc());
     assert_eq!(rt; orders.take_last(), None);
     let confirmed = [found(1, 10), found(2, 20)];
-    let first = give(&mut orders, &confirmed, 5, 9)??;
-    let second = give(&mut orders, &confirmed, 6, 9)??;
-    let taken = |draft: Draft| {
-        Some(RevertOrder {
-            order: draft.order,
-            commit: draft.commit,
-            day: draft.day,
-        })
-    };
+    let (first, second) = (draft(1, 1, 10), draft(2, 2, 20));
+    assert_eq!(rt; give(&mut orders, &confirmed, 20, 9)?, Ok(first));
+    assert_eq!(rt; give(&mut orders, &confirmed, 20, 9)?, Ok(second));
     assert_eq!(rt; orders.take_last(), taken(second));
     assert_eq!(rt; orders.len(), 1);
-    assert!(rt; !orders.has_order(second.commit));
-    assert_eq!(rt; give(&mut orders, &confirmed, 6, 9)?, Ok(second));
+    assert_eq!(rt; give(&mut orders, &confirmed, 20, 9)?, Ok(second));
     assert_eq!(rt; orders.take_last(), taken(second));
     assert_eq!(rt; orders.take_last(), taken(first));
     assert_eq!(rt; orders.take_last(), None);
-    assert_eq!(rt; give(&mut orders, &confirmed, 5, 9)?, Ok(first));
+    assert_eq!(rt; give(&mut orders, &confirmed, 20, 9)?, Ok(first));
+    Ok(())
+}
+
+#[test]
+fn an_added_order_is_taken_back_whole(rt: HostRuntime) -> Result<(), Fail> {
+    let mut orders = Orders::start(rt.alloc());
+    orders.reserve()?;
+    let only = Draft {
+        order: 1,
+        commit: id(10),
+        search: 1,
+        day: 20,
+    };
+    assert_eq!(rt; add_and_take(&mut orders, only), taken(only));
+    assert_eq!(rt; orders.len(), 0);
     Ok(())
 }
 

@@ -1,5 +1,5 @@
 -- What is left of a plan, entry by entry.
-use Rattle.std.proofs.Common.{◌≡◌, ℕ, ◌+◌, ◌==◌, ◌<◌, ◌≤◌, List, [], ◌∷◌, ◌++◌, length, take, drop, get_or, true, false, cond, Some, refl, sym, ◌∙◌, ap, arith, add-one, add-zero, eq-eqb, ne_eqb, ⊎_elim}
+use Rattle.std.proofs.Common.{◌≡◌, ℕ, ◌+◌, ◌==◌, ◌<◌, ◌≤◌, List, [], ◌∷◌, ◌++◌, length, take, drop, get_or, true, false, cond, Some, refl, sym, ◌∙◌, ap, arith, add-one, eq-eqb, ne_eqb, ⊎_elim}
 use Rattle.std.proofs.lemmas.Bool.{cases_eq}
 use Rattle.std.proofs.lemmas.List.Sums.{sum_by-cons, sum_by-append}
 use Rattle.std.proofs.Math.Seq.{take-suc, drop-cons}
@@ -90,9 +90,6 @@ struck-snoc plan (p ∷ outstanding) position = struck-snoc (strike p plan) outs
 pub record AreStruck (plan outstanding : List ℕ) (place : ℕ) : Type 0 where
   pub rest : struck plan outstanding ≡ struck (drop place plan) (struck outstanding (take place plan))
   pub counts : (p : ℕ) → times_at p (struck outstanding (take place plan)) + times_at p (take place plan) ≡ times_at p outstanding
-
-pub AreStruck-zero : (plan outstanding : List ℕ) → AreStruck plan outstanding 0
-AreStruck-zero plan outstanding = record { rest = refl; counts = λ p. add-zero (times_at p outstanding) }
 
 -- an entry that stands fewer times before its place than runs are outstanding there is struck too
 pub AreStruck-more : (plan outstanding : List ℕ) (place : ℕ) → place < length plan → AreStruck plan outstanding place →

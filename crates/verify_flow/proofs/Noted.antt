@@ -215,10 +215,6 @@ outcome-none_noted culprit asked some =
     let few : nat_le asked 0 ≡ false = lt-leb asked 0 some in
     rw few refl
 
--- with none asked for, it is confirmed at once
-pub outcome-none_asked : (culprit : ℕ) → outcome culprit 0 [] ≡ confirmed
-outcome-none_asked culprit = refl
-
 -- the same, of the reruns in time
 pub answered_as_ruled : (culprit asked : ℕ) (noted : List Run) (ending : Ruling) → (ending ≡ verifying → ⊥) → 1 ≤ asked →
     (Contains (answers culprit asked [] noted) (said ending))

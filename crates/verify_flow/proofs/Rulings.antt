@@ -8,7 +8,7 @@ use Rattle.weight_exact.specs.Load.{is_fail}
 use Rattle.weight_exact.specs.declared.run.Run.{Run}
 use Rattle.weight_exact.specs.declared.run.Verdict.{Verdict}
 use Rattle.weight_exact.specs.declared.run.Verdict.TheVariants.{Pass, Fail}
-use Rattle.verify_flow.specs.declared.outcome.Outcome.TheVariants.{Open, Confirmed, Vindicated, Late}
+use Rattle.verify_flow.specs.declared.outcome.Outcome.TheVariants.{Open, Confirmed, Late}
 use Rattle.verify_flow.specs.Answer.{said}
 use Rattle.verify_flow.specs.Verification.{Verification}
 use Rattle.verify_flow.specs.StandsFor.{StandsFor, counted_at}
@@ -129,10 +129,6 @@ reruns_at-kept v reruns position stands side =
     side
 
 -- what a verification says, by its numbers
-pub said-vindicated : (v : Verification) (reruns : List Run) → StandsFor v reruns → v.against ≡ true →
-    Vindicated ≡ said (outcome v.culprit v.asked reruns)
-said-vindicated v reruns stands against = rw (outcome-kept v reruns stands, against) refl
-
 pub said-confirmed : (v : Verification) (reruns : List Run) → StandsFor v reruns → v.against ≡ false →
     v.asked ≤ v.at_culprit → v.asked ≤ v.at_parent → Confirmed ≡ said (outcome v.culprit v.asked reruns)
 said-confirmed v reruns stands for culprit_has parent_has =
@@ -159,23 +155,13 @@ is_verifying-said_open verifying e = refl
 is_verifying-said_open confirmed e = cc
 is_verifying-said_open vindicating e = cc
 
-is_verifying-said_end : (ruling : Ruling) → (said ruling ≡ Open → ⊥) → is_verifying ruling ≡ false
-is_verifying-said_end verifying e = absurd (e refl)
-is_verifying-said_end confirmed e = refl
-is_verifying-said_end vindicating e = refl
-
 -- no ruling is said to be late
 pub said-not_late : (ruling : Ruling) → said ruling ≡ Late → ⊥
 said-not_late verifying e = cc
 said-not_late confirmed e = cc
 said-not_late vindicating e = cc
 
--- after the end no rerun counts
-pub counts-ended : (culprit asked : ℕ) (reruns : List Run) (r : Run) →
-    (said (outcome culprit asked reruns) ≡ Open → ⊥) → counts culprit asked reruns r ≡ false
-counts-ended culprit asked reruns r ended = rw (is_verifying-said_end (outcome culprit asked reruns) ended) refl
-
--- before it, a rerun counts while its side has room
+-- before the end, a rerun counts while its side has room
 pub counts-open : (v : Verification) (reruns : List Run) (r : Run) → StandsFor v reruns →
     (r.position ≡ v.culprit) ⊎ (r.position + 1 ≡ v.culprit) → said (outcome v.culprit v.asked reruns) ≡ Open →
     counts v.culprit v.asked reruns r ≡ nat_lt (counted_at v r.position) v.asked
