@@ -7,9 +7,8 @@ use Rattle.farm_types.specs.Moment.{moment_ms}
 use Rattle.farm_types.specs.contracts.moment.MomentPartialEq.TheImpl as moment_eq
 use Rattle.farm_types.specs.declared.moment.Moment.{Moment}
 use Rattle.farm_types.proofs.SameValues.{moment_ms-injective}
+use Rattle.flake_rate.proofs.Values.{bar-from_numbers, miss-from_numbers, rate-from_numbers}
 use Rattle.flake_rate.specs.Bar.{bar_denominator, bar_numerator}
-use Rattle.flake_rate.specs.Divisor.{gcd}
-use Rattle.flake_rate.specs.Limits.{IsBar, IsMiss, IsRate}
 use Rattle.flake_rate.specs.Miss.{miss_denominator, miss_numerator}
 use Rattle.flake_rate.specs.Rate.{rate_denominator, rate_numerator}
 use Rattle.flake_rate.specs.contracts.bar.BarPartialEq.TheImpl as bar_eq
@@ -34,29 +33,6 @@ settings-from_numbers a b lease daily zone = λ i. record {
   lease_in_range = is_prop→PathP (λ j. IsLeaseTime (lease j)) (λ j. hlevel props) a.lease_in_range b.lease_in_range i;
   daily_in_range = is_prop→PathP (λ j. IsDailyLimit (daily j)) (λ j. hlevel props) a.daily_in_range b.daily_in_range i;
   zone_in_range = is_prop→PathP (λ j. IsZone (zone j)) (λ j. hlevel props) a.zone_in_range b.zone_in_range i;
-}
-
-rate-from_numbers : (a b : Rate) → rate_numerator a ≡ rate_numerator b → rate_denominator a ≡ rate_denominator b → a ≡ b
-rate-from_numbers a b over under = λ i. record {
-  a = over i;
-  b = under i;
-  in_limits = is_prop→PathP (λ j. IsRate (over j) (under j)) (λ j. hlevel props) a.in_limits b.in_limits i;
-  lowest_terms = is_prop→PathP (λ j. gcd (over j) (under j) ≡ 1) (λ j. hlevel props) a.lowest_terms b.lowest_terms i;
-}
-
-miss-from_numbers : (a b : Miss) → miss_numerator a ≡ miss_numerator b → miss_denominator a ≡ miss_denominator b → a ≡ b
-miss-from_numbers a b over under = λ i. record {
-  c = over i;
-  d = under i;
-  in_limits = is_prop→PathP (λ j. IsMiss (over j) (under j)) (λ j. hlevel props) a.in_limits b.in_limits i;
-  lowest_terms = is_prop→PathP (λ j. gcd (over j) (under j) ≡ 1) (λ j. hlevel props) a.lowest_terms b.lowest_terms i;
-}
-
-bar-from_numbers : (a b : Bar) → bar_numerator a ≡ bar_numerator b → bar_denominator a ≡ bar_denominator b → a ≡ b
-bar-from_numbers a b over under = λ i. record {
-  t = over i;
-  u = under i;
-  in_limits = is_prop→PathP (λ j. IsBar (over j) (under j)) (λ j. hlevel props) a.in_limits b.in_limits i;
 }
 
 -- by the tests

@@ -1,5 +1,5 @@
-use Rattle.std.proofs.Common.{◌≡◌, ℕ, zero, suc, ◌*◌, ◌/◌, ◌%◌, ◌<◌, refl, sym, subst, arith}
-use Rattle.std.proofs.Math.Nat.{one-dvd, dvd-mul_right, mul-dvd-mul_left, dvd_of_mul-dvd-mul_left, mul-div_cancel', pos_of_dvd_of_pos, lt_of_mul-lt-mul_left, zero-mul}
+use Rattle.std.proofs.Common.{◌≡◌, ℕ, zero, suc, ◌*◌, ◌/◌, ◌%◌, ◌<◌, ◌≤◌, refl, sym, subst, arith}
+use Rattle.std.proofs.Math.Nat.{one-dvd, dvd-mul_right, mul-dvd-mul_left, dvd_of_mul-dvd-mul_left, mul-div_cancel', pos_of_dvd_of_pos, lt_of_mul-lt-mul_left, zero-mul, div-le_self}
 use Rattle.std.proofs.lemmas.Nat.Gcd.{dvd_antisymm, IsGcd-from_zero, IsGcd-from_mod, IsGcd-swap, same_from_IsGcd}
 use Rattle.std.specs.Int.{◌∣◌, IsGcd}
 use Rattle.flake_rate.specs.Divisor.{euclid, gcd}
@@ -122,3 +122,7 @@ divides_scaled k a b =
 pub gcd-scale : (k a b : ℕ) → gcd (k * a) (k * b) ≡ k * gcd a b
 gcd-scale zero a b = simp zero-mul
 gcd-scale (suc k) a b = dvd_antisymm (scaled_divides (suc k) a b (omega arith)) (divides_scaled (suc k) a b)
+
+-- no quotient is greater than its number
+pub quotient_no_greater : (a b : ℕ) → b / gcd a b ≤ b
+quotient_no_greater a b = div-le_self b (gcd a b)

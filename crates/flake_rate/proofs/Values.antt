@@ -1,4 +1,6 @@
 use Rattle.std.proofs.Common.{◌≡◌, ℕ, ◌<◌, sym, ap, ◌∙◌, arith}
+use Rattle.std.proofs.Props.{props}
+use mathlib.Core.HLevel.{is_prop→PathP}
 use Rattle.flake_rate.proofs.Divisors.{gcd-zero_left}
 use Rattle.flake_rate.specs.Bar.{bar_numerator, bar_denominator}
 use Rattle.flake_rate.specs.Divisor.{gcd}
@@ -39,3 +41,28 @@ told_at_zero c d a b c_is d_is h = rw (c_is, d_is) (omega arith)
 pub zero_miss_fits : (miss : Miss) (rate : Rate) → miss_numerator miss ≡ 0 → FitsRate miss rate
 zero_miss_fits miss rate e =
     told_at_zero miss.c miss.d rate.a rate.b e (miss_denominator-zero miss e) rate.in_limits.1
+
+-- values with the same numbers are equal, since a fact that a value keeps has one proof
+
+pub rate-from_numbers : (a b : Rate) → rate_numerator a ≡ rate_numerator b → rate_denominator a ≡ rate_denominator b → a ≡ b
+rate-from_numbers a b over under = λ i. record {
+  a = over i;
+  b = under i;
+  in_limits = is_prop→PathP (λ j. IsRate (over j) (under j)) (λ j. hlevel props) a.in_limits b.in_limits i;
+  lowest_terms = is_prop→PathP (λ j. gcd (over j) (under j) ≡ 1) (λ j. hlevel props) a.lowest_terms b.lowest_terms i;
+}
+
+pub miss-from_numbers : (a b : Miss) → miss_numerator a ≡ miss_numerator b → miss_denominator a ≡ miss_denominator b → a ≡ b
+miss-from_numbers a b over under = λ i. record {
+  c = over i;
+  d = under i;
+  in_limits = is_prop→PathP (λ j. IsMiss (over j) (under j)) (λ j. hlevel props) a.in_limits b.in_limits i;
+  lowest_terms = is_prop→PathP (λ j. gcd (over j) (under j) ≡ 1) (λ j. hlevel props) a.lowest_terms b.lowest_terms i;
+}
+
+pub bar-from_numbers : (a b : Bar) → bar_numerator a ≡ bar_numerator b → bar_denominator a ≡ bar_denominator b → a ≡ b
+bar-from_numbers a b over under = λ i. record {
+  t = over i;
+  u = under i;
+  in_limits = is_prop→PathP (λ j. IsBar (over j) (under j)) (λ j. hlevel props) a.in_limits b.in_limits i;
+}

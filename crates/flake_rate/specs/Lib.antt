@@ -3,3 +3,4 @@ pub mod Divisor
 pub mod Limits
 pub mod Miss
 pub mod Rate
+pub mod Tests
