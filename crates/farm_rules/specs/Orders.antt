@@ -1,21 +1,22 @@
--- Which search gets the next revert order. A commit is the list of the bytes of its id.
+-- Which search gets the next revert order.
 use Rattle.std.specs.Prelude.{ℕ, ◌==◌, nat_le, nat_lt, Bool, not, List, [], ◌∷◌, count_by, filter, if◌then◌else◌, Option, Some, None}
-use Rattle.std.specs.Str.{bytes_eq}
 use Rattle.std.specs.List.{list_any}
+use Rattle.farm_types.specs.CommitId.{same_id}
+use Rattle.farm_types.specs.declared.commit_id.CommitId.{CommitId}
 
 -- a search whose culprit is confirmed: its number, and the culprit
 pub record Confirmed : Type 0 where
   pub search : ℕ
-  pub commit : List ℕ
+  pub commit : CommitId
 
 -- a revert order that stands: the commit that it reverts, and its day
 pub record Ordered : Type 0 where
-  pub commit : List ℕ
+  pub commit : CommitId
   pub day : ℕ
 
 -- whether a commit has an order
-abbrev pub has_order : List Ordered → List ℕ → Bool
-has_order orders commit = list_any (λ o. bytes_eq o.commit commit) orders
+abbrev pub has_order : List Ordered → CommitId → Bool
+has_order orders commit = list_any (λ o. same_id o.commit commit) orders
 
 -- the confirmed searches whose commit has no order yet
 abbrev pub candidates : List Confirmed → List Ordered → List Confirmed

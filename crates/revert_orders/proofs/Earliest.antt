@@ -39,6 +39,16 @@ module _ (orders : List Ordered) (c : Confirmed) (rest : List Confirmed) where
       → earliest (candidates (c ∷ rest) orders) ≡ Some (earlier c (earliest (candidates rest orders)))
   earliest-counted lacks = rw lacks refl
 
+  -- so the best so far stays the best
+  pub joined-passed : (best : Option Confirmed) → has_order orders c.commit ≡ true
+      → earlier_of best (earliest (candidates (c ∷ rest) orders)) ≡ earlier_of best (earliest (candidates rest orders))
+  joined-passed best has = ap (earlier_of best) (earliest-passed has)
+
+  -- or it joins the best so far
+  pub joined-counted : (best : Option Confirmed) → has_order orders c.commit ≡ false
+      → earlier_of best (earliest (candidates (c ∷ rest) orders)) ≡ earlier_of (earlier_of best (Some c)) (earliest (candidates rest orders))
+  joined-counted best lacks = ap (earlier_of best) (earliest-counted lacks) ∙ earlier_of-assoc best c (earliest (candidates rest orders))
+
 -- the earlier of a search and the best of others lacks an order where they do
 free_of : (orders : List Ordered) (x : Confirmed) (others : Option Confirmed) (c : Confirmed) → has_order orders x.commit ≡ false
     → ((o : Confirmed) → others ≡ Some o → has_order orders o.commit ≡ false) → earlier x others ≡ c → has_order orders c.commit ≡ false

@@ -1,7 +1,6 @@
 -- The book of the revert orders that stand.
 use Rattle.std.specs.Prelude.{ℕ, List, map, AllPairs, ◌≢◌}
 use Rattle.farm_rules.specs.Orders.{Ordered}
-use Rattle.farm_types.specs.CommitId.{id_bytes}
 use Rattle.farm_types.specs.declared.commit_id.CommitId.{CommitId}
 
 -- the orders, the oldest first, and how many more can be added without memory
@@ -11,14 +10,14 @@ pub record Book : Type 0 where
 
 -- the order to revert a commit, that counts on a day
 abbrev pub ordered : CommitId → ℕ → Ordered
-ordered commit day = record { commit = id_bytes commit; day = day }
+ordered commit day = record { commit = commit; day = day }
 
 -- the orders that a list of commits with their days stands for
 abbrev pub orders_in : List (CommitId × ℕ) → List Ordered
 orders_in entries = map (λ entry. ordered entry.0 entry.1) entries
 
 -- the commits that orders revert
-abbrev pub commits_of : List Ordered → List (List ℕ)
+abbrev pub commits_of : List Ordered → List CommitId
 commits_of orders = map (λ order. order.commit) orders
 
 -- no two orders are for one commit

@@ -1,7 +1,6 @@
 -- What a request for the next order is asked with, and what it answers.
 use Rattle.std.specs.Prelude.{ℕ, List, map, Option, Some, None, Result, Ok, Err}
 use Rattle.farm_rules.specs.Orders.{Confirmed, Next, earlier, no_search, day_is_full, order_for}
-use Rattle.farm_types.specs.CommitId.{id_bytes}
 use Rattle.revert_orders.specs.declared.request.Candidate.{Candidate}
 use Rattle.revert_orders.specs.declared.request.Draft.{Draft}
 use Rattle.revert_orders.specs.declared.request.NoOrder.{NoOrder}
@@ -9,7 +8,7 @@ use Rattle.revert_orders.specs.declared.request.NoOrder.TheVariants.{NoRevert, D
 
 -- a candidate as the rules see it
 abbrev pub confirmed_of : Candidate → Confirmed
-confirmed_of candidate = record { search = candidate.search; commit = id_bytes candidate.commit }
+confirmed_of candidate = record { search = candidate.search; commit = candidate.commit }
 
 -- the candidates as the rules see them
 abbrev pub searches_of : List Candidate → List Confirmed
@@ -22,7 +21,7 @@ earlier_of (Some best) later = Some (earlier best later)
 
 -- an answer as the rules see it
 abbrev pub as_next : Result Draft NoOrder → Next
-as_next (Ok draft) = order_for (record { search = draft.search; commit = id_bytes draft.commit })
+as_next (Ok draft) = order_for (record { search = draft.search; commit = draft.commit })
 as_next (Err NoRevert) = no_search
 as_next (Err (DailyLimit day count)) = day_is_full count
 

@@ -1,7 +1,6 @@
 ghost use Rattle.std.specs.Prelude.{◌≡◌, ◌≤◌, ◌<◌, ◌+◌, ◌^◌, ◌↔◌, length, map, false, None, Some, [], ◌∷◌, ◌++◌, IfSome, IfNone, IfOk, IfErr, OnOk, IsSome};
 ghost use Rattle.std.specs.Option.{option_map};
 ghost use Rattle.farm_rules.specs.Orders.{candidates, earliest, has_order, next_order, orders_of};
-ghost use Rattle.farm_types.specs.CommitId.{id_bytes};
 ghost use Rattle.revert_orders.specs.Request.{as_next, confirmed_of, earlier_of, named_day, searches_of};
 
 use crate::{Candidate, Draft, NoOrder};
@@ -60,7 +59,7 @@ impl Orders {
 
     /// Whether a commit has an order.
     pub fn has_order(&self, commit: CommitId) -> bool
-        ensures { result ≡ has_order self.now.orders (id_bytes commit) }
+        ensures { result ≡ has_order self.now.orders commit }
     {
         self.days.contains_key(&commit)
     }
@@ -73,7 +72,7 @@ impl Orders {
         ensures next { as_next result ≡ next_order (searches_of confirmed.now) self.now.orders day limit }
         ensures number { IfOk result (λ draft. draft.order ≡ length self.now.orders + 1) }
         ensures dated { named_day result day ≡ day }
-        ensures free { IfOk result (λ draft. has_order self.now.orders (id_bytes draft.commit) ≡ false) }
+        ensures free { IfOk result (λ draft. has_order self.now.orders draft.commit ≡ false) }
     {
         let Some(chosen) = self.earliest(confirmed) else {
             return Err(NoOrder::NoRevert);
@@ -104,7 +103,7 @@ impl Orders {
     pub fn add(&mut self, draft: Draft)
         requires room { 1 ≤ self.old.room }
         requires number { draft.order ≡ length self.old.orders + 1 }
-        requires free { has_order self.old.orders (id_bytes draft.commit) ≡ false }
+        requires free { has_order self.old.orders draft.commit ≡ false }
         ensures added { self.new.orders ≡ self.old.orders ++ ordered draft.commit draft.day ∷ [] }
         ensures room { self.old.room ≤ self.new.room + 1 }
     {

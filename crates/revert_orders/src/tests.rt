@@ -1,6 +1,5 @@
 ghost use Rattle.std.specs.Prelude.{◌≡◌, ◌≤◌, ◌+◌, length, false};
 ghost use Rattle.farm_rules.specs.Orders.{has_order};
-ghost use Rattle.farm_types.specs.CommitId.{id_bytes};
 
 use crate::{
     Candidate, Draft, LAST_DAY, NoOrder, Orders, RevertOrder, ZONE_MAX_MINUTES, ZONE_MIN_MINUTES,
@@ -78,7 +77,7 @@ fn give(
 fn add_and_take(orders: &mut Orders, draft: Draft) -> Option<RevertOrder>
     requires room { 1 ≤ orders.old.room }
     requires number { draft.order ≡ length orders.old.orders + 1 }
-    requires free { has_order orders.old.orders (id_bytes draft.commit) ≡ false }
+    requires free { has_order orders.old.orders draft.commit ≡ false }
     ensures { orders.new.orders ≡ orders.old.orders }
 {
     orders.add(draft);
