@@ -1,6 +1,7 @@
 -- The limits of a farm's settings, over plain numbers.
 use Rattle.std.specs.Prelude.{ℕ, ◌≤◌, ℤ, ◌≤ℤ◌}
-use Rattle.farm_entry.specs.declared.settings.TheConstants.{LEASE_MIN_MS, LEASE_MAX_MS, MAX_DAILY, ZONE_MIN_MINUTES, ZONE_MAX_MINUTES}
+use Rattle.farm_types.specs.declared.zone.TheConstants.{ZONE_MIN_MINUTES, ZONE_MAX_MINUTES}
+use Rattle.farm_entry.specs.declared.settings.TheConstants.{LEASE_MIN_MS, LEASE_MAX_MS, MAX_DAILY}
 
 -- how long a lease may last, in milliseconds
 abbrev pub IsLeaseTime : ℕ → Type 0

@@ -1,10 +1,11 @@
 -- What a farm was founded with.
 use Rattle.std.specs.Prelude.{ℕ, nat_le, ◌&&◌, ℤ, int_le, Option, Some, None, if◌then◌else◌}
 use Rattle.std.specs.Option.{option_or}
+use Rattle.farm_types.specs.declared.zone.TheConstants.{ZONE_MIN_MINUTES, ZONE_MAX_MINUTES}
 use Rattle.farm_entry.specs.declared.settings.Settings.{Settings}
 use Rattle.farm_entry.specs.declared.settings.SettingsFault.{SettingsFault}
 use Rattle.farm_entry.specs.declared.settings.SettingsFault.TheVariants.{Lease, Daily, Zone}
-use Rattle.farm_entry.specs.declared.settings.TheConstants.{LEASE_MIN_MS, LEASE_MAX_MS, MAX_DAILY, ZONE_MIN_MINUTES, ZONE_MAX_MINUTES}
+use Rattle.farm_entry.specs.declared.settings.TheConstants.{LEASE_MIN_MS, LEASE_MAX_MS, MAX_DAILY}
 
 -- how long a lease lasts, in milliseconds
 abbrev pub settings_lease_ms : Settings → ℕ

@@ -30,10 +30,7 @@ pub use opening::{BoxedOpening, Opening};
 pub use order_page::{OrderLine, OrderPage};
 pub use refusal::{OpenFault, Refusal};
 pub use reply::{Reply, SearchPage, Totals};
-pub use settings::{
-    LEASE_MAX_MS, LEASE_MIN_MS, MAX_DAILY, Settings, SettingsFault, ZONE_MAX_MINUTES,
-    ZONE_MIN_MINUTES,
-};
+pub use settings::{LEASE_MAX_MS, LEASE_MIN_MS, MAX_DAILY, Settings, SettingsFault};
 pub use shares::Shares;
 pub use standing::Standing;
 pub use suspects::Suspects;

@@ -1,6 +1,7 @@
 ghost use Rattle.std.specs.Prelude.{◌≡◌, Some, None, OnOk, IfOk, IfErr};
 ghost use Rattle.farm_entry.specs.Limits.{IsDailyLimit, IsLeaseTime, IsZone};
 
+use farm_types::{ZONE_MAX_MINUTES, ZONE_MIN_MINUTES};
 use thiserror::Error;
 
 /// The shortest time that a lease may last, in milliseconds.
@@ -11,12 +12,6 @@ pub const LEASE_MAX_MS: u32 = 86_400_000;
 
 /// The greatest daily limit of orders; the least is 0, with which no order is ever given.
 pub const MAX_DAILY: u32 = 1_000;
-
-/// The westernmost time zone, in minutes east of UTC.
-pub const ZONE_MIN_MINUTES: i32 = -720;
-
-/// The easternmost time zone, in minutes east of UTC.
-pub const ZONE_MAX_MINUTES: i32 = 840;
 
 /// What a farm is founded with, and keeps: how long a lease lasts, how many orders to revert a day may have, and where
 /// its days begin.

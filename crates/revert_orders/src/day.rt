@@ -2,13 +2,7 @@ ghost use Rattle.std.specs.Prelude.{◌≡◌, ◌≤◌, ◌≤ℤ◌};
 ghost use Rattle.farm_rules.specs.Day.{day_at};
 ghost use Rattle.farm_types.specs.Moment.{moment_ms};
 
-use farm_types::Moment;
-
-/// The smallest time zone: local time is 12 hours behind UTC.
-pub const ZONE_MIN_MINUTES: i32 = -720;
-
-/// The greatest time zone: local time is 14 hours ahead of UTC.
-pub const ZONE_MAX_MINUTES: i32 = 840;
+use farm_types::{Moment, ZONE_MAX_MINUTES, ZONE_MIN_MINUTES};
 
 /// The last day that a moment can fall on, 2100-01-01, in days since 1970-01-01.
 pub const LAST_DAY: u32 = 47_482;
