@@ -1,2 +1,14 @@
 pub mod Limits
 pub mod Settings
+pub mod Ask
+pub mod Setup
+pub mod History
+pub mod Standing
+pub mod Due
+pub mod Orders
+pub mod Pages
+pub mod Reply
+pub mod Answer
+pub mod Legal
+pub mod Laws
+pub mod Example

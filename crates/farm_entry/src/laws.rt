@@ -1,4 +1,10 @@
-//! Facts about what the values hold, each of them the contract of a call that does nothing.
+//! Facts about what the values hold and about legal histories, each of them the contract of a call that does nothing.
+
+pub mod answers;
+pub mod histories;
+pub mod orders;
+pub mod searches;
+pub mod worked;
 
 ghost use Rattle.std.specs.Prelude.{◌≡◌, ◌↔◌, ℕ, ℤ, None, IsTrue};
 ghost use Rattle.farm_entry.specs.Limits.{IsDailyLimit, IsLeaseTime, IsZone};

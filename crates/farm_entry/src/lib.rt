@@ -1,16 +1,25 @@
 //! What a farm of searches is told, records and answers: its settings, the entries of its history, the commands that
-//! it takes, and the replies and refusals that it gives.
+//! it takes, and the replies and refusals that it gives; and the definitions of the farm, which say what each command
+//! comes to at each history, and which histories are legal.
 //!
 //! The crate stands on `farm_types`, `flake_rate`, `suspect_range` and `weight_exact` for the values that these hold,
-//! and on `thiserror` for the texts of its refusals. The types are plain: their fields are public, and what is legal
-//! is said of whole histories. The layers above may use every name below. Contracts see lists and the opening of a
-//! search as what they hold, see settings through `settings_lease_ms`, `settings_daily` and `settings_zone_minutes` of
-//! `specs/`, and say by `settings_fault` why numbers are no settings.
+//! on `farm_rules` for the rules that its definitions are made of, and on `thiserror` for the texts of its refusals. The
+//! types are plain: their fields are public, and what is legal is said of whole histories. The layers above may use
+//! every name below. Contracts see lists and the opening of a search as what they hold, see settings through
+//! `settings_lease_ms`, `settings_daily` and `settings_zone_minutes` of `specs/`, and say by `settings_fault` why numbers
+//! are no settings.
+//!
+//! The definitions stand in `specs/`, to be read in this order: `Ask` (the search that a request asks for), `Setup` (from
+//! an opening to its weights), `History` (what a list of entries holds), `Standing`, `Due`, `Orders`, `Pages`, `Reply`,
+//! `Answer` and `Legal`. They compute, so that [`laws::worked`] plays small farms by evaluating them; the other modules
+//! of [`laws`] say what holds of every legal history.
 #![tactic(auto)]
 
+mod answer;
 mod command;
 mod entry;
 pub mod laws;
+mod lease;
 mod limits;
 mod opening;
 mod order_page;
@@ -23,8 +32,10 @@ mod suspects;
 #[cfg(test)]
 mod tests;
 
+pub use answer::Answer;
 pub use command::{Command, OpenAsk};
 pub use entry::{Entry, Fate, What};
+pub use lease::{DueRun, Lease, Report};
 pub use limits::{MAX_ENTRIES, MAX_RERUNS, MAX_SEARCHES, MAX_WIDTH};
 pub use opening::{BoxedOpening, Opening};
 pub use order_page::{OrderLine, OrderPage};

@@ -2,8 +2,8 @@ use crate::{Fate, OrderPage, Shares, Standing};
 use farm_types::{CommitId, Name, Stage};
 use weight_exact::Verdict;
 
-/// What a farm answers to a command that it doesn't refuse. A standing is the one right after the entry that answers
-/// the command was recorded.
+/// What a farm answers to a command that it doesn't refuse. Where an entry answers the command, a standing is the one
+/// right after that entry; in what is only shown it is the one of the whole history.
 #[derive(Debug, PartialEq, Eq, Drop)]
 pub enum Reply {
     /// A search was opened.
@@ -29,7 +29,7 @@ pub enum Reply {
         commit: CommitId,
         /// The test to be run.
         test: Name,
-        /// From when on the run is given to another worker, in milliseconds since 1970-01-01 in UTC.
+        /// From when on the run may be given to another worker, in milliseconds since 1970-01-01 in UTC.
         deadline: u64,
     },
     /// The verdict of a run was taken.

@@ -1,0 +1,62 @@
+-- The histories that a farm can have.
+use Rattle.std.specs.Prelude.{◌≡◌, List, [], ◌∷◌, ◌++◌, Option, Some, None, ⊤}
+use Rattle.flake_rate.specs.Bar.{bar_denominator, bar_numerator}
+use Rattle.flake_rate.specs.Miss.{miss_denominator, miss_numerator}
+use Rattle.flake_rate.specs.Rate.{rate_denominator, rate_numerator}
+use Rattle.farm_entry.specs.Answer.{answer}
+use Rattle.farm_entry.specs.declared.answer.Answer.TheVariants.{New}
+use Rattle.farm_entry.specs.declared.command.Command.{Command}
+use Rattle.farm_entry.specs.declared.command.Command.TheVariants.{Open, Lease, Report, Cancel, TakeRevert}
+use Rattle.farm_entry.specs.declared.command.OpenAsk.{OpenAsk}
+use Rattle.farm_entry.specs.declared.entry.Entry.{Entry}
+use Rattle.farm_entry.specs.declared.entry.What.{What}
+use Rattle.farm_entry.specs.declared.entry.What.TheVariants.{Founded, Opened, Leased, Reported, Cancelled, Ordered}
+use Rattle.farm_entry.specs.declared.opening.Opening.{Opening}
+
+-- the open that an opening answers
+abbrev pub ask_of : Opening → OpenAsk
+ask_of o = record {
+  key = o.key;
+  test = o.test;
+  base = o.range.base;
+  suspects = o.range.suspects;
+  calm = o.range.calm;
+  rate = (rate_numerator o.rate, rate_denominator o.rate);
+  miss = (miss_numerator o.miss, miss_denominator o.miss);
+  bar = (bar_numerator o.bar, bar_denominator o.bar);
+  width = o.width;
+  reruns = o.reruns;
+}
+
+-- the command that an entry answers, by its kind, key and contents. A founding answers none
+abbrev pub command_of : What → Option Command
+command_of (Founded settings) = None
+command_of (Opened o) = Some (Open (ask_of o))
+command_of (Leased key worker run search stage position deadline) = Some (Lease key worker)
+command_of (Reported run verdict _) = Some (Report run verdict)
+command_of (Cancelled key search) = Some (Cancel key search)
+command_of (Ordered key agent order commit search day) = Some (TakeRevert key agent)
+
+-- an entry is the one that a command adds to a history at the entry's moment
+abbrev pub IsAddedBy : List Entry → Entry → Option Command → Type 0
+IsAddedBy H e None = ⊥
+IsAddedBy H e (Some q) = answer H q e.at ≡ New e
+
+-- an entry may come next: it is what the command that it names adds
+abbrev pub IsNext : List Entry → Entry → Type 0
+IsNext H e = IsAddedBy H e (command_of e.what)
+
+-- a list of entries may come next, one after the other
+abbrev pub AreNext : List Entry → List Entry → Type 0
+AreNext H [] = ⊤
+AreNext H (e ∷ more) = IsNext H e × AreNext (H ++ e ∷ []) more
+
+-- an entry is a founding
+abbrev pub IsFounding : What → Type 0
+IsFounding (Founded settings) = ⊤
+IsFounding _ = ⊥
+
+-- a history is legal: it begins with a founding, and each further entry may come next
+abbrev pub IsLegal : List Entry → Type 0
+IsLegal [] = ⊥
+IsLegal (e ∷ more) = IsFounding e.what × AreNext (e ∷ []) more

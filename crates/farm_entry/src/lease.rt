@@ -1,0 +1,40 @@
+use crate::Fate;
+use farm_types::Stage;
+use weight_exact::Verdict;
+
+/// A run that was handed out, as its entry says.
+#[derive(Clone, Copy, Debug, PartialEq, Eq, Hash)]
+pub struct Lease {
+    /// The number of the run, from 1.
+    pub run: u32,
+    /// The search that the run is for.
+    pub search: u32,
+    /// What the run is for.
+    pub stage: Stage,
+    /// The position to be tested.
+    pub position: u16,
+    /// From when on the run may be given to another worker, in milliseconds since 1970-01-01 in UTC.
+    pub deadline: u64,
+}
+
+/// The first report of a run, as its entry says.
+#[derive(Clone, Copy, Debug, PartialEq, Eq)]
+pub struct Report {
+    /// The number of the run, from 1.
+    pub run: u32,
+    /// What the test said.
+    pub verdict: Verdict,
+    /// What the report did to the search.
+    pub fate: Fate,
+}
+
+/// A run that can be handed out.
+#[derive(Clone, Copy, Debug, PartialEq, Eq, Hash)]
+pub struct DueRun {
+    /// The search that the run is for.
+    pub search: u32,
+    /// What the run is for.
+    pub stage: Stage,
+    /// The position to be tested.
+    pub position: u16,
+}
