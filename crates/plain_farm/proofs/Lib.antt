@@ -1,0 +1,9 @@
+pub mod Items
+pub mod Asked
+pub mod Passes
+pub mod Histories
+pub mod Beliefs
+pub mod Holding
+pub mod Few
+pub mod Repeats
+pub mod Growth

@@ -1,0 +1,5 @@
+pub mod Held
+pub mod Loads
+pub mod Next
+pub mod Stops
+pub mod Tests

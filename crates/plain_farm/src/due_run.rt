@@ -1,0 +1,247 @@
+//! Which runs are out at a moment, and which run is due. A moment is in milliseconds since 1970-01-01 in UTC.
+
+ghost use Rattle.std.specs.Prelude.{◌≡◌, ◌≤◌, length, vec_len, Contains, IfOk};
+ghost use Rattle.std.specs.Option.{option_and_then};
+ghost use Rattle.farm_rules.specs.Reruns.{reruns_at};
+ghost use Rattle.farm_types.specs.declared.stage.Stage.TheVariants.{Search, Verify};
+ghost use Rattle.weight_exact.specs.Plan.{plan};
+ghost use Rattle.posterior.specs.StandsFor.{StandsFor};
+ghost use Rattle.farm_entry.specs.Due.{due, due_at, due_runs, due_searching, due_verifying, is_open, next_run, open_leases, open_positions, sooner, soonest};
+ghost use Rattle.farm_entry.specs.History.{opening_in, openings, runs};
+ghost use Rattle.farm_entry.specs.Legal.{IsLegal};
+ghost use Rattle.farm_entry.specs.Setup.{setup_of};
+ghost use Rattle.farm_entry.specs.Standing.{standing};
+ghost use Rattle.plain_farm.specs.Held.{IsHeld};
+ghost use Rattle.farm_entry.specs.declared.standing.Standing.TheVariants.{Searching};
+
+use crate::entries::opening_in;
+use crate::filters::{is_reported, last_lease, leases, reruns, same_stage};
+use crate::lists::push_some;
+use crate::standings::{belief, standing};
+use farm_entry::{DueRun, Entry, Lease, Opening, Standing, What};
+use farm_types::{Memory, Stage};
+use posterior::Belief;
+use run_plan::{due_search, due_verify};
+use std::alloc::Global;
+use std::marker::Brand;
+use std::sync::ledger::{Blank, Ledger};
+use threshold_pick::plan_into;
+use weight_exact::{Run, Steps};
+
+/// Whether a lease is open at a moment: its run has no report, and its deadline lies later.
+pub fn is_open(history: &[Entry], moment: u64, lease: Lease) -> bool
+    ensures { result ≡ is_open history.now moment lease }
+{
+    !is_reported(history, lease.run) && moment < lease.deadline
+}
+
+/// The open leases of a search at a stage.
+pub fn open_leases(
+    alloc: Global,
+    history: &[Entry],
+    search: u32,
+    stage: Stage,
+    moment: u64,
+) -> Result<Vec<Lease>, Memory>
+    ensures { IfOk result (λ found. found.items ≡ open_leases history.now search stage moment) }
+{
+    let all = leases(alloc, history, search)?;
+    let open = all.iter().copied().filter(|lease| {
+        same_stage(lease.stage, stage) && is_open(history, moment, *lease)
+    });
+    Ok(open.collect(alloc)?)
+}
+
+/// The positions of the open leases, by the numbers of the runs.
+pub fn open_positions(
+    alloc: Global,
+    history: &[Entry],
+    search: u32,
+    stage: Stage,
+    moment: u64,
+) -> Result<Vec<u16>, Memory>
+    ensures { IfOk result (λ found. found.items ≡ open_positions history.now search stage moment) }
+{
+    let open = open_leases(alloc, history, search, stage, moment)?;
+    Ok(open.iter().map(|lease| lease.position).collect(alloc)?)
+}
+
+// The position to run next.
+
+/// The plan of a search that is searching.
+pub fn plan(alloc: Global, history: &[Entry], opening: &Opening) -> Result<Vec<u16>, Memory>
+    requires legal { IsLegal history.now }
+    requires opened { Contains (openings history.now) opening.now }
+    requires searching { standing history.now opening.now ≡ Searching }
+    ensures { IfOk result (λ found. found.items
+        ≡ plan (setup_of opening.now) (runs history.now opening.now.search) opening.now.width) }
+{
+    let belief = belief(alloc, history, opening)?;
+    let mut positions = zeros(alloc, opening.width)?;
+    write_plan::<Brand>(history, opening, &belief, &mut positions, Blank::new(1));
+    Ok(positions)
+}
+
+/// So many zeros.
+fn zeros(alloc: Global, count: u8) -> Result<Vec<u16>, Memory>
+    ensures { IfOk result (λ zeros. vec_len zeros ≡ count) }
+{
+    Ok(vec![in alloc; 0; usize::from(count)]?)
+}
+
+/// Writes the plan of a search that is searching, by its belief.
+fn write_plan<L: Ledger>(
+    history: &[Entry],
+    opening: &Opening,
+    belief: &Belief,
+    positions: &mut [u16],
+    blank: Blank,
+)
+    requires name { blank.name ≡ L.name }
+    requires parts { blank.parts ≡ L.parts }
+    requires some { 1 ≤ L.parts }
+    requires legal { IsLegal history.now }
+    requires opened { Contains (openings history.now) opening.now }
+    requires searching { standing history.now opening.now ≡ Searching }
+    requires setup { belief.now.setup ≡ setup_of opening.now }
+    requires runs { StandsFor belief.now (runs history.now opening.now.search) }
+    requires places { length positions.old ≡ opening.now.width }
+    ensures { positions.new ≡ plan (setup_of opening.now) (runs history.now opening.now.search) opening.now.width }
+{
+    let mut steps = Steps::<L>::new(blank);
+    let floor = belief.floor();
+    plan_into(belief.sums(), floor, opening.width, positions, &mut steps);
+}
+
+/// Where a search that is searching is to run next.
+fn due_searching(
+    alloc: Global,
+    history: &[Entry],
+    opening: &Opening,
+    moment: u64,
+) -> Result<Option<u16>, Memory>
+    requires legal { IsLegal history.now }
+    requires opened { Contains (openings history.now) opening.now }
+    requires searching { standing history.now opening.now ≡ Searching }
+    ensures { IfOk result (λ position. position ≡ due_searching history.now opening.now moment) }
+{
+    let plan = plan(alloc, history, opening)?;
+    let open = open_positions(alloc, history, opening.search, Stage::Search, moment)?;
+    Ok(due_search(&plan, &open))
+}
+
+/// How many reruns of a list were made at a position.
+pub(crate) fn reruns_at(position: u16, again: &[Run]) -> usize
+    ensures { result ≡ reruns_at position again.now }
+{
+    again.iter().filter(|run| run.position == position).count()
+}
+
+/// Where a search that verifies a culprit is to run next.
+fn due_verifying(
+    alloc: Global,
+    history: &[Entry],
+    opening: &Opening,
+    culprit: u16,
+    moment: u64,
+) -> Result<Option<u16>, Memory>
+    requires { 1 ≤ culprit }
+    ensures { IfOk result (λ position. position ≡ due_verifying history.now opening.now culprit moment) }
+{
+    let again = reruns(alloc, history, opening.search)?;
+    let open = open_positions(alloc, history, opening.search, Stage::Verify, moment)?;
+    let at_culprit = u8::try_from(reruns_at(culprit, &again)).unwrap_or(u8::MAX);
+    let at_parent = u8::try_from(reruns_at(culprit - 1, &again)).unwrap_or(u8::MAX);
+    Ok(due_verify(culprit, at_culprit, at_parent, &open, opening.reruns))
+}
+
+// The run that is due.
+
+/// The run of a search that is due at a moment, if one is.
+pub fn due(
+    alloc: Global,
+    history: &[Entry],
+    opening: &Opening,
+    moment: u64,
+) -> Result<Option<DueRun>, Memory>
+    requires legal { IsLegal history.now }
+    requires opened { Contains (openings history.now) opening.now }
+    ensures { IfOk result (λ run. run ≡ due history.now opening.now moment) }
+{
+    let (stage, position) = match standing(alloc, history, opening)? {
+        Standing::Searching => {
+            let position = due_searching(alloc, history, opening, moment)?;
+            (Stage::Search, position)
+        }
+        Standing::Verifying(culprit) => {
+            let position = due_verifying(alloc, history, opening, culprit, moment)?;
+            (Stage::Verify, position)
+        }
+        _ => return Ok(None),
+    };
+    let search = opening.search;
+    Ok(position.map(|position| DueRun {
+        search,
+        stage,
+        position,
+    }))
+}
+
+/// The run that is due of the search that an entry opened, if it opened one.
+fn due_in(
+    alloc: Global,
+    history: &[Entry],
+    what: &What,
+    moment: u64,
+) -> Result<Option<DueRun>, Memory>
+    requires legal { IsLegal history.now }
+    requires held { IsHeld history.now what.now }
+    ensures { IfOk result (λ run. run ≡ option_and_then (λ o. due history.now o moment) (opening_in what.now)) }
+{
+    match opening_in(what) {
+        None => Ok(None),
+        Some(opening) => due(alloc, history, opening, moment),
+    }
+}
+
+/// The due runs of all searches, by the numbers of the searches.
+pub fn due_runs(alloc: Global, history: &[Entry], moment: u64) -> Result<Vec<DueRun>, Memory>
+    requires { IsLegal history.now }
+    ensures { IfOk result (λ found. found.items ≡ due_runs history.now moment) }
+{
+    let mut found = Vec::new(alloc);
+    for entry in history {
+        push_some(&mut found, due_in(alloc, history, &entry.what, moment)?)?;
+    }
+    Ok(found)
+}
+
+/// Of two due runs that of the search whose last lease stands earlier, and on a tie the first.
+fn sooner(history: &[Entry], run: DueRun, other: Option<DueRun>) -> DueRun
+    ensures { result ≡ sooner history.now run other }
+{
+    match other {
+        Some(other) if last_lease(history, run.search) > last_lease(history, other.search) => other,
+        _ => run,
+    }
+}
+
+/// The due run of the search whose last lease stands earliest, the first of them on a tie.
+fn soonest(history: &[Entry], runs: &[DueRun]) -> Option<DueRun>
+    ensures { result ≡ soonest history.now runs.now }
+{
+    match runs {
+        [] => None,
+        [run, rest @ ..] => Some(sooner(history, *run, soonest(history, rest))),
+    }
+}
+
+/// The run that is handed out next, over all searches. A search that was never leased comes before all others, and of
+/// two such searches the smaller number.
+pub fn next_run(alloc: Global, history: &[Entry], moment: u64) -> Result<Option<DueRun>, Memory>
+    requires { IsLegal history.now }
+    ensures { IfOk result (λ run. run ≡ next_run history.now moment) }
+{
+    let runs = due_runs(alloc, history, moment)?;
+    Ok(soonest(history, &runs))
+}

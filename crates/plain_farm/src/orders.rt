@@ -1,0 +1,175 @@
+//! Which commit is to be reverted next.
+
+ghost use Rattle.std.specs.Prelude.{◌≡◌, map, IfOk};
+ghost use Rattle.std.specs.Option.{option_and_then, option_map};
+ghost use Rattle.farm_rules.specs.Orders.{candidates, earlier, earliest, has_order, next_order, orders_of};
+ghost use Rattle.farm_types.specs.CommitId.{same_id};
+ghost use Rattle.farm_types.specs.Moment.{moment_ms};
+ghost use Rattle.farm_entry.specs.History.{opening_in};
+ghost use Rattle.farm_entry.specs.Legal.{IsLegal};
+ghost use Rattle.farm_entry.specs.Orders.{confirmed_at, confirmed_searches, day_in, next_order_at, ordered};
+ghost use Rattle.farm_entry.specs.Standing.{standing};
+ghost use Rattle.plain_farm.specs.Held.{IsHeld};
+ghost use Rattle.plain_farm.specs.Next.{confirmed_as, next_as, searches_as};
+
+use crate::entries::opening_in;
+use crate::filters::order_lines;
+use crate::lists::push_some;
+use crate::settings::{daily_limit, zone_minutes};
+use crate::standings::{commit_of, standing};
+use farm_entry::{Entry, Opening, OrderLine, Standing, What};
+use farm_types::{CommitId, Memory, Moment};
+use revert_orders::day_of;
+use std::alloc::Global;
+
+/// A search whose culprit is confirmed.
+#[derive(Clone, Copy, Debug, PartialEq, Eq)]
+pub struct Confirmed {
+    /// The number of the search, from 1.
+    pub search: u32,
+    /// The culprit.
+    pub commit: CommitId,
+}
+
+/// What the next request for an order comes to.
+#[derive(Clone, Copy, Debug, PartialEq, Eq)]
+pub enum Next {
+    /// No confirmed search is left whose commit has no order.
+    NoSearch,
+    /// The day has its orders already, so many of them.
+    DayIsFull(u32),
+    /// This search gets the order.
+    OrderFor(Confirmed),
+}
+
+/// The day of a moment in the farm's zone, in days since 1970-01-01.
+pub fn day_in(history: &[Entry], moment: Moment) -> u32
+    ensures { result ≡ day_in history.now (moment_ms moment) }
+{
+    day_of(moment, zone_minutes(history))
+}
+
+// The searches that wait for an order.
+
+/// A search whose culprit is confirmed.
+fn confirmed_at(standing: Standing, opening: &Opening) -> Option<Confirmed>
+    ensures { option_map confirmed_as result ≡ confirmed_at standing opening.now }
+{
+    match standing {
+        Standing::Confirmed(culprit) => Some(Confirmed {
+            search: opening.search,
+            commit: commit_of(opening, culprit),
+        }),
+        _ => None,
+    }
+}
+
+/// The search that an entry opened, if it opened one and its culprit is confirmed.
+fn confirmed_in(alloc: Global, history: &[Entry], what: &What) -> Result<Option<Confirmed>, Memory>
+    requires legal { IsLegal history.now }
+    requires held { IsHeld history.now what.now }
+    ensures { IfOk result (λ found. option_map confirmed_as found
+        ≡ option_and_then (λ o. confirmed_at (standing history.now o) o) (opening_in what.now)) }
+{
+    match opening_in(what) {
+        None => Ok(None),
+        Some(opening) => {
+            let standing = standing(alloc, history, opening)?;
+            Ok(confirmed_at(standing, opening))
+        }
+    }
+}
+
+/// The searches whose culprit is confirmed, by their numbers.
+pub fn confirmed_searches(alloc: Global, history: &[Entry]) -> Result<Vec<Confirmed>, Memory>
+    requires { IsLegal history.now }
+    ensures { IfOk result (λ found. searches_as found.items ≡ confirmed_searches history.now) }
+{
+    let mut found = Vec::new(alloc);
+    for entry in history {
+        push_some(&mut found, confirmed_in(alloc, history, &entry.what)?)?;
+    }
+    Ok(found)
+}
+
+/// Whether a commit has an order.
+fn has_order(lines: &[OrderLine], commit: CommitId) -> bool
+    ensures { result ≡ has_order (map ordered lines.now) commit }
+{
+    for line in lines {
+        if is_for(line, commit) {
+            return true;
+        }
+    }
+    false
+}
+
+/// Whether an order is for a commit.
+fn is_for(line: &OrderLine, commit: CommitId) -> bool
+    ensures { result ≡ same_id line.now.commit commit }
+{
+    line.commit == commit
+}
+
+/// The confirmed searches whose commit has no order yet.
+fn candidates(
+    alloc: Global,
+    searches: &[Confirmed],
+    lines: &[OrderLine],
+) -> Result<Vec<Confirmed>, Memory>
+    ensures { IfOk result (λ found. searches_as found.items
+        ≡ candidates (searches_as searches.now) (map ordered lines.now)) }
+{
+    let searches = searches.iter().copied();
+    Ok(
+        searches
+            .filter(|confirmed| !has_order(lines, confirmed.commit))
+            .collect(alloc)?,
+    )
+}
+
+/// Of two searches the one with the smaller number, and on a tie the first.
+fn earlier(confirmed: Confirmed, other: Option<Confirmed>) -> Confirmed
+    ensures { confirmed_as result ≡ earlier (confirmed_as confirmed) (option_map confirmed_as other) }
+{
+    match other {
+        Some(other) if confirmed.search > other.search => other,
+        _ => confirmed,
+    }
+}
+
+/// The search with the smallest number, the first of them on a tie.
+fn earliest(searches: &[Confirmed]) -> Option<Confirmed>
+    ensures { option_map confirmed_as result ≡ earliest (searches_as searches.now) }
+{
+    match searches {
+        [] => None,
+        [confirmed, rest @ ..] => Some(earlier(*confirmed, earliest(rest))),
+    }
+}
+
+/// How many orders stand on a day.
+fn orders_of(day: u32, lines: &[OrderLine]) -> usize
+    ensures { result ≡ orders_of day (map ordered lines.now) }
+{
+    lines.iter().filter(|line| line.day == day).count()
+}
+
+/// What the next request for an order comes to at a moment.
+pub fn next_order_at(alloc: Global, history: &[Entry], moment: Moment) -> Result<Next, Memory>
+    requires { IsLegal history.now }
+    ensures { IfOk result (λ next. next_as next ≡ next_order_at history.now (moment_ms moment)) }
+{
+    let searches = confirmed_searches(alloc, history)?;
+    let lines = order_lines(alloc, history)?;
+    let candidates = candidates(alloc, &searches, &lines)?;
+    let Some(confirmed) = earliest(&candidates) else {
+        return Ok(Next::NoSearch);
+    };
+    let count = orders_of(day_in(history, moment), &lines);
+    if count < daily_limit(history) as usize {
+        Ok(Next::OrderFor(confirmed))
+    } else {
+        Ok(Next::DayIsFull(count as u32))
+    }
+}

@@ -1,0 +1,169 @@
+//! What is shown of a farm.
+
+ghost use Rattle.std.specs.Prelude.{◌≡◌, map, count_by, Contains, IfOk};
+ghost use Rattle.std.specs.Option.{option_map};
+ghost use Rattle.plain_farm.specs.Held.{IsHeld};
+ghost use Rattle.plain_farm.specs.Tests.{is_some_and};
+ghost use Rattle.flake_rate.specs.Miss.{FitsRate};
+ghost use Rattle.farm_entry.specs.History.{is_counted, opening_in, openings, order_lines, report_in, reports};
+ghost use Rattle.farm_entry.specs.Legal.{IsLegal};
+ghost use Rattle.farm_entry.specs.Pages.{is_ended_otherwise, page_of, shares_of, totals};
+ghost use Rattle.farm_entry.specs.Setup.{budget_of_search};
+ghost use Rattle.farm_entry.specs.Standing.{is_confirmed, is_searching, is_verifying, standing};
+
+use crate::entries::{opening_in, report_in};
+use crate::filters::{is_counted, leases, openings_count, order_lines, orders_count, reruns, runs};
+use crate::lists::push_some;
+use crate::standings::{
+    belief, first_belief, is_active, is_confirmed, is_searching, is_verifying, named_commit,
+    standing,
+};
+use farm_entry::{Entry, Opening, OrderPage, SearchPage, Shares, Standing, Totals, What};
+use farm_types::Memory;
+use std::alloc::Global;
+
+/// How many runs the exact arithmetic of a search has room for.
+pub fn budget_of_search(alloc: Global, opening: &Opening) -> Result<u32, Memory>
+    requires told { FitsRate opening.now.miss opening.now.rate }
+    ensures { IfOk result (λ budget. budget ≡ budget_of_search opening.now) }
+{
+    Ok(first_belief(alloc, opening)?.budget())
+}
+
+/// The shares of all hypotheses of a search in basis points, that of "no culprit" last.
+pub fn shares_of(alloc: Global, history: &[Entry], opening: &Opening) -> Result<Shares, Memory>
+    requires legal { IsLegal history.now }
+    requires opened { Contains (openings history.now) opening.now }
+    ensures { IfOk result (λ shares. shares ≡ shares_of history.now opening.now) }
+{
+    let belief = belief(alloc, history, opening)?;
+    let mut shares = Vec::new(alloc);
+    for before in 0..opening.range.len() + 1 {
+        shares.push(belief.basis_points(before as u16 + 1))?;
+    }
+    Ok(Shares::of(shares))
+}
+
+/// What is shown of a search.
+pub fn page_of(alloc: Global, history: &[Entry], opening: &Opening) -> Result<SearchPage, Memory>
+    requires legal { IsLegal history.now }
+    requires opened { Contains (openings history.now) opening.now }
+    ensures { IfOk result (λ page. page ≡ page_of history.now opening.now) }
+{
+    let standing = standing(alloc, history, opening)?;
+    Ok(SearchPage {
+        search: opening.search,
+        test: opening.test.copy()?,
+        budget: budget_of_search(alloc, opening)?,
+        leases: leases(alloc, history, opening.search)?.len() as u32,
+        counted: runs(alloc, history, opening.search)?.len() as u32,
+        verified: reruns(alloc, history, opening.search)?.len() as u32,
+        standing,
+        commit: named_commit(opening, standing),
+        shares: shares_of(alloc, history, opening)?,
+    })
+}
+
+/// Where the search stands that an entry opened, if it opened one.
+fn standing_in(alloc: Global, history: &[Entry], what: &What) -> Result<Option<Standing>, Memory>
+    requires legal { IsLegal history.now }
+    requires held { IsHeld history.now what.now }
+    ensures { IfOk result (λ found. found ≡ option_map (standing history.now) (opening_in what.now)) }
+{
+    match opening_in(what) {
+        None => Ok(None),
+        Some(opening) => Ok(Some(standing(alloc, history, opening)?)),
+    }
+}
+
+/// Where all searches stand, by their numbers.
+fn standings(alloc: Global, history: &[Entry]) -> Result<Vec<Standing>, Memory>
+    requires { IsLegal history.now }
+    ensures { IfOk result (λ found. found.items ≡ map (standing history.now) (openings history.now)) }
+{
+    let mut found = Vec::new(alloc);
+    for entry in history {
+        push_some(&mut found, standing_in(alloc, history, &entry.what)?)?;
+    }
+    Ok(found)
+}
+
+/// Whether a search has ended in another way than with a confirmed culprit.
+fn is_ended_otherwise(standing: Standing) -> bool
+    ensures { result ≡ is_ended_otherwise standing }
+{
+    !is_active(standing) && !is_confirmed(standing)
+}
+
+/// How many searches are looking for their culprit.
+fn count_searching(found: &[Standing]) -> usize
+    ensures { result ≡ count_by is_searching found.now }
+{
+    found.iter().filter(|one| is_searching(**one)).count()
+}
+
+/// How many searches verify their culprit.
+fn count_verifying(found: &[Standing]) -> usize
+    ensures { result ≡ count_by is_verifying found.now }
+{
+    found.iter().filter(|one| is_verifying(**one)).count()
+}
+
+/// How many searches have a confirmed culprit.
+fn count_confirmed(found: &[Standing]) -> usize
+    ensures { result ≡ count_by is_confirmed found.now }
+{
+    found.iter().filter(|one| is_confirmed(**one)).count()
+}
+
+/// How many searches have ended in another way than with a confirmed culprit.
+fn count_ended(found: &[Standing]) -> usize
+    ensures { result ≡ count_by is_ended_otherwise found.now }
+{
+    found.iter().filter(|one| is_ended_otherwise(**one)).count()
+}
+
+/// How many reports counted, at both stages.
+fn counted_reports(history: &[Entry]) -> usize
+    ensures { result ≡ count_by (λ r. is_counted r.fate) (reports history.now) }
+{
+    let counted = history
+        .iter()
+        .filter(|entry| is_counted_report(&entry.what));
+    counted.count()
+}
+
+/// Whether an entry records a report that counts.
+fn is_counted_report(what: &What) -> bool
+    ensures { result ≡ is_some_and (λ r. is_counted r.fate) (report_in what.now) }
+{
+    match report_in(what) {
+        None => false,
+        Some(report) => is_counted(report.fate),
+    }
+}
+
+/// What is counted of a farm.
+pub fn totals(alloc: Global, history: &[Entry]) -> Result<Totals, Memory>
+    requires { IsLegal history.now }
+    ensures { IfOk result (λ counted. counted ≡ totals history.now) }
+{
+    let found = standings(alloc, history)?;
+    Ok(Totals {
+        entries: history.len() as u64,
+        searches: openings_count(history) as u64,
+        searching: count_searching(&found) as u64,
+        verifying: count_verifying(&found) as u64,
+        confirmed: count_confirmed(&found) as u64,
+        ended: count_ended(&found) as u64,
+        counted: counted_reports(history) as u64,
+        orders: orders_count(history) as u64,
+    })
+}
+
+/// All orders, as they are shown.
+pub fn order_page(alloc: Global, history: &[Entry]) -> Result<OrderPage, Memory>
+    ensures { IfOk result (λ page. page ≡ order_lines history.now) }
+{
+    Ok(OrderPage::of(order_lines(alloc, history)?))
+}

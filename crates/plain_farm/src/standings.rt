@@ -1,0 +1,266 @@
+//! Where a search stands in a history.
+
+ghost use Rattle.std.specs.Prelude.{◌≡◌, ◌≤◌, [], map, count_by, Contains, IfOk};
+ghost use Rattle.flake_rate.specs.Miss.{FitsRate};
+ghost use Rattle.farm_rules.specs.Reruns.{enough, is_against, is_fail_at, is_pass_at, outcome, vindicated};
+ghost use Rattle.weight_exact.specs.Load.{is_fail};
+ghost use Rattle.weight_exact.specs.Weights.{AreInRange};
+ghost use Rattle.posterior.specs.StandsFor.{StandsFor};
+ghost use Rattle.farm_entry.specs.History.{openings, runs};
+ghost use Rattle.farm_entry.specs.Legal.{IsLegal};
+ghost use Rattle.farm_entry.specs.Setup.{commit_of, setup_of};
+ghost use Rattle.farm_entry.specs.Standing.{is_active, is_confirmed, is_searching, is_verifying, named_commit, standing, standing_of_outcome, standing_of_reached};
+ghost use Rattle.plain_farm.specs.Loads.{LoadsFit};
+
+use crate::filters::{reruns, runs, was_cancelled, went_over};
+use farm_entry::{Entry, Opening, Standing};
+use farm_types::{CommitId, Memory};
+use posterior::Belief;
+use std::alloc::Global;
+use std::marker::Brand;
+use std::sync::ledger::{Blank, Ledger};
+use suspect_range::Suspect;
+use weight_exact::{Run, Steps, Verdict};
+
+// What the runs say.
+
+/// What a search believes before any run.
+pub fn first_belief(alloc: Global, opening: &Opening) -> Result<Belief, Memory>
+    requires told { FitsRate opening.now.miss opening.now.rate }
+    ensures setup { IfOk result (λ belief. belief.setup ≡ setup_of opening.now) }
+    ensures none { IfOk result (λ belief. StandsFor belief []) }
+{
+    let suspects = opening.range.suspects();
+    let weights = weights_of(alloc, suspects)?;
+    let calm = opening.range.calm();
+    match Belief::start(
+        alloc,
+        &weights,
+        calm,
+        opening.rate,
+        opening.miss,
+        opening.bar,
+    ) {
+        Ok(belief) => Ok(belief),
+        Err(_) => Err(Memory),
+    }
+}
+
+/// The prior weights of suspects.
+fn weights_of(alloc: Global, suspects: &[Suspect]) -> Result<Vec<u32>, Memory>
+    ensures { IfOk result (λ weights. weights.items ≡ map (λ suspect. suspect.weight) suspects.now) }
+{
+    Ok(
+        suspects
+            .iter()
+            .map(|suspect| suspect.weight)
+            .collect(alloc)?,
+    )
+}
+
+/// What a search believes after its runs.
+pub fn belief(alloc: Global, history: &[Entry], opening: &Opening) -> Result<Belief, Memory>
+    requires legal { IsLegal history.now }
+    requires opened { Contains (openings history.now) opening.now }
+    ensures setup { IfOk result (λ belief. belief.setup ≡ setup_of opening.now) }
+    ensures runs { IfOk result (λ belief. StandsFor belief (runs history.now opening.now.search)) }
+{
+    let mut belief = first_belief(alloc, opening)?;
+    let told = runs(alloc, history, opening.search)?;
+    tell::<Brand>(&mut belief, &told, Blank::new(1));
+    Ok(belief)
+}
+
+/// Tells a belief that was told none yet runs that it has room for, one by one.
+fn tell<L: Ledger>(belief: &mut Belief, told: &[Run], blank: Blank)
+    requires name { blank.name ≡ L.name }
+    requires parts { blank.parts ≡ L.parts }
+    requires some { 1 ≤ L.parts }
+    requires none { StandsFor belief.old [] }
+    requires in_range { AreInRange belief.old.setup told.now }
+    requires fit { LoadsFit belief.old.setup told.now }
+    ensures setup { belief.new.setup ≡ belief.old.setup }
+    ensures told { StandsFor belief.new told.now }
+{
+    let mut steps = Steps::<L>::new(blank);
+    for run in told {
+        let _noted = belief.note(run.position, run.verdict, &mut steps);
+    }
+}
+
+// What the reruns say.
+
+/// Whether a verdict is a fail.
+pub(crate) fn is_fail(verdict: Verdict) -> bool
+    ensures { result ≡ is_fail verdict }
+{
+    match verdict {
+        Verdict::Fail => true,
+        Verdict::Pass => false,
+    }
+}
+
+/// Whether a run failed at a position.
+fn is_fail_at(position: u16, run: Run) -> bool
+    ensures { result ≡ is_fail_at position run }
+{
+    is_fail(run.verdict) && run.position == position
+}
+
+/// Whether a run passed at a position.
+fn is_pass_at(position: u16, run: Run) -> bool
+    ensures { result ≡ is_pass_at position run }
+{
+    !is_fail(run.verdict) && run.position == position
+}
+
+/// Whether a rerun speaks against the culprit: it passed with the culprit in its tree, or failed with it out.
+fn is_against(culprit: u16, run: Run) -> bool
+    ensures { result ≡ is_against culprit run }
+{
+    is_pass_at(culprit, run) || is_fail_at(culprit.saturating_sub(1), run)
+}
+
+/// Whether some rerun speaks against the culprit.
+fn vindicated(culprit: u16, again: &[Run]) -> bool
+    ensures { result ≡ vindicated culprit again.now }
+{
+    again.iter().any(|run| is_against(culprit, *run))
+}
+
+/// How many runs failed at a position.
+fn fails_at(position: u16, again: &[Run]) -> usize
+    ensures { result ≡ count_by (is_fail_at position) again.now }
+{
+    let fails = again.iter().filter(|run| is_fail_at(position, **run));
+    fails.count()
+}
+
+/// How many runs passed at a position.
+fn passes_at(position: u16, again: &[Run]) -> usize
+    ensures { result ≡ count_by (is_pass_at position) again.now }
+{
+    let passes = again.iter().filter(|run| is_pass_at(position, **run));
+    passes.count()
+}
+
+/// Whether each side has the asked number of reruns that speak for the culprit: fails at it, passes at its parent.
+fn enough(culprit: u16, asked: u8, again: &[Run]) -> bool
+    ensures { result ≡ enough culprit asked again.now }
+{
+    let fails = fails_at(culprit, again);
+    let passes = passes_at(culprit.saturating_sub(1), again);
+    asked as usize <= fails && asked as usize <= passes
+}
+
+/// Where a search stands that has named a suspect, by the reruns so far.
+fn standing_of_outcome(culprit: u16, asked: u8, again: &[Run]) -> Standing
+    ensures { result ≡ standing_of_outcome culprit (outcome culprit asked again.now) }
+{
+    if vindicated(culprit, again) {
+        Standing::Vindicated(culprit)
+    } else if enough(culprit, asked, again) {
+        Standing::Confirmed(culprit)
+    } else {
+        Standing::Verifying(culprit)
+    }
+}
+
+// Where the search stands.
+
+/// What the hypothesis at the bar comes to: the last one says that there is no culprit, the others name a suspect.
+fn standing_of_reached(opening: &Opening, again: &[Run], reached: Option<u16>) -> Standing
+    ensures { result ≡ standing_of_reached opening.now again.now reached }
+{
+    match reached {
+        None => Standing::Searching,
+        Some(hypothesis) => {
+            if usize::from(hypothesis) == opening.range.len() + 1 {
+                Standing::NoCulprit
+            } else {
+                standing_of_outcome(hypothesis, opening.reruns, again)
+            }
+        }
+    }
+}
+
+/// Where a search stands, by the first case that fits: it was cancelled, it went over its budget, or what its belief
+/// says.
+pub fn standing(alloc: Global, history: &[Entry], opening: &Opening) -> Result<Standing, Memory>
+    requires legal { IsLegal history.now }
+    requires opened { Contains (openings history.now) opening.now }
+    ensures { IfOk result (λ found. found ≡ standing history.now opening.now) }
+{
+    if was_cancelled(history, opening.search) {
+        return Ok(Standing::Cancelled);
+    }
+    if went_over(history, opening.search) {
+        return Ok(Standing::Inconclusive);
+    }
+    let belief = belief(alloc, history, opening)?;
+    let again = reruns(alloc, history, opening.search)?;
+    Ok(standing_of_reached(opening, &again, belief.reached()))
+}
+
+/// Whether a search is looking for its culprit.
+pub(crate) fn is_searching(standing: Standing) -> bool
+    ensures { result ≡ is_searching standing }
+{
+    match standing {
+        Standing::Searching => true,
+        _ => false,
+    }
+}
+
+/// Whether a search verifies its culprit.
+pub(crate) fn is_verifying(standing: Standing) -> bool
+    ensures { result ≡ is_verifying standing }
+{
+    match standing {
+        Standing::Verifying(_) => true,
+        _ => false,
+    }
+}
+
+/// Whether the culprit of a search is confirmed.
+pub(crate) fn is_confirmed(standing: Standing) -> bool
+    ensures { result ≡ is_confirmed standing }
+{
+    match standing {
+        Standing::Confirmed(_) => true,
+        _ => false,
+    }
+}
+
+/// Whether a search goes on.
+pub(crate) fn is_active(standing: Standing) -> bool
+    ensures { result ≡ is_active standing }
+{
+    match standing {
+        Standing::Searching | Standing::Verifying(_) => true,
+        _ => false,
+    }
+}
+
+/// The commit at a position of a search's range.
+pub(crate) fn commit_of(opening: &Opening, position: u16) -> CommitId
+    ensures { result ≡ commit_of opening.now position }
+{
+    if usize::from(position) <= opening.range.len() {
+        opening.range.commit(usize::from(position))
+    } else {
+        opening.range.commit(0)
+    }
+}
+
+/// The commit of the suspect that a standing names, if it names one.
+pub fn named_commit(opening: &Opening, standing: Standing) -> Option<CommitId>
+    ensures { result ≡ named_commit opening.now standing }
+{
+    match standing {
+        Standing::Verifying(culprit)
+        | Standing::Confirmed(culprit)
+        | Standing::Vindicated(culprit) => Some(commit_of(opening, culprit)),
+        _ => None,
+    }
+}
