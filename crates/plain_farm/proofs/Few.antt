@@ -15,7 +15,7 @@ use Rattle.farm_entry.specs.declared.entry.Entry.{Entry}
 use Rattle.farm_entry.specs.declared.lease.Lease.{Lease}
 use Rattle.farm_entry.specs.declared.order_page.OrderLine.{OrderLine}
 use Rattle.plain_farm.proofs.Histories.{few_entries}
-use Rattle.plain_farm.proofs.Holding.{length-filter_map-le, length-filter-le}
+use Rattle.plain_history.proofs.Holding.{length-filter_map-le, length-filter-le}
 
 not_above : (n : ℕ) → n ≤ 0 → nat_lt 0 n ≡ false
 not_above n h = grind (arith, nat_tests)

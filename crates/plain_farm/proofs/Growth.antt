@@ -9,7 +9,7 @@ use Rattle.farm_entry.specs.declared.command.Command.{Command}
 use Rattle.farm_entry.specs.declared.entry.Entry.{Entry}
 use Rattle.farm_entry.proofs.Induct.{IsLegal-first, IsLegal-push, IsLegal-pushed}
 use Rattle.plain_farm.specs.Stops.{StopsAt}
-use Rattle.plain_farm.proofs.Items.{take-at}
+use Rattle.plain_history.proofs.Items.{take-at}
 
 -- an entry may come next exactly where it is the one that its command adds
 

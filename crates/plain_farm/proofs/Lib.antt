@@ -1,9 +1,5 @@
-pub mod Items
-pub mod Asked
-pub mod Passes
-pub mod Histories
 pub mod Beliefs
-pub mod Holding
 pub mod Few
-pub mod Repeats
 pub mod Growth
+pub mod Histories
+pub mod Repeats

@@ -1,5 +1,3 @@
-pub mod Held
 pub mod Loads
 pub mod Next
 pub mod Stops
-pub mod Tests

@@ -5,10 +5,9 @@ ghost use Rattle.farm_entry.specs.Answer.{asks_for, key_of, known_answer, makes_
 ghost use Rattle.farm_entry.specs.Ask.{opening_of};
 ghost use Rattle.farm_entry.specs.Legal.{IsLegal};
 
-use crate::ask::opening_of;
-use crate::filters::{place_of_key, place_of_report};
 use farm_entry::{Answer, Command, Entry, OpenAsk, Opening, Refusal, What};
 use farm_types::{Key, Memory};
+use plain_history::{opening_of, place_of_key, place_of_report};
 use std::alloc::Global;
 use std::ops::Deref;
 

@@ -7,20 +7,19 @@ ghost use Rattle.farm_entry.specs.History.{opening_numbered, openings};
 ghost use Rattle.farm_entry.specs.Legal.{IsLegal};
 ghost use Rattle.plain_farm.specs.Next.{next_as};
 
-use crate::ask::opening_of;
 use crate::due_run::reruns_at;
-use crate::filters::{
-    all_leases_count, opening_numbered, openings_count, orders_count, reruns, runs, same_stage,
-};
 use crate::orders::{Next, day_in};
 use crate::pages::budget_of_search;
-use crate::settings::lease_ms;
 use crate::standings::{is_active, is_fail, standing};
 use farm_entry::{
     Answer, BoxedOpening, DueRun, Entry, Fate, Lease, MAX_SEARCHES, OpenAsk, Opening, Refusal,
     Standing, What,
 };
 use farm_types::{Key, Memory, Moment, Name, Stage};
+use plain_history::{
+    all_leases_count, lease_ms, opening_numbered, opening_of, openings_count, orders_count, reruns,
+    runs, same_stage,
+};
 use std::alloc::Global;
 use weight_exact::{Factors, Run, Verdict};
 

@@ -7,13 +7,12 @@ ghost use Rattle.farm_entry.specs.Legal.{IsLegal};
 
 use crate::answer_known::known_answer;
 use crate::answer_new::{cancel_answer, lease_answer, open_answer, report_answer, revert_answer};
-use crate::ask::opening_of;
 use crate::due_run::next_run;
-use crate::filters::{lease_of, opening_numbered};
 use crate::orders::next_order_at;
 use crate::pages::{order_page, page_of, totals};
 use farm_entry::{Answer, Command, Entry, MAX_ENTRIES, Refusal, Reply};
 use farm_types::{Memory, Moment};
+use plain_history::{lease_of, opening_numbered, opening_of};
 use std::alloc::Global;
 
 /// The later of two moments.

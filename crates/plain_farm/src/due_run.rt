@@ -11,15 +11,13 @@ ghost use Rattle.farm_entry.specs.History.{opening_in, openings, runs};
 ghost use Rattle.farm_entry.specs.Legal.{IsLegal};
 ghost use Rattle.farm_entry.specs.Setup.{setup_of};
 ghost use Rattle.farm_entry.specs.Standing.{standing};
-ghost use Rattle.plain_farm.specs.Held.{IsHeld};
+ghost use Rattle.plain_history.specs.Held.{IsHeld};
 ghost use Rattle.farm_entry.specs.declared.standing.Standing.TheVariants.{Searching};
 
-use crate::entries::opening_in;
-use crate::filters::{is_reported, last_lease, leases, reruns, same_stage};
-use crate::lists::push_some;
 use crate::standings::{belief, standing};
 use farm_entry::{DueRun, Entry, Lease, Opening, Standing, What};
 use farm_types::{Memory, Stage};
+use plain_history::{is_reported, last_lease, leases, opening_in, push_some, reruns, same_stage};
 use posterior::Belief;
 use run_plan::{due_search, due_verify};
 use std::alloc::Global;

@@ -8,37 +8,26 @@
 //! Most calls speak of legal histories, and of searches that were opened in them: the laws of `farm_entry` give what a
 //! belief asks for, that runs are in range and within the budget. [`first_illegal`] takes any list.
 //!
-//! It stands on `farm_entry` for the types and the definitions, on `posterior`, `threshold_pick` and `run_plan` for the
-//! belief of a search and the position to run next, on `revert_orders` for the day of a moment, and on the crates below
-//! them for values. The layer above may use every name below. Its tests stand in `finder_tests`.
+//! It stands on `plain_history` for what a history holds, on `farm_entry` for the types and the definitions, on
+//! `posterior`, `threshold_pick` and `run_plan` for the belief of a search and the position to run next, on
+//! `revert_orders` for the day of a moment, and on the crates below them for values. The layer above may use every name
+//! below. Its tests stand in `finder_tests`.
 #![tactic(auto)]
 
 mod answer_known;
 mod answer_new;
 mod answers;
-mod ask;
 mod due_run;
-mod entries;
-mod filters;
 mod legal;
-mod lists;
 mod orders;
 mod pages;
 mod reply;
-mod settings;
 mod standings;
 
 pub use answers::{answer, moment_used};
-pub use ask::opening_of;
 pub use due_run::{due, due_runs, is_open, next_run, open_leases, open_positions, plan};
-pub use filters::{
-    all_leases_count, counted, is_reported, last_lease, lease_of, leases, opening_numbered,
-    openings_count, order_lines, orders_count, place_of_key, place_of_report, reruns, runs,
-    was_cancelled, went_over,
-};
 pub use legal::{command_of, first_illegal, is_next};
 pub use orders::{Confirmed, Next, confirmed_searches, day_in, next_order_at};
 pub use pages::{budget_of_search, order_page, page_of, shares_of, totals};
 pub use reply::{reply_at, reply_to};
-pub use settings::{daily_limit, lease_ms, settings_of, zone_minutes};
 pub use standings::{belief, first_belief, named_commit, standing};

@@ -9,16 +9,13 @@ ghost use Rattle.farm_entry.specs.History.{opening_in};
 ghost use Rattle.farm_entry.specs.Legal.{IsLegal};
 ghost use Rattle.farm_entry.specs.Orders.{confirmed_at, confirmed_searches, day_in, next_order_at, ordered};
 ghost use Rattle.farm_entry.specs.Standing.{standing};
-ghost use Rattle.plain_farm.specs.Held.{IsHeld};
+ghost use Rattle.plain_history.specs.Held.{IsHeld};
 ghost use Rattle.plain_farm.specs.Next.{confirmed_as, next_as, searches_as};
 
-use crate::entries::opening_in;
-use crate::filters::order_lines;
-use crate::lists::push_some;
-use crate::settings::{daily_limit, zone_minutes};
 use crate::standings::{commit_of, standing};
 use farm_entry::{Entry, Opening, OrderLine, Standing, What};
 use farm_types::{CommitId, Memory, Moment};
+use plain_history::{daily_limit, opening_in, order_lines, push_some, zone_minutes};
 use revert_orders::day_of;
 use std::alloc::Global;
 

@@ -2,8 +2,8 @@
 
 ghost use Rattle.std.specs.Prelude.{◌≡◌, map, count_by, Contains, IfOk};
 ghost use Rattle.std.specs.Option.{option_map};
-ghost use Rattle.plain_farm.specs.Held.{IsHeld};
-ghost use Rattle.plain_farm.specs.Tests.{is_some_and};
+ghost use Rattle.plain_history.specs.Held.{IsHeld};
+ghost use Rattle.plain_history.specs.Tests.{is_some_and};
 ghost use Rattle.flake_rate.specs.Miss.{FitsRate};
 ghost use Rattle.farm_entry.specs.History.{is_counted, opening_in, openings, order_lines, report_in, reports};
 ghost use Rattle.farm_entry.specs.Legal.{IsLegal};
@@ -11,15 +11,16 @@ ghost use Rattle.farm_entry.specs.Pages.{is_ended_otherwise, page_of, shares_of,
 ghost use Rattle.farm_entry.specs.Setup.{budget_of_search};
 ghost use Rattle.farm_entry.specs.Standing.{is_confirmed, is_searching, is_verifying, standing};
 
-use crate::entries::{opening_in, report_in};
-use crate::filters::{is_counted, leases, openings_count, order_lines, orders_count, reruns, runs};
-use crate::lists::push_some;
 use crate::standings::{
     belief, first_belief, is_active, is_confirmed, is_searching, is_verifying, named_commit,
     standing,
 };
 use farm_entry::{Entry, Opening, OrderPage, SearchPage, Shares, Standing, Totals, What};
 use farm_types::Memory;
+use plain_history::{
+    is_counted, leases, opening_in, openings_count, order_lines, orders_count, push_some,
+    report_in, reruns, runs,
+};
 use std::alloc::Global;
 
 /// How many runs the exact arithmetic of a search has room for.

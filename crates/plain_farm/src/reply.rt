@@ -5,14 +5,14 @@ ghost use Rattle.farm_entry.specs.History.{opening_numbered, openings};
 ghost use Rattle.farm_entry.specs.Setup.{commit_of};
 ghost use Rattle.std.specs.Option.{option_map};
 ghost use Rattle.farm_entry.specs.Legal.{IsLegal};
-ghost use Rattle.plain_farm.specs.Held.{IsHeld};
+ghost use Rattle.plain_history.specs.Held.{IsHeld};
 ghost use Rattle.farm_entry.specs.Reply.{reply_at, reply_to, reply_to_report};
 
-use crate::filters::{lease_of, opening_numbered};
 use crate::pages::budget_of_search;
 use crate::standings::{commit_of, standing};
 use farm_entry::{Entry, Fate, Lease, Opening, Reply, What};
 use farm_types::Memory;
+use plain_history::{lease_of, opening_numbered};
 use std::alloc::Global;
 use std::ops::Deref;
 use weight_exact::Verdict;

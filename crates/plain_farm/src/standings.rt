@@ -12,9 +12,9 @@ ghost use Rattle.farm_entry.specs.Setup.{commit_of, setup_of};
 ghost use Rattle.farm_entry.specs.Standing.{is_active, is_confirmed, is_searching, is_verifying, named_commit, standing, standing_of_outcome, standing_of_reached};
 ghost use Rattle.plain_farm.specs.Loads.{LoadsFit};
 
-use crate::filters::{reruns, runs, was_cancelled, went_over};
 use farm_entry::{Entry, Opening, Standing};
 use farm_types::{CommitId, Memory};
+use plain_history::{reruns, runs, was_cancelled, went_over};
 use posterior::Belief;
 use std::alloc::Global;
 use std::marker::Brand;

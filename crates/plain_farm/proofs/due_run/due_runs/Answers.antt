@@ -4,8 +4,8 @@ use Rattle.farm_entry.specs.Due.{due}
 use Rattle.farm_entry.specs.History.{openings}
 use Rattle.farm_entry.specs.declared.lease.DueRun.{DueRun}
 use Rattle.farm_entry.specs.declared.opening.Opening.{Opening}
-use Rattle.plain_farm.proofs.Holding.{is_held}
-use Rattle.plain_farm.proofs.Passes.{made-upto}
+use Rattle.plain_history.proofs.Holding.{is_held}
+use Rattle.plain_history.proofs.Passes.{made-upto}
 use Rattle.plain_farm.proofs.due_run.due_runs.Goals as goal
 
 pub due_in-requires-clause-held : goal.due_in-requires-clause-held

@@ -3,7 +3,7 @@ use Rattle.std.proofs.lemmas.List.{take_all}
 use Rattle.farm_rules.specs.Orders.{earlier, earliest}
 use Rattle.plain_farm.specs.Next.{confirmed_as, searches_as}
 use Rattle.plain_farm.specs.declared.orders.Confirmed.{Confirmed}
-use Rattle.plain_farm.proofs.Items.{drop-at}
+use Rattle.plain_history.proofs.Items.{drop-at}
 use Rattle.plain_farm.proofs.orders.+earliest.Goals as goal
 
 pub returns-in-len1-up : goal.returns-in-len1-up

@@ -2,7 +2,7 @@ use Rattle.std.proofs.Common.{◌≡◌, filter, map, not, sym, ap, ◌∙◌, r
 use Rattle.farm_rules.specs.Orders.{has_order}
 use Rattle.farm_entry.specs.Orders.{ordered}
 use Rattle.plain_farm.specs.Next.{confirmed_as, searches_as}
-use Rattle.plain_farm.proofs.Items.{filter-map}
+use Rattle.plain_history.proofs.Items.{filter-map}
 use Rattle.plain_farm.proofs.orders.candidates.Goals as goal
 
 pub returns : goal.returns

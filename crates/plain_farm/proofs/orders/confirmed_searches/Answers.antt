@@ -8,8 +8,8 @@ use Rattle.farm_entry.specs.Orders.{confirmed_at}
 use Rattle.farm_entry.specs.Standing.{standing}
 use Rattle.farm_entry.specs.declared.opening.Opening.{Opening}
 use Rattle.plain_farm.specs.Next.{confirmed_as, searches_as}
-use Rattle.plain_farm.proofs.Holding.{is_held}
-use Rattle.plain_farm.proofs.Passes.{made-upto, option-mapped}
+use Rattle.plain_history.proofs.Holding.{is_held}
+use Rattle.plain_history.proofs.Passes.{made-upto, option-mapped}
 use Rattle.plain_farm.proofs.orders.confirmed_searches.Goals as goal
 
 pub confirmed_in-requires-clause-held : goal.confirmed_in-requires-clause-held

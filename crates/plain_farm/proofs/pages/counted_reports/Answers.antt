@@ -1,7 +1,7 @@
 use Rattle.std.proofs.Common.{◌≡◌, count_by, sym, ◌∙◌, rules}
 use Rattle.farm_entry.specs.History.{is_counted, report_in}
-use Rattle.plain_farm.specs.Tests.{is_some_and}
-use Rattle.plain_farm.proofs.Items.{count_by-filter_map}
+use Rattle.plain_history.specs.Tests.{is_some_and}
+use Rattle.plain_history.proofs.Items.{count_by-filter_map}
 use Rattle.plain_farm.proofs.pages.counted_reports.Goals as goal
 
 pub returns : goal.returns

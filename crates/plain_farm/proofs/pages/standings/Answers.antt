@@ -3,8 +3,8 @@ use Rattle.std.specs.List.{cons_option}
 use Rattle.farm_entry.specs.History.{openings}
 use Rattle.farm_entry.specs.Standing.{standing}
 use Rattle.farm_entry.specs.declared.standing.Standing.{Standing}
-use Rattle.plain_farm.proofs.Holding.{is_held}
-use Rattle.plain_farm.proofs.Passes.{mapped-upto}
+use Rattle.plain_history.proofs.Holding.{is_held}
+use Rattle.plain_history.proofs.Passes.{mapped-upto}
 use Rattle.plain_farm.proofs.pages.standings.Goals as goal
 
 pub standing_in-requires-clause-held : goal.standing_in-requires-clause-held

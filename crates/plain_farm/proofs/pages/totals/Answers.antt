@@ -1,7 +1,7 @@
 use Rattle.std.proofs.Common.{◌≡◌, length, ◌∙◌}
 use Rattle.farm_entry.specs.Pages.{is_ended_otherwise, searches_that}
 use Rattle.farm_entry.specs.Standing.{is_confirmed, is_searching, is_verifying}
-use Rattle.plain_farm.proofs.Holding.{searches_that-counted}
+use Rattle.plain_history.proofs.Holding.{searches_that-counted}
 use Rattle.plain_farm.proofs.pages.totals.Goals as goal
 
 pub returns : goal.returns

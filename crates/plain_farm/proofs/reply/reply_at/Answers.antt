@@ -5,9 +5,9 @@ use Rattle.std.proofs.lemmas.Option.{slice_get_past, slice_get_read}
 use Rattle.farm_entry.specs.Reply.{reply_at, reply_to}
 use Rattle.farm_entry.specs.declared.entry.Entry.{Entry}
 use Rattle.farm_entry.specs.declared.reply.Reply.{Reply}
-use Rattle.plain_farm.specs.Held.{IsHeld}
+use Rattle.plain_history.specs.Held.{IsHeld}
 use Rattle.plain_farm.proofs.Growth.{beginning}
-use Rattle.plain_farm.proofs.Holding.{is_held_early}
+use Rattle.plain_history.proofs.Holding.{is_held_early}
 use Rattle.plain_farm.proofs.reply.reply_at.Goals as goal
 
 pub reply_to-requires-clause-legal : goal.reply_to-requires-clause-legal

@@ -1,0 +1,9 @@
+use Rattle.std.proofs.Common.{◌≡◌, count_by, is_some, sym, ◌∙◌, rules}
+use Rattle.farm_entry.specs.History.{opening_in}
+use Rattle.plain_history.proofs.Items.{length-filter_map}
+use Rattle.plain_history.proofs.filters.openings_count.Goals as goal
+
+pub returns : goal.returns
+returns c =
+    let counted : c.count.result ≡ count_by (λ e. is_some (opening_in e.what)) c.args.history.now = search rules in
+    counted ∙ sym (length-filter_map (λ e. opening_in e.what) c.args.history.now)

@@ -1,0 +1,265 @@
+//! What a history holds: its searches, the runs that were handed out, their reports, the orders. Each is found by going
+//! through the entries in order.
+
+ghost use Rattle.std.specs.Prelude.{◌≡◌, ◌<◌, length, Contains, IfSome, IfOk};
+ghost use Rattle.std.specs.Option.{option_copied};
+ghost use Rattle.farm_entry.specs.History.{all_leases, counted, counted_run, has_key, is_counted, is_lease_for, is_of_search, is_over, is_report_of, is_reported, last_lease, lease_of, leases, opening_numbered, openings, order_lines, place_of_key, place_of_report, reruns, run_of, runs, same_stage, was_cancelled, went_over};
+
+use crate::entries::{
+    cancelled_in, is_opening, is_order, key_in, lease_in, opening_in, order_in, report_in,
+};
+use crate::lists::push_some;
+use farm_entry::{Entry, Fate, Lease, Opening, OrderLine, Report};
+use farm_types::{Key, Memory, Stage};
+use std::alloc::Global;
+use weight_exact::{Run, Verdict};
+
+/// How many searches were opened.
+pub fn openings_count(history: &[Entry]) -> usize
+    ensures { result ≡ length (openings history.now) }
+{
+    let openings = history.iter().filter(|entry| is_opening(&entry.what));
+    openings.count()
+}
+
+/// How many runs were handed out.
+pub fn all_leases_count(history: &[Entry]) -> usize
+    ensures { result ≡ length (all_leases history.now) }
+{
+    let leases = history.iter().filter_map(|entry| lease_in(&entry.what));
+    leases.count()
+}
+
+/// How many orders were given.
+pub fn orders_count(history: &[Entry]) -> usize
+    ensures { result ≡ length (order_lines history.now) }
+{
+    let orders = history.iter().filter(|entry| is_order(&entry.what));
+    orders.count()
+}
+
+/// The search with a number.
+pub fn opening_numbered(history: &[Entry], search: u32) -> Option<&Opening>
+    ensures found { option_copied result ≡ opening_numbered history.now search }
+    ensures held { IfSome result (λ opening. Contains (openings history.now) opening.now) }
+{
+    for entry in history {
+        if let Some(opening) = opening_in(&entry.what)
+            && opening.search == search
+        {
+            return Some(opening);
+        }
+    }
+    None
+}
+
+/// The lease of a run.
+pub fn lease_of(history: &[Entry], run: u32) -> Option<Lease>
+    ensures { result ≡ lease_of history.now run }
+{
+    let mut leases = history.iter().filter_map(|entry| lease_in(&entry.what));
+    leases.find(|lease| lease.run == run)
+}
+
+/// The leases of a search, at both stages.
+pub fn leases(alloc: Global, history: &[Entry], search: u32) -> Result<Vec<Lease>, Memory>
+    ensures { IfOk result (λ found. found.items ≡ leases history.now search) }
+{
+    let leases = history.iter().filter_map(|entry| lease_in(&entry.what));
+    Ok(
+        leases
+            .filter(|lease| lease.search == search)
+            .collect(alloc)?,
+    )
+}
+
+/// Whether a run has a report.
+pub fn is_reported(history: &[Entry], run: u32) -> bool
+    ensures { result ≡ is_reported history.now run }
+{
+    let mut reports = history.iter().filter_map(|entry| report_in(&entry.what));
+    reports.any(|report| report.run == run)
+}
+
+/// Whether two stages are the same.
+pub fn same_stage(a: Stage, b: Stage) -> bool
+    ensures { result ≡ same_stage a b }
+{
+    match (a, b) {
+        (Stage::Search, Stage::Search) | (Stage::Verify, Stage::Verify) => true,
+        _ => false,
+    }
+}
+
+/// Whether a report counts.
+pub fn is_counted(fate: Fate) -> bool
+    ensures { result ≡ is_counted fate }
+{
+    match fate {
+        Fate::Counted => true,
+        _ => false,
+    }
+}
+
+/// Whether a report took its search past its budget.
+fn is_over(fate: Fate) -> bool
+    ensures { result ≡ is_over fate }
+{
+    match fate {
+        Fate::Over => true,
+        _ => false,
+    }
+}
+
+/// A lease's run with its verdict, where the lease is of a search at a stage.
+fn run_of(search: u32, stage: Stage, verdict: Verdict, lease: Lease) -> Option<Run>
+    ensures { result ≡ run_of search stage verdict lease }
+{
+    if lease.search == search && same_stage(lease.stage, stage) {
+        Some(Run {
+            position: lease.position,
+            verdict,
+        })
+    } else {
+        None
+    }
+}
+
+/// The run of a report that counts, where it is of a search at a stage.
+fn counted_run(history: &[Entry], search: u32, stage: Stage, report: Report) -> Option<Run>
+    ensures { result ≡ counted_run history.now search stage report }
+{
+    if !is_counted(report.fate) {
+        return None;
+    }
+    match lease_of(history, report.run) {
+        Some(lease) => run_of(search, stage, report.verdict, lease),
+        None => None,
+    }
+}
+
+/// The runs that count for a search at a stage.
+pub fn counted(
+    alloc: Global,
+    history: &[Entry],
+    search: u32,
+    stage: Stage,
+) -> Result<Vec<Run>, Memory>
+    ensures { IfOk result (λ found. found.items ≡ counted history.now search stage) }
+{
+    let reports = history.iter().filter_map(|entry| report_in(&entry.what));
+    Ok(
+        reports
+            .filter_map(|report| counted_run(history, search, stage, report))
+            .collect(alloc)?,
+    )
+}
+
+/// The runs by which the belief of a search is made.
+pub fn runs(alloc: Global, history: &[Entry], search: u32) -> Result<Vec<Run>, Memory>
+    ensures { IfOk result (λ found. found.items ≡ runs history.now search) }
+{
+    counted(alloc, history, search, Stage::Search)
+}
+
+/// The reruns by which its culprit is verified.
+pub fn reruns(alloc: Global, history: &[Entry], search: u32) -> Result<Vec<Run>, Memory>
+    ensures { IfOk result (λ found. found.items ≡ reruns history.now search) }
+{
+    counted(alloc, history, search, Stage::Verify)
+}
+
+/// Whether a lease is of a search.
+fn is_of_search(search: u32, lease: Option<Lease>) -> bool
+    ensures { result ≡ is_of_search search lease }
+{
+    match lease {
+        None => false,
+        Some(lease) => lease.search == search,
+    }
+}
+
+/// Whether a report of a search took it past its budget.
+pub fn went_over(history: &[Entry], search: u32) -> bool
+    ensures { result ≡ went_over history.now search }
+{
+    let mut reports = history.iter().filter_map(|entry| report_in(&entry.what));
+    reports.any(|report| {
+        is_over(report.fate) && is_of_search(search, lease_of(history, report.run))
+    })
+}
+
+/// Whether a search was cancelled.
+pub fn was_cancelled(history: &[Entry], search: u32) -> bool
+    ensures { result ≡ was_cancelled history.now search }
+{
+    let mut cancellations = history.iter().filter_map(|entry| cancelled_in(&entry.what));
+    cancellations.any(|cancelled| cancelled == search)
+}
+
+/// Whether an entry is a lease of a search.
+fn is_lease_for(search: u32, entry: &Entry) -> bool
+    ensures { result ≡ is_lease_for search entry.now }
+{
+    is_of_search(search, lease_in(&entry.what))
+}
+
+/// The place of a search's last lease, or 0, where no lease can stand, if it was never leased.
+pub fn last_lease(history: &[Entry], search: u32) -> usize
+    ensures { result ≡ last_lease history.now search }
+{
+    let mut found = 0;
+    for (place, entry) in history.iter().enumerate() {
+        if is_lease_for(search, entry) {
+            found = place;
+        }
+    }
+    found
+}
+
+/// Whether an entry holds a key.
+fn has_key(key: Key, entry: &Entry) -> bool
+    ensures { result ≡ has_key key entry.now }
+{
+    match key_in(&entry.what) {
+        None => false,
+        Some(other) => other.0 == key.0,
+    }
+}
+
+/// The place of the entry that holds a key.
+pub fn place_of_key(history: &[Entry], key: Key) -> Option<usize>
+    ensures found { result ≡ place_of_key history.now key }
+    ensures within { IfSome result (λ place. place < length history.now) }
+{
+    history.iter().position(|entry| has_key(key, entry))
+}
+
+/// Whether an entry is the report of a run.
+fn is_report_of(run: u32, entry: &Entry) -> bool
+    ensures { result ≡ is_report_of run entry.now }
+{
+    match report_in(&entry.what) {
+        None => false,
+        Some(report) => report.run == run,
+    }
+}
+
+/// The place of the report of a run.
+pub fn place_of_report(history: &[Entry], run: u32) -> Option<usize>
+    ensures found { result ≡ place_of_report history.now run }
+    ensures within { IfSome result (λ place. place < length history.now) }
+{
+    history.iter().position(|entry| is_report_of(run, entry))
+}
+
+/// All orders, by their numbers.
+pub fn order_lines(alloc: Global, history: &[Entry]) -> Result<Vec<OrderLine>, Memory>
+    ensures { IfOk result (λ lines. lines.items ≡ order_lines history.now) }
+{
+    let mut lines = Vec::new(alloc);
+    for entry in history {
+        push_some(&mut lines, order_in(&entry.what)?)?;
+    }
+    Ok(lines)
+}
