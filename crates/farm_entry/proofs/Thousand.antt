@@ -8,7 +8,8 @@ use Rattle.std.proofs.lemmas.List.FromFn.{get_or-map-range_with_len}
 use Rattle.farm_types.specs.CommitId.{id_bytes}
 use Rattle.farm_types.specs.declared.commit_id.CommitId.{CommitId}
 use Rattle.suspect_range.specs.Faults.{range_fault}
-use Rattle.suspect_range.specs.Range.{IsSuspectRange, IsWeight, commits_of}
+use Rattle.suspect_range.specs.Range.{IsSuspectRange, commits_of}
+use Rattle.weight_exact.specs.Limits.{IsWeight}
 use Rattle.suspect_range.specs.declared.suspect.Suspect.{Suspect}
 use Rattle.suspect_range.proofs.Legal.{no_fault-from_IsSuspectRange}
 use Rattle.farm_entry.specs.Answer.{add_opening, or_else, refuse_opening}

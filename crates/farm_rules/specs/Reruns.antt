@@ -1,15 +1,8 @@
 -- What the reruns of a named suspect come to.
-use Rattle.std.specs.Prelude.{ℕ, ◌-◌, ◌==◌, nat_le, nat_lt, Bool, true, false, not, ◌&&◌, ◌||◌, List, [], ◌∷◌, ◌++◌, count_by, if◌then◌else◌}
+use Rattle.std.specs.Prelude.{ℕ, ◌-◌, ◌==◌, nat_le, nat_lt, Bool, true, false, ◌&&◌, ◌||◌, List, [], ◌∷◌, ◌++◌, count_by, if◌then◌else◌}
 use Rattle.std.specs.List.{list_any}
-use Rattle.weight_exact.specs.Load.{is_fail}
+use Rattle.weight_exact.specs.Counts.{is_fail_at, is_pass_at}
 use Rattle.weight_exact.specs.declared.run.Run.{Run}
-
--- whether a run failed at a position, and whether it passed there
-abbrev pub is_fail_at : (position : ℕ) → Run → Bool
-is_fail_at position r = is_fail r.verdict && r.position == position
-
-abbrev pub is_pass_at : (position : ℕ) → Run → Bool
-is_pass_at position r = not (is_fail r.verdict) && r.position == position
 
 -- whether a rerun speaks against the culprit: it passed with the culprit in its tree, or failed with it out
 abbrev pub is_against : (culprit : ℕ) → Run → Bool

@@ -1,6 +1,6 @@
 //! The small values of the farm, each of which holds exactly what was read: ids of commits, names, moments in time,
-//! keys of requests, the stage of a run, and want of memory as an error of its own. The limits of time zones stand here
-//! too, for the layers above that share them.
+//! keys of requests, the stage of a run, and want of memory as an error of its own. The limits of time zones and of
+//! days stand here too, for the layers above that share them.
 //!
 //! The crate stands on `hex` for digits and on `thiserror` for the texts of its refusals, and on nothing of the farm.
 //! A value is made by the one call that tests its limits, so the layers above take it as legal and test nothing again.
@@ -22,7 +22,7 @@ mod zone;
 pub use commit_id::{CommitId, ID_BYTES, ID_DIGITS, IdFault};
 pub use key::Key;
 pub use memory::Memory;
-pub use moment::{MOMENT_MAX_MS, MOMENT_MIN_MS, Moment, MomentFault};
+pub use moment::{LAST_DAY, MOMENT_MAX_MS, MOMENT_MIN_MS, Moment, MomentFault};
 pub use name::{NAME_FIRST_BYTE, NAME_LAST_BYTE, NAME_MAX_BYTES, Name, NameFault};
 pub use stage::Stage;
 pub use zone::{ZONE_MAX_MINUTES, ZONE_MIN_MINUTES};

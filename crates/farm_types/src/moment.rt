@@ -10,6 +10,9 @@ pub const MOMENT_MIN_MS: u64 = 86_400_000;
 /// The latest moment, 2100-01-01 in UTC, in milliseconds since 1970-01-01.
 pub const MOMENT_MAX_MS: u64 = 4_102_444_800_000;
 
+/// The last day that a moment can fall on in any time zone, 2100-01-01, in days since 1970-01-01.
+pub const LAST_DAY: u32 = 47_482;
+
 /// A moment in time: milliseconds since 1970-01-01 in UTC with no leap seconds, from [`MOMENT_MIN_MS`] to
 /// [`MOMENT_MAX_MS`]. Moments are ordered as their numbers are.
 #[derive(Clone, Copy, Debug, PartialEq, Eq, PartialOrd, Ord, Hash)]

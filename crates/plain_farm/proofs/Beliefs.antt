@@ -3,7 +3,8 @@ use Rattle.std.proofs.Common.{◌≡◌, ℕ, ◌+◌, ◌-◌, ◌*◌, ◌<◌
 use Rattle.std.proofs.lemmas.List.{length-map}
 use Rattle.std.proofs.lemmas.List.Elements.{All-map, All-push}
 use Rattle.flake_rate.proofs.Values.{miss_within, rate_within}
-use Rattle.suspect_range.specs.Range.{IsSuspectRange, IsWeight}
+use Rattle.suspect_range.specs.Range.{IsSuspectRange}
+use Rattle.weight_exact.specs.Limits.{IsWeight}
 use Rattle.suspect_range.specs.declared.suspect.Suspect.{Suspect}
 use Rattle.weight_exact.specs.Limits.{ArePriors}
 use Rattle.weight_exact.specs.Weights.{Setup, AreInRange, cumulative, hypotheses, prior, suspects, total}

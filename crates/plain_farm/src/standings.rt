@@ -2,7 +2,8 @@
 
 ghost use Rattle.std.specs.Prelude.{◌≡◌, ◌≤◌, [], map, count_by, Contains, IfOk};
 ghost use Rattle.flake_rate.specs.Miss.{FitsRate};
-ghost use Rattle.farm_rules.specs.Reruns.{enough, is_against, is_fail_at, is_pass_at, outcome, vindicated};
+ghost use Rattle.farm_rules.specs.Reruns.{enough, is_against, outcome, vindicated};
+ghost use Rattle.weight_exact.specs.Counts.{is_fail_at, is_pass_at};
 ghost use Rattle.weight_exact.specs.Load.{is_fail};
 ghost use Rattle.weight_exact.specs.Weights.{AreInRange};
 ghost use Rattle.posterior.specs.StandsFor.{StandsFor};

@@ -10,7 +10,7 @@ use Rattle.weight_exact.specs.declared.run.Verdict.{Verdict}
 use Rattle.weight_exact.specs.declared.run.Verdict.TheVariants.{Pass, Fail}
 use Rattle.weight_exact.proofs.Floors.{floor_no_miss, floor_may_miss, live_no_miss, live_may_miss}
 use Rattle.posterior.specs.Kept.{at}
-use Rattle.posterior.specs.StandsFor.{is_fail_at, is_pass_at}
+use Rattle.weight_exact.specs.Counts.{is_fail_at, is_pass_at}
 use Rattle.posterior.specs.Counted.{AreCleared}
 use Rattle.posterior.proofs.CountLemmas.{count_by-cons, Within}
 

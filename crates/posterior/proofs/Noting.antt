@@ -11,7 +11,7 @@ use Rattle.weight_exact.specs.declared.run.Verdict.{Verdict}
 use Rattle.weight_exact.specs.declared.run.Verdict.TheVariants.{Pass, Fail}
 use Rattle.weight_exact.proofs.Floors.{floor_push_pass, floor_push_fail, floor_may_miss, load_push_fail_above, load_push_may_miss, load_push_fail_below, load_push_pass_below}
 use Rattle.posterior.specs.Kept.{Kept, at}
-use Rattle.posterior.specs.StandsFor.{is_fail_at, is_pass_at}
+use Rattle.weight_exact.specs.Counts.{is_fail_at, is_pass_at}
 use Rattle.posterior.proofs.CountLemmas.{count_by-cons}
 use Rattle.posterior.proofs.Counting.{at-set_other, at-set_same}
 use Rattle.posterior.proofs.Stands.{Matches}

@@ -10,7 +10,8 @@ use Rattle.weight_exact.proofs.SumTo.{sum_to-same, sum_to-mul_left, member-le-su
 use Rattle.weight_exact.proofs.Budgets.{Fits-fewer}
 use Rattle.posterior.specs.Kept.{Kept, at, whole}
 use Rattle.posterior.specs.Counted.{counted}
-use Rattle.posterior.specs.StandsFor.{StandsFor, is_fail_at, is_pass_at}
+use Rattle.posterior.specs.StandsFor.{StandsFor}
+use Rattle.weight_exact.specs.Counts.{is_fail_at, is_pass_at}
 use Rattle.posterior.specs.BeliefFacts.{IsKept, weight_in}
 use Rattle.posterior.proofs.CountLemmas.{Within, count_by-either}
 use Rattle.posterior.proofs.LiveCounts.{AreCounts, within_live, fails_are_live, passes_are_live}

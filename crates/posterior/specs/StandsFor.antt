@@ -1,17 +1,11 @@
 -- What it means that a belief stands for a list of runs.
-use Rattle.std.specs.Prelude.{◌≡◌, ℕ, ◌*◌, ◌^◌, ◌<◌, ◌≤◌, List, length, Bool, not, ◌&&◌, ◌==◌, count_by}
+use Rattle.std.specs.Prelude.{◌≡◌, ℕ, ◌*◌, ◌^◌, ◌<◌, ◌≤◌, List, length, count_by}
+use Rattle.weight_exact.specs.Counts.{is_fail_at, is_pass_at}
 use Rattle.weight_exact.specs.Weights.{hypotheses, total, cumulative, AreInRange}
-use Rattle.weight_exact.specs.Load.{is_fail, floor, load}
+use Rattle.weight_exact.specs.Load.{floor, load}
 use Rattle.weight_exact.specs.Budget.{run_budget}
 use Rattle.weight_exact.specs.declared.run.Run.{Run}
 use Rattle.posterior.specs.Kept.{Kept, at, whole}
-
--- whether a run failed, or passed, at a position
-abbrev pub is_fail_at : ℕ → Run → Bool
-is_fail_at p r = is_fail r.verdict && r.position == p
-
-abbrev pub is_pass_at : ℕ → Run → Bool
-is_pass_at p r = not (is_fail r.verdict) && r.position == p
 
 -- A belief stands for a list of runs where its floor and load are the list's, its numbers of fails and passes at each
 -- position above the floor are the list's, and its sums, one for each hypothesis, are the cumulative weights of Bayes'

@@ -6,6 +6,7 @@ use Rattle.jiff.specs.Types.{Date, Span, Day}
 use Rattle.jiff.specs.Words.{date_add, date_text, epoch_day, CanAddToDate, IsOnly, IsYmd}
 use Rattle.jiff_core.proofs.DateLemmas.{epoch_day-lt}
 use Rattle.jiff_core.specs.Calendar.{days_from_civil, day_count}
+use Rattle.farm_types.specs.declared.moment.TheConstants.{LAST_DAY}
 use Rattle.jiff_fmt.specs.Text.{pad2, year_text}
 
 sub_self : (n : ℕ) → pos n -ℤ pos n ≡ pos 0
@@ -30,7 +31,7 @@ module _ (first : Date) (is_first : IsYmd (pos 1970) (pos 1) (pos 1) first) wher
     date_add-first = omega (arith, signed_arith, date_add-days first z span is_days, epoch_day-first, same)
 
     -- which the calendar has up to the year 2100 and beyond
-    pub can_add-first : n ≤ 47_482 → CanAddToDate first span
+    pub can_add-first : n ≤ LAST_DAY → CanAddToDate first span
     can_add-first few = (can_add-days first z span is_days).1 (omega (arith, signed_arith, epoch_day-first, same))
 
   -- a date from 1970 on has ten characters, four of them for its year

@@ -3,8 +3,7 @@ ghost use Rattle.std.specs.String.{string_bytes};
 ghost use Rattle.jiff.specs.Types.{Date};
 ghost use Rattle.jiff.specs.Words.{date_text, epoch_day};
 
-use crate::LAST_DAY;
-use farm_types::Memory;
+use farm_types::{LAST_DAY, Memory};
 use jiff::ToSpan;
 use jiff::civil::date;
 use std::alloc::Global;

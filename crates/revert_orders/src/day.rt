@@ -2,10 +2,7 @@ ghost use Rattle.std.specs.Prelude.{◌≡◌, ◌≤◌, ◌≤ℤ◌};
 ghost use Rattle.farm_rules.specs.Day.{day_at};
 ghost use Rattle.farm_types.specs.Moment.{moment_ms};
 
-use farm_types::{Moment, ZONE_MAX_MINUTES, ZONE_MIN_MINUTES};
-
-/// The last day that a moment can fall on, 2100-01-01, in days since 1970-01-01.
-pub const LAST_DAY: u32 = 47_482;
+use farm_types::{LAST_DAY, Moment, ZONE_MAX_MINUTES, ZONE_MIN_MINUTES};
 
 const MS_PER_MINUTE: i64 = 60_000;
 

@@ -15,6 +15,6 @@ mod request;
 mod tests;
 
 pub use date::date_text;
-pub use day::{LAST_DAY, day_of};
+pub use day::day_of;
 pub use orders::{Orders, RevertOrder};
 pub use request::{Candidate, Draft, NoOrder};

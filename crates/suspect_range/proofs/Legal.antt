@@ -5,8 +5,9 @@ use Rattle.std.proofs.lemmas.Bool.Decides.{nat_tests}
 use Rattle.std.specs.Option.{option_or}
 use Rattle.farm_types.specs.declared.commit_id.CommitId.{CommitId}
 use Rattle.farm_types.proofs.Places.{fails-from_none, position-none}
-use Rattle.suspect_range.specs.Faults.{calm_fault, count_fault, first_bad_weight, has_bad_weight, is_within, range_fault}
-use Rattle.suspect_range.specs.Range.{IsCalm, IsSuspectRange, IsWeight}
+use Rattle.suspect_range.specs.Faults.{calm_fault, count_fault, first_bad_weight, has_bad_weight, range_fault}
+use Rattle.suspect_range.specs.Range.{IsSuspectRange}
+use Rattle.weight_exact.specs.Limits.{IsCalm, IsWeight, is_within}
 use Rattle.suspect_range.specs.declared.fault.RangeFault.TheVariants.{RepeatedCommit, WeightRange}
 use Rattle.weight_exact.specs.declared.limits.TheConstants.{MAX_SUSPECTS, MAX_WEIGHT}
 use Rattle.suspect_range.specs.declared.suspect.Suspect.{Suspect}

@@ -1,5 +1,5 @@
 -- Why suspects make no range. Positions count the suspects from 1, since the base has position 0.
-use Rattle.std.specs.Prelude.{ℕ, List, length, take, find, position, not, nat_le, nat_lt, ◌==◌, ◌&&◌, ◌+◌, Bool, if◌then◌else◌, Option, Some, None}
+use Rattle.std.specs.Prelude.{ℕ, List, length, take, find, position, not, nat_lt, ◌==◌, ◌+◌, Bool, if◌then◌else◌, Option, Some, None}
 use Rattle.std.specs.List.{list_any, range_with_len}
 use Rattle.std.specs.Option.{option_map, option_or}
 use Rattle.farm_types.specs.CommitId.{same_id}
@@ -8,15 +8,12 @@ use Rattle.suspect_range.specs.Range.{commit_at, commits_of}
 use Rattle.suspect_range.specs.declared.suspect.Suspect.{Suspect}
 use Rattle.suspect_range.specs.declared.fault.RangeFault.{RangeFault}
 use Rattle.suspect_range.specs.declared.fault.RangeFault.TheVariants.{NoSuspects, TooManySuspects, WeightRange, CalmRange, RepeatedCommit}
-use Rattle.weight_exact.specs.declared.limits.TheConstants.{MAX_SUSPECTS, MAX_WEIGHT, MAX_CALM}
-
--- whether a number lies from 1 to a limit
-abbrev pub is_within : ℕ → ℕ → Bool
-is_within limit n = nat_le 1 n && nat_le n limit
+use Rattle.weight_exact.specs.Limits.{is_calm, is_weight}
+use Rattle.weight_exact.specs.declared.limits.TheConstants.{MAX_SUSPECTS}
 
 -- whether the weight of a suspect is out of range
 abbrev pub has_bad_weight : Suspect → Bool
-has_bad_weight suspect = not (is_within MAX_WEIGHT suspect.weight)
+has_bad_weight suspect = not (is_weight suspect.weight)
 
 -- the position of the first suspect whose weight is out of range
 abbrev pub first_bad_weight : List Suspect → Option ℕ
@@ -28,8 +25,8 @@ is_among commit suspects = list_any (λ suspect. same_id suspect.commit commit) 
 
 -- whether the commit at a position stands at an earlier position too
 abbrev pub is_repeat : CommitId → List Suspect → ℕ → Bool
-is_repeat base suspects place =
-    list_any (λ earlier. same_id earlier (commit_at base suspects place)) (take place (commits_of base suspects))
+is_repeat base suspects position =
+    list_any (λ earlier. same_id earlier (commit_at base suspects position)) (take position (commits_of base suspects))
 
 -- the first position from 1 on whose commit stands at an earlier position too
 abbrev pub first_repeat : CommitId → List Suspect → Option ℕ
@@ -42,7 +39,7 @@ count_fault count =
 
 -- a calm weight out of range
 abbrev pub calm_fault : ℕ → Option RangeFault
-calm_fault calm = if is_within MAX_CALM calm then None else Some (CalmRange calm)
+calm_fault calm = if is_calm calm then None else Some (CalmRange calm)
 
 -- why suspects make no range, if they make none: the first that stands of their count, a weight, the calm weight and
 -- a repeated commit

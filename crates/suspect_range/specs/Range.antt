@@ -2,7 +2,8 @@
 use Rattle.std.specs.Prelude.{ℕ, List, ◌∷◌, length, map, ◌-◌, ◌≤◌, ◌≢◌, All, AllPairs, slice_index, slice_index_or}
 use Rattle.farm_types.specs.declared.commit_id.CommitId.{CommitId}
 use Rattle.suspect_range.specs.declared.suspect.Suspect.{Suspect}
-use Rattle.weight_exact.specs.declared.limits.TheConstants.{MAX_SUSPECTS, MAX_WEIGHT, MAX_CALM}
+use Rattle.weight_exact.specs.Limits.{IsCalm, IsWeight}
+use Rattle.weight_exact.specs.declared.limits.TheConstants.{MAX_SUSPECTS}
 
 -- a base, the suspects above it in commit order, and the weight of "no suspect is the culprit"
 pub record RangeView : Type 0 where
@@ -21,14 +22,6 @@ commit_at base suspects position = slice_index_or (commits_of base suspects) pos
 -- the weight of the suspect at a position from 1 on
 abbrev pub weight_at : List Suspect → ℕ → ℕ
 weight_at suspects position = slice_index (map (λ suspect. suspect.weight) suspects) (position - 1)
-
--- a weight that a suspect may have
-abbrev pub IsWeight : ℕ → Type 0
-IsWeight weight = (1 ≤ weight) × (weight ≤ MAX_WEIGHT)
-
--- a calm weight that a range may have
-abbrev pub IsCalm : ℕ → Type 0
-IsCalm calm = (1 ≤ calm) × (calm ≤ MAX_CALM)
 
 -- the limits of a range, and that all of its commits differ
 pub record IsSuspectRange (base : CommitId) (suspects : List Suspect) (calm : ℕ) : Type 0 where

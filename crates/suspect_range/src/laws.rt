@@ -8,8 +8,8 @@ ghost use Rattle.suspect_range.specs.SameRange.{same_range, same_suspect};
 use crate::{Suspect, SuspectRange};
 use farm_types::CommitId;
 
-/// Suspects make a range exactly where there are 1 to 1,000 of them, each weight and the calm weight are in range, and
-/// all commits differ, the base's among them.
+/// Suspects make a range exactly where there are some, no more than a search may have, each weight and the calm weight
+/// are in range, and all commits differ, the base's among them.
 pub fn ranges_have_no_fault()
     ensures { (base : CommitId) (suspects : List Suspect) (calm : ℕ) →
         (range_fault base suspects calm ≡ None) ↔ IsSuspectRange base suspects calm }

@@ -49,7 +49,8 @@ impl Eq for SuspectRange {
 }
 
 impl SuspectRange {
-    ghost use Rattle.suspect_range.specs.Range.{IsSuspectRange, IsWeight, IsCalm, commit_at, weight_at};
+    ghost use Rattle.suspect_range.specs.Range.{IsSuspectRange, commit_at, weight_at};
+    ghost use Rattle.weight_exact.specs.Limits.{IsCalm, IsWeight};
 
     /// The range of these suspects, in commit order above the base, which takes no memory. The first fault in the order
     /// of [`RangeFault`] is answered.

@@ -12,7 +12,7 @@ pub mod laws;
 mod picks;
 mod threshold;
 
-pub use picks::{MAX_WIDTH, pick, plan_into};
+pub use picks::{pick, plan_into};
 
 #[cfg(test)]
 mod tests;

@@ -1,16 +1,13 @@
 //! The positions to run next.
 
 ghost use Rattle.std.specs.Prelude.{◌≡◌, ℕ, ◌+◌, ◌-◌, ◌*◌, ◌<◌, ◌≤◌, ◌^◌, length};
-ghost use Rattle.weight_exact.specs.declared.limits.TheConstants.{MAX_SUSPECTS};
+ghost use Rattle.weight_exact.specs.declared.limits.TheConstants.{BASIS_POINTS, MAX_SUSPECTS, MAX_WIDTH};
 ghost use Rattle.threshold_pick.specs.Sums.{sum_at, whole, suspects_in, RiseAbove};
 ghost use Rattle.threshold_pick.specs.Picks.{IsPick, ArePicks};
 
 use crate::threshold::Threshold;
 use std::sync::ledger::Ledger;
 use weight_exact::{Steps, Sums};
-
-/// The greatest number of positions that a search runs at once.
-pub const MAX_WIDTH: u8 = 8;
 
 /// The `j`-th of `k` positions to run next: of the suspects above the floor the one whose cumulative weight is nearest
 /// to `j` parts in `k` + 1 of the whole, and the smaller one on a tie.
@@ -21,7 +18,7 @@ pub fn pick<L: Ledger>(sums: &Sums, floor: u16, j: u8, k: u8, steps: &mut Steps<
     requires few { suspects_in sums.now ≤ MAX_SUSPECTS }
     requires some { floor < suspects_in sums.now }
     requires rising { RiseAbove floor sums.now }
-    requires room { whole sums.now * 10_000 < 2 ^ 128 }
+    requires room { whole sums.now * BASIS_POINTS < 2 ^ 128 }
     requires first { 1 ≤ j }
     requires last { j ≤ k }
     requires narrow { k ≤ MAX_WIDTH }
@@ -84,7 +81,7 @@ pub fn plan_into<L: Ledger>(sums: &Sums, floor: u16, k: u8, out: &mut [u16], ste
     requires few { suspects_in sums.now ≤ MAX_SUSPECTS }
     requires some { floor < suspects_in sums.now }
     requires rising { RiseAbove floor sums.now }
-    requires room { whole sums.now * 10_000 < 2 ^ 128 }
+    requires room { whole sums.now * BASIS_POINTS < 2 ^ 128 }
     requires narrow { k ≤ MAX_WIDTH }
     requires places { length out.old ≡ k }
 

@@ -3,13 +3,13 @@ ghost use Rattle.std.specs.Bool.{OnTrue};
 ghost use Rattle.threshold_pick.specs.Sums.{suspects_in, whole, RiseAbove};
 
 use crate::laws::steps_are_few;
-use crate::{MAX_WIDTH, pick, plan_into};
+use crate::{pick, plan_into};
 use std::alloc::{AllocError, Global};
 use std::marker::Brand;
 use std::process::Abort;
 use std::sync::ledger::{Blank, Ledger};
 use std::test::Fail;
-use weight_exact::{MAX_SUSPECTS, Memory, Steps, Sums};
+use weight_exact::{MAX_SUSPECTS, MAX_WIDTH, Memory, Steps, Sums};
 
 /// Sums, one for each number.
 fn sums_of(alloc: Global, numbers: &[u32]) -> Result<Sums, Memory>

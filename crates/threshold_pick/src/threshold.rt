@@ -3,7 +3,7 @@
 ghost use Rattle.std.specs.Prelude.{◌≡◌, ◌↔◌, ◌+◌, ◌*◌, ◌<◌, ◌≤◌, ◌^◌, IsTrue};
 ghost use Rattle.std.specs.Int.{abs_diff};
 ghost use Rattle.threshold_pick.specs.Sums.{whole};
-ghost use Rattle.threshold_pick.specs.declared.picks.TheConstants.{MAX_WIDTH};
+ghost use Rattle.weight_exact.specs.declared.limits.TheConstants.{BASIS_POINTS, MAX_WIDTH};
 
 use weight_exact::Sums;
 
@@ -21,7 +21,7 @@ impl Threshold {
     pub(crate) fn of(sums: &Sums, j: u8, k: u8) -> Threshold
         requires inside { j ≤ k }
         requires narrow { k ≤ MAX_WIDTH }
-        requires room { whole sums.now * 10_000 < 2 ^ 128 }
+        requires room { whole sums.now * BASIS_POINTS < 2 ^ 128 }
         ensures parts { result.parts ≡ k + 1 }
         ensures mark { result.mark ≡ j * whole sums.now }
         ensures room { whole sums.now * result.parts < 2 ^ 128 }

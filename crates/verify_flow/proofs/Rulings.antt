@@ -3,7 +3,8 @@ use Rattle.std.proofs.Common.{◌≡◌, ℕ, ◌+◌, ◌-◌, ◌==◌, ◌<�
 use Rattle.std.proofs.lemmas.Bool.{lt-leb, cases_lt, cases_Bool}
 use Rattle.std.proofs.lemmas.List.Sums.{sum_by-cons, sum_by-append}
 use Rattle.std.proofs.lemmas.List.Folds.{list_any-append}
-use Rattle.farm_rules.specs.Reruns.{is_fail_at, is_pass_at, is_against, vindicated, Outcome as Ruling, outcome, verifying, confirmed, vindicating, is_verifying, reruns_at, counts}
+use Rattle.weight_exact.specs.Counts.{is_fail_at, is_pass_at}
+use Rattle.farm_rules.specs.Reruns.{is_against, vindicated, Outcome as Ruling, outcome, verifying, confirmed, vindicating, is_verifying, reruns_at, counts}
 use Rattle.weight_exact.specs.Load.{is_fail}
 use Rattle.weight_exact.specs.declared.run.Run.{Run}
 use Rattle.weight_exact.specs.declared.run.Verdict.{Verdict}

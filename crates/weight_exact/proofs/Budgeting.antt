@@ -10,6 +10,9 @@ use Rattle.weight_exact.proofs.Powering.{pow_le_mono, below_next_power}
 use Rattle.weight_exact.specs.Budget.{IsBudget}
 use Rattle.weight_exact.specs.Factors.{factors_of, greatest_factor}
 use Rattle.weight_exact.specs.declared.factors.Factors.{Factors}
+use Rattle.weight_exact.specs.declared.limits.TheConstants.{BASIS_POINTS}
+use Rattle.weight_exact.specs.declared.run_budget.TheConstants.{MAX_PRIOR_TOTAL}
+use Rattle.weight_exact.specs.declared.factors.TheConstants.{MAX_FACTOR}
 
 -- a fail tells hypotheses apart, so the greatest number is at least 2
 pub greatest_factor_told : (rate : Rate) (miss : Miss) → FitsRate miss rate → 2 ≤ greatest_factor (factors_of rate miss)
@@ -18,34 +21,34 @@ greatest_factor_told rate miss told =
 
 -- what the power may be at most, where a total prior weight times it, in basis points, is to fit 128 bits
 abbrev pub room : ℕ → ℕ
-room p = (2 ^ 128 - 1) / (p * 10000)
+room p = (2 ^ 128 - 1) / (p * BASIS_POINTS)
 
 -- a power that is at most the room fits
-pub fits_in_room : (p x : ℕ) → x ≤ room p → p * x * 10000 < 2 ^ 128
+pub fits_in_room : (p x : ℕ) → x ≤ room p → p * x * BASIS_POINTS < 2 ^ 128
 fits_in_room p x h =
-    let most : room p * (p * 10000) ≤ 2 ^ 128 - 1 = div-mul-le_self (2 ^ 128 - 1) (p * 10000) in
-    let here : x * (p * 10000) ≤ room p * (p * 10000) = mul-le-mul_right (p * 10000) h in
+    let most : room p * (p * BASIS_POINTS) ≤ 2 ^ 128 - 1 = div-mul-le_self (2 ^ 128 - 1) (p * BASIS_POINTS) in
+    let here : x * (p * BASIS_POINTS) ≤ room p * (p * BASIS_POINTS) = mul-le-mul_right (p * BASIS_POINTS) h in
     omega arith
 
 -- and one that fits is at most the room
-pub in_room_of_fits : (p x : ℕ) → 0 < p → p * x * 10000 < 2 ^ 128 → x ≤ room p
-in_room_of_fits p x some h = le-div x (2 ^ 128 - 1) (p * 10000) (omega arith) (omega arith)
+pub in_room_of_fits : (p x : ℕ) → 0 < p → p * x * BASIS_POINTS < 2 ^ 128 → x ≤ room p
+in_room_of_fits p x some h = le-div x (2 ^ 128 - 1) (p * BASIS_POINTS) (omega arith) (omega arith)
 
 -- the greatest exponent whose power is at most the room is at least each that fits
-pub greatest_in_room : (p m n more : ℕ) → 0 < p → 2 ≤ m → room p < m * m ^ n → p * m ^ more * 10000 < 2 ^ 128 → more ≤ n
+pub greatest_in_room : (p m n more : ℕ) → 0 < p → 2 ≤ m → room p < m * m ^ n → p * m ^ more * BASIS_POINTS < 2 ^ 128 → more ≤ n
 greatest_in_room p m n more some two over fits =
     let within : m ^ more ≤ room p = in_room_of_fits p (m ^ more) some fits in
     below_next_power m n more (room p + 1) two (omega arith) (omega arith)
 
 -- five runs fit at the limits of totals and numbers
-pub five_runs_fit : (p m : ℕ) → p ≤ 66535000 → m ≤ 100000 → p * m ^ 5 * 10000 < 2 ^ 128
+pub five_runs_fit : (p m : ℕ) → p ≤ MAX_PRIOR_TOTAL → m ≤ MAX_FACTOR → p * m ^ 5 * BASIS_POINTS < 2 ^ 128
 five_runs_fit p m total most =
-    let power : m ^ 5 ≤ 100000 ^ 5 = pow-le-pow_left most 5 in
-    let product : p * m ^ 5 ≤ 66535000 * 100000 ^ 5 = mul-le-mul total power in
+    let power : m ^ 5 ≤ MAX_FACTOR ^ 5 = pow-le-pow_left most 5 in
+    let product : p * m ^ 5 ≤ MAX_PRIOR_TOTAL * MAX_FACTOR ^ 5 = mul-le-mul total power in
     omega arith
 
 -- more than 113 runs never fit
-pub few_runs_fit : (p m n : ℕ) → 2 ≤ p → 2 ≤ m → p * m ^ n * 10000 < 2 ^ 128 → n ≤ 113
+pub few_runs_fit : (p m n : ℕ) → 2 ≤ p → 2 ≤ m → p * m ^ n * BASIS_POINTS < 2 ^ 128 → n ≤ 113
 few_runs_fit p m n total two fits =
     let few : n < 114 =
     lt_of_not-le (λ many.
@@ -59,7 +62,7 @@ few_runs_fit p m n total two fits =
 -- the logarithm of the room, to the base of the greatest number, is the budget
 pub logarithm_is_budget : (p : ℕ) (f : Factors) (m n : ℕ) → 0 < p → 2 ≤ m → m ≡ greatest_factor f → m ^ n ≤ room p → room p < m * m ^ n → IsBudget p f n
 logarithm_is_budget p f m n some two is within over =
-    let here : p * m ^ n * 10000 < 2 ^ 128 = fits_in_room p (m ^ n) within in
+    let here : p * m ^ n * BASIS_POINTS < 2 ^ 128 = fits_in_room p (m ^ n) within in
     record {
       fits = rw (← is) here;
       greatest = λ more fits. greatest_in_room p m n more some two over (rw is fits);

@@ -5,6 +5,7 @@ use Rattle.std.proofs.lemmas.Bool.{cases_Bool, cases_lt, false≢true}
 use Rattle.weight_exact.specs.Factors.{greatest_factor}
 use Rattle.weight_exact.specs.Budget.{Fits, IsBudget, last_below, budget_of}
 use Rattle.weight_exact.specs.declared.factors.Factors.{Factors}
+use Rattle.weight_exact.specs.declared.limits.TheConstants.{BASIS_POINTS}
 
 -- what fits, fits with fewer runs
 pub Fits-fewer : (prior_total : ℕ) (f : Factors) (runs fewer : ℕ) → 1 ≤ greatest_factor f → fewer ≤ runs →
@@ -63,7 +64,7 @@ last_below_last test (suc n) i less holds =
 
 -- whether so many runs fit, as a test
 abbrev fits_test : ℕ → Factors → ℕ → Bool
-fits_test prior_total f runs = nat_lt (prior_total * greatest_factor f ^ runs * 10000) (2 ^ 128)
+fits_test prior_total f runs = nat_lt (prior_total * greatest_factor f ^ runs * BASIS_POINTS) (2 ^ 128)
 
 -- the computed number is the budget
 pub IsBudget-budget_of : (prior_total : ℕ) (f : Factors) → 1 ≤ prior_total → 2 ≤ greatest_factor f →
@@ -72,11 +73,11 @@ unfolding budget_of
 IsBudget-budget_of prior_total f some two none =
     let test : ℕ → Bool = fits_test prior_total f in
     record {
-      fits = ltb-true (prior_total * greatest_factor f ^ last_below test 128 * 10000) (2 ^ 128)
-          (last_below_passes test 128 (lt-ltb (prior_total * greatest_factor f ^ 0 * 10000) (2 ^ 128) none));
+      fits = ltb-true (prior_total * greatest_factor f ^ last_below test 128 * BASIS_POINTS) (2 ^ 128)
+          (last_below_passes test 128 (lt-ltb (prior_total * greatest_factor f ^ 0 * BASIS_POINTS) (2 ^ 128) none));
       greatest = λ more fits.
           last_below_last test 128 more (Fits_few prior_total f more some two fits)
-          (lt-ltb (prior_total * greatest_factor f ^ more * 10000) (2 ^ 128) fits);
+          (lt-ltb (prior_total * greatest_factor f ^ more * BASIS_POINTS) (2 ^ 128) fits);
     }
 
 -- there is one budget

@@ -14,6 +14,7 @@ use Rattle.weight_exact.proofs.Floors.{weight-floor}
 use Rattle.weight_exact.proofs.Likelihoods.{likelihood-le}
 use Rattle.weight_exact.proofs.Scaled
 use Rattle.weight_exact.proofs.SumTo.{sum_to-le, sum_to-mul_right}
+use Rattle.weight_exact.specs.declared.limits.TheConstants.{BASIS_POINTS}
 
 -- up to the floor it is 0
 pub live_weight_floor : (s : Setup) (runs : List Run) (i : ℕ) → i ≤ floor s.factors runs → live_weight s runs i ≡ 0
@@ -99,5 +100,5 @@ live_total-le s runs =
 
 -- while the load fits, the live weights in basis points fit in 128 bits
 pub live_total_fits : (s : Setup) (runs : List Run) →
-    Fits (sum_to (prior s) (hypotheses s)) s.factors (load s.factors runs) → live_total s runs * 10000 < 2 ^ 128
+    Fits (sum_to (prior s) (hypotheses s)) s.factors (load s.factors runs) → live_total s runs * BASIS_POINTS < 2 ^ 128
 live_total_fits s runs fits = omega (arith, live_total-le s runs)

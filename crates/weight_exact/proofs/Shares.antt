@@ -9,6 +9,7 @@ use Rattle.weight_exact.specs.Share.{share, IsReached, is_at_bar, last_to, reach
 use Rattle.weight_exact.specs.declared.run.Run.{Run}
 use Rattle.weight_exact.proofs.Likelihoods.{likelihood_positive}
 use Rattle.weight_exact.proofs.SumTo.{member-le-sum_to, members-le-sum_to}
+use Rattle.weight_exact.specs.declared.limits.TheConstants.{BASIS_POINTS}
 
 -- ---- the total
 
@@ -171,7 +172,7 @@ reached-none s runs none =
 -- a common positive factor of a weight and the total cancels from the share
 pub share-mul_right : (k w whole : ℕ) → 1 ≤ k → share (w * k) (whole * k) ≡ share w whole
 share-mul_right k w whole some =
-    rw (mul_right_comm w k 10000) (mul-div-mul_right (w * 10000) whole some)
+    rw (mul_right_comm w k BASIS_POINTS) (mul-div-mul_right (w * BASIS_POINTS) whole some)
 
 pub share-mul_left : (k w whole : ℕ) → 1 ≤ k → share (k * w) (k * whole) ≡ share w whole
 share-mul_left k w whole some = rw (mul_comm k w, mul_comm k whole) (share-mul_right k w whole some)

@@ -1,12 +1,13 @@
--- How many runs fit in 128 bits.
+-- The budget: what load fits 128 bits.
 use Rattle.std.specs.Prelude.{ℕ, zero, suc, sum, ◌*◌, ◌^◌, ◌<◌, ◌≤◌, Bool, nat_lt, if◌then◌else◌}
 use Rattle.weight_exact.specs.Factors.{greatest_factor}
 use Rattle.weight_exact.specs.Weights.{Setup}
 use Rattle.weight_exact.specs.declared.factors.Factors.{Factors}
+use Rattle.weight_exact.specs.declared.limits.TheConstants.{BASIS_POINTS}
 
 -- a total prior weight times the greatest number of F runs, in basis points, fits 128 bits
 abbrev pub Fits : ℕ → Factors → ℕ → Type 0
-Fits prior_total f runs = prior_total * greatest_factor f ^ runs * 10000 < 2 ^ 128
+Fits prior_total f runs = prior_total * greatest_factor f ^ runs * BASIS_POINTS < 2 ^ 128
 
 -- the budget of a search: the greatest number of runs that fits
 pub record IsBudget (prior_total : ℕ) (f : Factors) (runs : ℕ) : Type 0 where
@@ -20,7 +21,7 @@ last_below test (suc n) = if test n then n else last_below test n
 
 -- the budget as a number: fewer than 128 runs fit, since the greatest number is at least 2
 unfoldable pub budget_of : ℕ → Factors → ℕ
-budget_of prior_total f = last_below (λ runs. nat_lt (prior_total * greatest_factor f ^ runs * 10000) (2 ^ 128)) 128
+budget_of prior_total f = last_below (λ runs. nat_lt (prior_total * greatest_factor f ^ runs * BASIS_POINTS) (2 ^ 128)) 128
 
 -- the budget of a search: by the sum of its priors
 abbrev pub run_budget : Setup → ℕ

@@ -1,5 +1,5 @@
 -- The four kinds of run, as one hypothesis sees them.
-use Rattle.std.specs.Prelude.{ℕ, Bool, not, ◌&&◌, nat_le, List, count_by}
+use Rattle.std.specs.Prelude.{ℕ, Bool, not, ◌&&◌, ◌==◌, nat_le, List, count_by}
 use Rattle.weight_exact.specs.Load.{is_fail}
 use Rattle.weight_exact.specs.declared.run.Run.{Run}
 
@@ -33,3 +33,10 @@ passes_out i runs = count_by (is_pass_out i) runs
 -- how many runs of a list passed
 abbrev pub passes : List Run → ℕ
 passes runs = count_by (λ r. not (is_fail r.verdict)) runs
+
+-- whether a run failed at a position, and whether it passed there
+abbrev pub is_fail_at : (position : ℕ) → Run → Bool
+is_fail_at position r = is_fail r.verdict && r.position == position
+
+abbrev pub is_pass_at : (position : ℕ) → Run → Bool
+is_pass_at position r = not (is_fail r.verdict) && r.position == position

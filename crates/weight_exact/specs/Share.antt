@@ -2,10 +2,11 @@
 use Rattle.std.specs.Prelude.{ℕ, zero, suc, ◌*◌, ◌/◌, ◌≤◌, List, Bool, Option, Some, None, if◌then◌else◌, nat_le}
 use Rattle.weight_exact.specs.Weights.{Setup, weight, total, hypotheses}
 use Rattle.weight_exact.specs.declared.run.Run.{Run}
+use Rattle.weight_exact.specs.declared.limits.TheConstants.{BASIS_POINTS}
 
 -- a weight's share of a total in basis points, rounded down
 abbrev pub share : ℕ → ℕ → ℕ
-share w whole = w * 10000 / whole
+share w whole = w * BASIS_POINTS / whole
 
 -- the share of hypothesis i: its posterior probability in basis points
 abbrev pub basis_points : Setup → List Run → ℕ → ℕ

@@ -6,6 +6,9 @@ ghost use Rattle.weight_exact.specs.Factors.{factors_of, greatest_factor, in_low
 
 use flake_rate::{Miss, Rate, gcd};
 
+/// The greatest likelihood number that rates within their limits have.
+pub const MAX_FACTOR: u32 = Rate::MAX_DENOMINATOR * Miss::MAX_DENOMINATOR;
+
 /// The four likelihood numbers of a flake rate and a miss rate: what a run multiplies the weight of a hypothesis by,
 /// for a fail and for a pass, where the hypothesis' culprit is in the tree that was run (`in`) and where it is out
 /// (`out`). They are Bayes' likelihoods, each verdict's pair over one common denominator and in lowest terms.
@@ -22,10 +25,10 @@ pub struct Factors {
 }
 
 impl Factors {
-    /// The numbers of these two rates, each at most 100,000. Only `pass_in` may be 0: it is where the miss rate is.
+    /// The numbers of these two rates, each at most [`MAX_FACTOR`]. Only `pass_in` may be 0: it is where the miss rate is.
     pub fn of(rate: Rate, miss: Miss) -> Factors
         ensures value { result ≡ factors_of rate miss }
-        ensures at_most { greatest_factor result ≤ 100_000 }
+        ensures at_most { greatest_factor result ≤ MAX_FACTOR }
         ensures fail_in { 0 < result.fail_in }
         ensures fail_out { 0 < result.fail_out }
         ensures pass_in { (result.pass_in ≡ 0) ↔ (miss_numerator miss ≡ 0) }

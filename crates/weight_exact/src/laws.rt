@@ -15,6 +15,9 @@ ghost use Rattle.weight_exact.specs.Plan.{distance, IsNearest, nearest, pick, pl
 ghost use Rattle.weight_exact.specs.Share.{share, basis_points, IsReached, is_at_bar, last_to, reached};
 ghost use Rattle.weight_exact.specs.Weights.{Setup, hypotheses, suspects, prior, likelihood, weight, sum_to, cumulative, total, AreInRange};
 ghost use Rattle.weight_exact.specs.declared.factors.Factors.{Factors};
+ghost use Rattle.weight_exact.specs.declared.factors.TheConstants.{MAX_FACTOR};
+ghost use Rattle.weight_exact.specs.declared.limits.TheConstants.{BASIS_POINTS};
+ghost use Rattle.weight_exact.specs.declared.run_budget.TheConstants.{MAX_PRIOR_TOTAL};
 ghost use Rattle.weight_exact.specs.declared.run.Run.{Run};
 ghost use Rattle.weight_exact.specs.declared.run.Verdict.TheVariants.{Pass, Fail};
 
@@ -128,7 +131,7 @@ pub fn live_runs_suffice()
         (floor s.factors runs) (suspects s - floor s.factors runs - 1) }
     ensures fits { (s : Setup) (runs : List Run) →
         Fits (sum s.priors) s.factors (load s.factors runs) →
-        live_total s runs * 10000 < 2 ^ 128 }
+        live_total s runs * BASIS_POINTS < 2 ^ 128 }
 {}
 
 /// The total weight is never 0: where "no culprit" has a prior weight, and a sound tree may pass and may fail, that
@@ -166,7 +169,7 @@ pub fn there_is_one_budget()
         Fits prior_total f fewer }
 {}
 
-/// The four likelihood numbers of rates within their limits. Each is at most 100,000, three are positive, and the
+/// The four likelihood numbers of rates within their limits. None is above the greatest there is, three are positive, and the
 /// fourth is 0 exactly where a broken test never passes. A fail speaks for the hypotheses whose culprit is in the tree,
 /// and a pass for the others. With no misses, a rate a/b in lowest terms has the numbers b and a for a fail, and 0 and
 /// 1 for a pass.
@@ -182,7 +185,7 @@ pub fn likelihood_numbers_of_rates()
     ensures pass_speaks_for_out { (a b c d : ℕ) → IsRate a b → IsTold c d a b →
         (factors a b c d).pass_in < (factors a b c d).pass_out }
     ensures small { (a b c d : ℕ) → IsRate a b → IsMiss c d →
-        greatest_factor (factors a b c d) ≤ 100000 }
+        greatest_factor (factors a b c d) ≤ MAX_FACTOR }
     ensures more_than_one { (a b c d : ℕ) → IsRate a b → IsMiss c d → IsTold c d a b →
         2 ≤ greatest_factor (factors a b c d) }
     ensures lowest_terms { (a b : ℕ) → IsRate a b → gcd a b ≡ 1 →
@@ -260,7 +263,7 @@ pub fn worked_numbers()
     ensures first_plan_of_three { plan four_suspects [] 3 ≡ 1 ∷ 2 ∷ 4 ∷ [] }
     ensures budget_of_five { budget_of 5 (factors 1 10 0 1) ≡ 33 }
     ensures budget_of_a_thousand { budget_of 1001 (factors 1 10 0 1) ≡ 31 }
-    ensures budget_of_the_greatest { budget_of 66535000 (factors 1 1000 0 1) ≡ 8 }
+    ensures budget_of_the_greatest { budget_of MAX_PRIOR_TOTAL (factors 1 1000 0 1) ≡ 8 }
     ensures budget_at_one_percent { budget_of 180 (factors 1 100 0 1) ≡ 16 }
     ensures budget_with_misses { budget_of 5 (factors 1 10 1 10) ≡ 35 }
 {}

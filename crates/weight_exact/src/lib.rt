@@ -18,8 +18,8 @@ mod run_budget;
 mod steps;
 mod sums;
 
-pub use factors::Factors;
-pub use limits::{MAX_CALM, MAX_SUSPECTS, MAX_WEIGHT};
+pub use factors::{Factors, MAX_FACTOR};
+pub use limits::{BASIS_POINTS, MAX_CALM, MAX_SUSPECTS, MAX_WEIGHT, MAX_WIDTH};
 pub use memory::Memory;
 pub use powers::{Counts, Powers};
 pub use run::{Run, Verdict};

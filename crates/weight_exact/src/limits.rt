@@ -8,3 +8,9 @@ pub const MAX_WEIGHT: u32 = 65_535;
 
 /// The greatest prior weight of "no culprit", the calm weight. The least is 1.
 pub const MAX_CALM: u32 = 1_000_000;
+
+/// The greatest width of a search: how many positions it may run at once. The least is 1.
+pub const MAX_WIDTH: u8 = 8;
+
+/// How many basis points a whole has. Shares are given in basis points.
+pub const BASIS_POINTS: u128 = 10_000;

@@ -1,4 +1,4 @@
-//! How many runs of a search fit in 128 bits.
+//! The budget of a search: what load fits 128 bits.
 
 ghost use Rattle.std.specs.Prelude.{◌≡◌, ℕ, ◌≤◌};
 ghost use Rattle.flake_rate.specs.Miss.{FitsRate};
@@ -6,20 +6,19 @@ ghost use Rattle.weight_exact.specs.Budget.{Fits, budget_of};
 ghost use Rattle.weight_exact.specs.Factors.{factors_of};
 
 use crate::factors::Factors;
+use crate::limits::{BASIS_POINTS, MAX_CALM, MAX_SUSPECTS, MAX_WEIGHT};
 use flake_rate::{Miss, Rate};
 
 /// The least total of the priors of a search: one suspect of weight 1, and a calm weight of 1.
 pub const MIN_PRIOR_TOTAL: u64 = 2;
 
-/// The greatest total of the priors of a search: 1,000 suspects of weight 65,535, and a calm weight of 1,000,000.
-pub const MAX_PRIOR_TOTAL: u64 = 66_535_000;
+/// The greatest total of the priors of a search: of as many suspects as there may be, each of the greatest weight, and
+/// of the greatest calm weight.
+pub const MAX_PRIOR_TOTAL: u64 = MAX_SUSPECTS as u64 * MAX_WEIGHT as u64 + MAX_CALM as u64;
 
-/// The parts of a whole that shares are given in.
-const BASIS_POINTS: u128 = 10_000;
-
-/// The budget of a search: how many runs it may count until the arithmetic might leave 128 bits. It is the greatest
-/// number of runs for which the total of the priors, times the greatest likelihood number to this power, times 10,000,
-/// is below 2^128.
+/// The budget of a search, which bounds its load: the greatest number for which the total of the priors, times the
+/// greatest likelihood number to this power, in basis points, is below 2^128. While the load is at most the budget, no
+/// weight, sum or share leaves 128 bits. A search may count more runs than that, since not every run adds to its load.
 ///
 /// `prior_total` is the total of the priors, calm included.
 pub fn budget(prior_total: u64, rate: Rate, miss: Miss) -> u32
