@@ -1,5 +1,5 @@
 //! The program: makes the real input and output, calls `finder` with the words, and ends with its status. Where the
-//! command did not do its work, one line on standard error says why.
+//! subcommand did not do its work, the status's text is the one line on standard error.
 //!
 //! The adapters over standard input and output are the trusted edge: no contract says which bytes the system gives
 //! or takes. What the program does with them is the contract of `finder`.
@@ -13,12 +13,12 @@ use std::{env, io};
 fn main(rt: HostRuntime) -> ExitCode {
     let status = run(&rt);
     if status != Status::Done {
-        let _ = eprintln!(rt; "culprit_finder: {status}");
+        let _ = eprintln!(rt; "{status}");
     }
     ExitCode::from(status.exit_code())
 }
 
-/// Runs the command that the process's words name. Words that aren't text name none.
+/// Runs the subcommand that the process's words name. Words that aren't text name none.
 fn run(rt: &HostRuntime) -> Status {
     let Ok(words) = env::args(rt) else {
         return Status::Usage;

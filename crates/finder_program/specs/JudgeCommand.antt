@@ -1,15 +1,12 @@
 -- What the command `judge` does.
-use Rattle.std.specs.Prelude.{◌≡◌, ℕ, ◌<◌, ◌≤◌, ◌^◌, ◌⊎◌, List, [], length, take, drop, Some, Result, Ok, Err, MatchResult}
+use Rattle.std.specs.Prelude.{◌≡◌, ℕ, ◌<◌, ◌≤◌, ◌⊎◌, List, [], length, take, drop, Some, Result, Ok, Err, MatchResult}
 use Rattle.std.specs.Io.KnownBytes.{append_known}
 use Rattle.link_io.specs.Counts.{Rose}
 use Rattle.judge.specs.Answer.{judged}
-use Rattle.finder_program.specs.Streams.{Streams}
+use Rattle.link_io.specs.Streams.{Streams}
+use Rattle.link_io.specs.declared.source.TheConstants.{INPUT_LIMIT}
 use Rattle.finder_program.specs.declared.status.Status.{Status}
 use Rattle.finder_program.specs.declared.status.Status.TheVariants.{Done, Usage, ReadFault, WriteFault, Memory, BadInput, InputLimit}
-
--- how many bytes are taken from an input at most
-abbrev pub input_limit : ℕ
-input_limit = 2 ^ 30
 
 -- the answer's text, or nothing where the input is outside the form
 abbrev pub text_of : Result (List ℕ) ℕ → List ℕ
@@ -42,7 +39,7 @@ JudgeEnds (BadInput line) before after =
 JudgeEnds InputLimit before after =
     (after.written ≡ before.written)
     × ((all : List ℕ) → before.left ≡ Some all →
-    (input_limit ≤ length all) × (after.left ≡ Some (drop input_limit all)))
+    (INPUT_LIMIT ≤ length all) × (after.left ≡ Some (drop INPUT_LIMIT all)))
 
 -- where nothing fails and memory is there, an input below the limit gets its answer or the number of its first line
 -- outside the form, and a longer one gets InputLimit
@@ -51,5 +48,5 @@ JudgeCompletes status before after =
     ¬ Rose before.read_faults after.read_faults → ¬ Rose before.write_faults after.write_faults →
     (all : List ℕ) → before.left ≡ Some all →
     (status ≡ Memory)
-    ⊎ ((length all < input_limit) × MatchResult (judged all) (λ _. status ≡ Done) (λ line. status ≡ BadInput line))
-    ⊎ ((input_limit ≤ length all) × (status ≡ InputLimit))
+    ⊎ ((length all < INPUT_LIMIT) × MatchResult (judged all) (λ _. status ≡ Done) (λ line. status ≡ BadInput line))
+    ⊎ ((INPUT_LIMIT ≤ length all) × (status ≡ InputLimit))

@@ -1,5 +1,4 @@
 pub mod Words
-pub mod ExitCode
-pub mod Streams
+pub mod Statuses
 pub mod ReadInput
 pub mod JudgeCommand

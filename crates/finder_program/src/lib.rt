@@ -1,17 +1,16 @@
-//! The whole program as one library call. `finder` reads the words, and runs the command that they name over the
+//! The whole program as one library call. `finder` reads the words, and runs the subcommand that they name over the
 //! objects that it is handed: its contract is the program's promise, whatever stands behind the objects.
 //!
-//! It stands on `judge` for the answers, and on `link_io` for the traits of the outside. The program crate makes the real objects,
-//! calls `finder`, and ends with the status.
+//! It stands on `judge` for the answers, and on `link_io` for the traits of the outside. The program crate makes the
+//! real objects, calls `finder`, prints the status's text where it isn't Done, and ends with the status's number.
 #![tactic(auto)]
 
-mod command;
 mod judge_command;
 mod program;
 mod read_input;
 mod status;
+mod subcommand;
 
-pub use command::Command;
 pub use program::finder;
-pub use read_input::INPUT_LIMIT;
 pub use status::Status;
+pub use subcommand::Subcommand;

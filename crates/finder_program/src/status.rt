@@ -2,29 +2,32 @@
 
 ghost use Rattle.std.specs.Prelude.{◌≡◌};
 
+use crate::read_input::InputFault;
+use judge::JudgeFault;
+use link_io::PutFault;
 use std::fmt;
 
-/// How a call of the program ended.
+/// How a call of the program ended. Its text is the line for standard error, without its line feed.
 #[derive(Clone, Copy, Debug, PartialEq, Eq)]
 pub enum Status {
-    /// The command did its work.
+    /// The subcommand did its work.
     Done,
-    /// The words name no command. Nothing was read or written.
+    /// The words name no subcommand. Nothing was read or written.
     Usage,
     /// The input failed.
     ReadFault,
     /// The output failed.
     WriteFault,
-    /// Want of memory.
+    /// Out of memory.
     Memory,
     /// The line with this number, counted from 1, is the first outside the form.
     BadInput(u64),
-    /// The input has no end within [`crate::INPUT_LIMIT`] bytes.
+    /// The input has no end within [`link_io::INPUT_LIMIT`] bytes.
     InputLimit,
 }
 
 impl Status {
-    ghost use Rattle.finder_program.specs.ExitCode.{exit_code_of};
+    ghost use Rattle.finder_program.specs.Statuses.{exit_code_of};
 
     /// The exit status of the process.
     pub fn exit_code(self) -> u8
@@ -46,12 +49,55 @@ impl fmt::Display for Status {
     fn fmt<W: fmt::Write>(&self, f: &mut fmt::Formatter<W>) -> fmt::Result {
         match self {
             Status::Done => write!(f, "done"),
-            Status::Usage => write!(f, "usage: culprit_finder judge < LINES"),
-            Status::ReadFault => write!(f, "the input can't be read"),
-            Status::WriteFault => write!(f, "the output can't be written"),
+            Status::Usage => write!(f, "usage"),
+            Status::ReadFault => write!(f, "the input could not be read"),
+            Status::WriteFault => write!(f, "the output could not be written"),
             Status::Memory => write!(f, "out of memory"),
-            Status::BadInput(line) => write!(f, "line {line} of the input is outside the form"),
-            Status::InputLimit => write!(f, "the input has no end within 1073741824 bytes"),
+            Status::BadInput(line) => write!(f, "line {line} is not in the written form"),
+            Status::InputLimit => write!(f, "the input is too long"),
+        }
+    }
+}
+
+impl From<InputFault> for Status {
+    ghost use Rattle.std.specs.Prelude.{◌≡◌};
+    ghost use Rattle.finder_program.specs.Statuses.{status_of_input};
+
+    ghost from_gives = { λ fault status. status ≡ status_of_input fault };
+
+    fn from(fault: InputFault) -> Status {
+        match fault {
+            InputFault::Failed => Status::ReadFault,
+            InputFault::AtLimit => Status::InputLimit,
+            InputFault::Memory => Status::Memory,
+        }
+    }
+}
+
+impl From<JudgeFault> for Status {
+    ghost use Rattle.std.specs.Prelude.{◌≡◌};
+    ghost use Rattle.finder_program.specs.Statuses.{status_of_judge};
+
+    ghost from_gives = { λ fault status. status ≡ status_of_judge fault };
+
+    fn from(fault: JudgeFault) -> Status {
+        match fault {
+            JudgeFault::BadInput(line) => Status::BadInput(line),
+            JudgeFault::Memory => Status::Memory,
+        }
+    }
+}
+
+impl From<PutFault> for Status {
+    ghost use Rattle.std.specs.Prelude.{◌≡◌};
+    ghost use Rattle.finder_program.specs.Statuses.{status_of_put};
+
+    ghost from_gives = { λ fault status. status ≡ status_of_put fault };
+
+    fn from(fault: PutFault) -> Status {
+        match fault {
+            PutFault::Failed => Status::WriteFault,
+            PutFault::Memory => Status::Memory,
         }
     }
 }

@@ -4,6 +4,6 @@ pub mod MemSink
 pub mod MemSource
 pub mod Pieces
 pub mod Put
-pub mod PutAll
 pub mod Standard
+pub mod Streams
 pub mod Took

@@ -1,18 +1,17 @@
 //! Where bytes go to.
-ghost use Rattle.std.specs.Prelude.{◌≡◌, ◌<◌, ◌≤◌, ℕ, List, Option, length, take};
+ghost use Rattle.std.specs.Prelude.{◌≡◌, ◌<◌, ◌≤◌, ℕ, List, Option, OnOk, OnErr, IsErrOf, length, take};
 ghost use Rattle.std.specs.Io.KnownBytes.{append_known};
 ghost use Rattle.link_io.specs.Counts.{Rose};
 ghost use Rattle.link_io.specs.Put.{IfPut, OnPutFailed, OnNothingPut};
-ghost use Rattle.link_io.specs.PutAll.{OnPutAllDone, OnPutAllFailed, OnPutAllStopped};
 
 /// What a put answers.
 #[derive(Clone, Copy, Debug, PartialEq, Eq)]
 pub enum Put {
-    /// So many bytes of the piece's front were put, at least one of a piece that isn't empty.
+    /// So many of the piece's first bytes were put, at least one of a piece that isn't empty.
     Put(usize),
     /// No byte was put, and the count of faults rose.
     Failed,
-    /// No byte was put, for want of memory.
+    /// No byte was put: out of memory.
     Memory,
 }
 
@@ -31,7 +30,7 @@ pub trait Sink {
     fn faults(&self) -> u64
         ensures { result ≡ count self.now };
 
-    /// Puts a piece, or its front: a sink may take fewer bytes than it is given. `put_all` puts the rest too.
+    /// Puts a piece, or a prefix of it: a sink may take fewer bytes than it is given. `put_all` puts the rest too.
     fn put(&mut self, bytes: &[u8]) -> Put
         ensures within { IfPut result (λ n. n ≤ length bytes.now) }
         ensures advances { IfPut result (λ n. 0 < length bytes.now → 0 < n) }
@@ -43,36 +42,34 @@ pub trait Sink {
         ensures never_falls { count self.old ≤ count self.new };
 }
 
-/// What `put_all` answers.
+/// Why not every byte was put.
 #[derive(Clone, Copy, Debug, PartialEq, Eq)]
-pub enum PutAll {
-    /// Every byte was put.
-    Done,
-    /// A put failed before the last byte, and the count of faults rose.
+pub enum PutFault {
+    /// A put failed, and the count of faults rose.
     Failed,
-    /// Memory was wanting before the last byte.
+    /// Out of memory.
     Memory,
 }
 
 /// Puts every byte, in as many puts as it takes, and stops at the first one that puts nothing. What was put by then
-/// stays put: a front of the bytes, and never all of them.
+/// stays put: a prefix of the bytes, and never all of them.
 #[tactic(auto, using(crate::proofs::Told::told_bytes))]
-pub fn put_all<K: Sink>(output: &mut K, bytes: &[u8]) -> PutAll
-    ensures done { OnPutAllDone result
+pub fn put_all<K: Sink>(output: &mut K, bytes: &[u8]) -> Result<(), PutFault>
+    ensures done { OnOk result
         (K.written output.new ≡ append_known (K.written output.old) bytes.now) }
-    ensures stopped { OnPutAllStopped result
+    ensures stopped { OnErr result
         ((n : ℕ) × (n < length bytes.now)
         × (K.written output.new ≡ append_known (K.written output.old) (take n bytes.now))) }
-    ensures rises { OnPutAllFailed result (Rose (K.count output.old) (K.count output.new)) }
+    ensures rises { IsErrOf result PutFault.Failed → Rose (K.count output.old) (K.count output.new) }
     ensures never_falls { K.count output.old ≤ K.count output.new }
 {
     let mut from = 0;
     while from < bytes.len() {
         match output.put(&bytes[from..]) {
             Put::Put(count) => from += count,
-            Put::Failed => return PutAll::Failed,
-            Put::Memory => return PutAll::Memory,
+            Put::Failed => return Err(PutFault::Failed),
+            Put::Memory => return Err(PutFault::Memory),
         }
     }
-    PutAll::Done
+    Ok(())
 }

@@ -1,9 +1,12 @@
 //! Where bytes come from.
-ghost use Rattle.std.specs.Prelude.{◌≡◌, ◌<◌, ◌≤◌, ◌↔◌, ℕ, List, [], Option, length, take};
+ghost use Rattle.std.specs.Prelude.{◌≡◌, ◌<◌, ◌≤◌, ◌↔◌, ℕ, List, [], Option, IfOk, OnErr, length, take};
 ghost use Rattle.std.specs.Option.{ForSome};
 ghost use Rattle.std.specs.Io.KnownBytes.{prepend_known};
 ghost use Rattle.link_io.specs.Counts.{Rose};
 ghost use Rattle.link_io.specs.Took.{IfTook, OnTookFailed};
+
+/// How many bytes are taken from one input at most.
+pub const INPUT_LIMIT: usize = 1 << 30;
 
 /// What a take answers.
 #[derive(Clone, Copy, Debug, PartialEq, Eq)]
@@ -44,4 +47,24 @@ pub trait Source {
         ensures unmoved { OnTookFailed result (left self.new ≡ left self.old) }
         ensures rises { OnTookFailed result (Rose (count self.old) (count self.new)) }
         ensures never_falls { count self.old ≤ count self.new };
+}
+
+/// A take failed: no byte was taken, and the count of faults rose.
+#[derive(Clone, Copy, Debug, PartialEq, Eq)]
+pub struct TakeFailed;
+
+/// Takes the next bytes into a buffer that isn't empty, and gives them. There are none exactly at the end.
+pub fn take_piece<'a, S: Source>(input: &mut S, buf: &'a mut [u8]) -> Result<&'a [u8], TakeFailed>
+    requires { 0 < length buf.old }
+    ensures taken { IfOk result (λ piece. S.left input.old ≡ prepend_known piece.now (S.left input.new)) }
+    ensures few { IfOk result (λ piece. length piece.now ≤ length buf.old) }
+    ensures end { IfOk result (λ piece. ForSome (S.left input.old) (λ had. (piece.now ≡ []) ↔ (had ≡ []))) }
+    ensures unmoved { OnErr result (S.left input.new ≡ S.left input.old) }
+    ensures rises { OnErr result (Rose (S.count input.old) (S.count input.new)) }
+    ensures never_falls { S.count input.old ≤ S.count input.new }
+{
+    match input.take(buf) {
+        Took::Took(count) => Ok(&buf[..count]),
+        Took::Failed => Err(TakeFailed),
+    }
 }

@@ -3,7 +3,7 @@
 ghost use Rattle.std.specs.Prelude.{◌≤◌, IfOk, Some};
 
 use crate::{
-    InputSource, MemSink, MemSource, OutputSink, Put, PutAll, Sink, Source, Took, put_all,
+    InputSource, MemSink, MemSource, OutputSink, Put, PutFault, Sink, Source, Took, put_all,
 };
 use std::alloc::{AllocError, Global};
 use std::io::{Error, ErrorKind, Read, Write};
@@ -104,12 +104,12 @@ fn put_all_goes_on_to_the_end_or_leaves_a_front(rt: HostRuntime) -> Result<(), F
     let mut sink = Narrow {
         held: MemSink::of(rt.alloc(), [3].to_vec(rt.alloc())?),
     };
-    assert_eq!(rt; put_all(&mut sink, b"abcdefgh"), PutAll::Failed);
+    assert_eq!(rt; put_all(&mut sink, b"abcdefgh"), Err(PutFault::Failed));
     assert_eq!(rt; sink.held.bytes(), b"abcdef".as_slice());
     assert_eq!(rt; sink.faults(), 1);
-    assert_eq!(rt; put_all(&mut sink, b"ABCDEFGH"), PutAll::Done);
+    assert_eq!(rt; put_all(&mut sink, b"ABCDEFGH"), Ok(()));
     assert_eq!(rt; sink.held.bytes(), b"abcdefABCDEFGH".as_slice());
-    assert_eq!(rt; put_all(&mut sink, b""), PutAll::Done);
+    assert_eq!(rt; put_all(&mut sink, b""), Ok(()));
     assert_eq!(rt; sink.faults(), 1);
     Ok(())
 }

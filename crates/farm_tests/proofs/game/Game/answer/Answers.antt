@@ -1,8 +1,8 @@
 use Rattle.std.proofs.Common.{◌≡◌, List, [], ◌∷◌, ◌++◌, ap, sym, subst, ◌∙◌}
 use Rattle.farm_entry.specs.Legal.{IsLegal}
 use Rattle.farm_entry.specs.declared.entry.Entry.{Entry}
-use Rattle.finder_tests.proofs.Played.{played}
-use Rattle.finder_tests.proofs.game.Game.answer.Goals as goal
+use Rattle.farm_tests.proofs.Played.{played}
+use Rattle.farm_tests.proofs.game.Game.answer.Goals as goal
 
 pub reply_at-requires : goal.reply_at-requires
 reply_at-requires c =

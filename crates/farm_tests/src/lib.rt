@@ -1,0 +1,7 @@
+//! Farms that are played entry by entry by the plain program, whose numbers were worked out by hand.
+#![tactic(auto)]
+
+#[cfg(test)]
+mod farms;
+#[cfg(test)]
+mod game;

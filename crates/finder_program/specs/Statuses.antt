@@ -1,0 +1,40 @@
+-- The exit status of each way to end, and how a call ends after each fault.
+use Rattle.std.specs.Prelude.{ℕ, Result, Ok, Err}
+use Rattle.judge.specs.declared.fault.JudgeFault.{JudgeFault}
+use Rattle.judge.specs.declared.fault.JudgeFault.TheVariants as judge
+use Rattle.link_io.specs.declared.sink.PutFault.{PutFault}
+use Rattle.link_io.specs.declared.sink.PutFault.TheVariants as put
+use Rattle.finder_program.specs.declared.read_input.InputFault.{InputFault}
+use Rattle.finder_program.specs.declared.read_input.InputFault.TheVariants as input
+use Rattle.finder_program.specs.declared.status.Status.{Status}
+use Rattle.finder_program.specs.declared.status.Status.TheVariants.{Done, Usage, ReadFault, WriteFault, Memory, BadInput, InputLimit}
+
+abbrev pub exit_code_of : Status → ℕ
+exit_code_of Done = 0
+exit_code_of Usage = 2
+exit_code_of ReadFault = 3
+exit_code_of WriteFault = 4
+exit_code_of Memory = 11
+exit_code_of (BadInput line) = 12
+exit_code_of InputLimit = 13
+
+-- where the input was not read to its end
+abbrev pub status_of_input : InputFault → Status
+status_of_input input.Failed = ReadFault
+status_of_input input.AtLimit = InputLimit
+status_of_input input.Memory = Memory
+
+-- where a search has no answer
+abbrev pub status_of_judge : JudgeFault → Status
+status_of_judge (judge.BadInput line) = BadInput line
+status_of_judge judge.Memory = Memory
+
+-- where not every byte was put
+abbrev pub status_of_put : PutFault → Status
+status_of_put put.Failed = WriteFault
+status_of_put put.Memory = Memory
+
+-- Done after a call that did its work, and else what it ended with
+abbrev pub status_of : Result (Unit {0}) Status → Status
+status_of (Ok done) = Done
+status_of (Err status) = status

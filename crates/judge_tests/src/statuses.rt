@@ -1,0 +1,28 @@
+//! What a call of the program ends with: the line on standard error, and the exit status.
+
+use finder_program::Status;
+use std::test::Fail;
+
+#[test]
+fn each_status_has_its_text_and_its_number(rt: HostRuntime) -> Result<(), Fail> {
+    let rows = [
+        (Status::Done, 0, "done"),
+        (Status::Usage, 2, "usage"),
+        (Status::ReadFault, 3, "the input could not be read"),
+        (Status::WriteFault, 4, "the output could not be written"),
+        (Status::Memory, 11, "out of memory"),
+        (Status::BadInput(1), 12, "line 1 is not in the written form"),
+        (
+            Status::BadInput(u64::MAX),
+            12,
+            "line 18446744073709551615 is not in the written form",
+        ),
+        (Status::InputLimit, 13, "the input is too long"),
+    ];
+    for (status, number, text) in rows {
+        assert_eq!(rt; status.exit_code(), number, "at {text}");
+        let printed = format!(in rt.alloc(); "{status}")?;
+        assert_eq!(rt; printed.as_str(), text);
+    }
+    Ok(())
+}
