@@ -1,0 +1,193 @@
+//! A disk over a file of the system: the trusted edge, which tells contracts nothing of its content.
+ghost use Rattle.std.specs.Prelude.{◌≡◌, ◌≤◌, [], false};
+ghost use Rattle.told_list.specs.Counts.{Rose};
+ghost use Rattle.farm_disk.specs.Answers.{OnFailed};
+
+use crate::{Did, Disk, Memory, Size, Written};
+use std::alloc::Global;
+use std::fs::{File, OpenOptions};
+use std::io;
+use std::os::unix::fs::FileExt;
+use std::path::Path;
+use std::rt::Files;
+
+/// A file as a disk. It is opened at its first use. A missing file reads as empty, and the first write makes it;
+/// that its name in its folder outlasts a crash isn't claimed. Nobody else may write to it.
+///
+/// A call that a signal interrupts is made again, and one that moves a part of the bytes goes on. Each other error is
+/// counted as a fault, and so is a call outside the size, a folder in place of the file, and a missing folder.
+#[derive(Drop)]
+pub struct FileDisk<R: Files<File = File> + Drop> {
+    rt: R,
+    path: String,
+    file: Option<File>,
+    faults: u64,
+}
+
+impl<R: Files<File = File> + Drop> FileDisk<R> {
+    /// The file at a path. It isn't touched yet.
+    pub fn at(alloc: Global, rt: R, path: &str) -> Result<FileDisk<R>, Memory> {
+        Ok(FileDisk {
+            rt,
+            path: String::from_str(alloc, path)?,
+            file: None,
+            faults: 0,
+        })
+    }
+
+    // Opens the file where it isn't open yet. A missing one stays missing, unless it is to be made.
+    fn open(&mut self, makes: bool) -> io::Result<()>
+        ensures { self.new.faults ≡ self.old.faults }
+    {
+        if self.file.is_some() {
+            return Ok(());
+        }
+        let mut options = OpenOptions::new();
+        let opened = options
+            .read(true)
+            .write(true)
+            .create(makes)
+            .open(&self.rt, self.path.as_str());
+        match opened {
+            Ok(file) => {
+                self.file = Some(file);
+                Ok(())
+            }
+            Err(error) if error.kind() == io::ErrorKind::NotFound && !makes => self.find_folder(),
+            Err(error) => Err(error),
+        }
+    }
+
+    // An error where the folder of the file is missing.
+    fn find_folder(&self) -> io::Result<()> {
+        match Path::new(self.path.as_str()).parent() {
+            Some(folder) if !folder.as_os_str().is_empty() => {
+                std::fs::metadata(&self.rt, folder)?;
+                Ok(())
+            }
+            _ => Ok(()),
+        }
+    }
+
+    fn size_now(&mut self) -> io::Result<u64>
+        ensures { self.new.faults ≡ self.old.faults }
+    {
+        self.open(false)?;
+        match &self.file {
+            Some(file) => Ok(file.metadata()?.len()),
+            None => Ok(0),
+        }
+    }
+
+    fn read_now(&mut self, at: u64, buf: &mut [u8]) -> io::Result<()>
+        ensures { self.new.faults ≡ self.old.faults }
+    {
+        let size = self.size_now()?;
+        within(at.saturating_add(buf.len() as u64), size)?;
+        match &self.file {
+            Some(file) => file.read_exact_at(buf, at),
+            None => Ok(()),
+        }
+    }
+
+    fn write_now(&mut self, at: u64, bytes: &[u8]) -> io::Result<()>
+        ensures { self.new.faults ≡ self.old.faults }
+    {
+        let size = self.size_now()?;
+        within(at, size)?;
+        self.open(true)?;
+        match &self.file {
+            Some(file) => file.write_all_at(bytes, at),
+            None => Ok(()),
+        }
+    }
+
+    fn cut_now(&mut self, size: u64) -> io::Result<()>
+        ensures { self.new.faults ≡ self.old.faults }
+    {
+        let present = self.size_now()?;
+        within(size, present)?;
+        match &self.file {
+            Some(file) => file.set_len(size),
+            None => Ok(()),
+        }
+    }
+
+    fn sync_now(&mut self) -> io::Result<()>
+        ensures { self.new.faults ≡ self.old.faults }
+    {
+        self.open(false)?;
+        match &self.file {
+            Some(file) => file.sync_data(),
+            None => Ok(()),
+        }
+    }
+
+    // Counts a fault where the call gave an error.
+    fn answer(&mut self, outcome: io::Result<()>) -> Did
+        ensures rises { OnFailed result (Rose self.old.faults self.new.faults) }
+        ensures never_falls { self.old.faults ≤ self.new.faults }
+    {
+        match outcome {
+            Ok(()) => Did::Did,
+            Err(_) => {
+                self.faults = self.faults.saturating_add(1);
+                Did::Failed
+            }
+        }
+    }
+}
+
+// An error where an offset is past the size.
+fn within(at: u64, size: u64) -> io::Result<()> {
+    if at <= size {
+        Ok(())
+    } else {
+        Err(io::Error::from(io::ErrorKind::UnexpectedEof))
+    }
+}
+
+impl<R: Files<File = File> + Drop> Disk for FileDisk<R> {
+    ghost tells = { λ d. false };
+
+    ghost told = { λ d. record { bytes = []; steps = [] } };
+
+    ghost count = { λ d. d.faults };
+
+    fn faults(&self) -> u64 {
+        self.faults
+    }
+
+    fn size(&mut self) -> Size {
+        match self.size_now() {
+            Ok(size) => Size::Size(size),
+            Err(_) => {
+                self.faults = self.faults.saturating_add(1);
+                Size::Failed
+            }
+        }
+    }
+
+    fn read(&mut self, at: u64, buf: &mut [u8]) -> Did {
+        let outcome = self.read_now(at, buf);
+        self.answer(outcome)
+    }
+
+    fn write_at(&mut self, at: u64, bytes: &[u8]) -> Written {
+        let outcome = self.write_now(at, bytes);
+        match self.answer(outcome) {
+            Did::Did => Written::Did,
+            Did::Failed => Written::Failed,
+        }
+    }
+
+    fn cut(&mut self, size: u64) -> Did {
+        let outcome = self.cut_now(size);
+        self.answer(outcome)
+    }
+
+    fn sync(&mut self) -> Did {
+        let outcome = self.sync_now();
+        self.answer(outcome)
+    }
+}
