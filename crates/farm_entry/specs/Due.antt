@@ -12,17 +12,17 @@ use Rattle.farm_entry.specs.Setup.{setup_of}
 use Rattle.farm_entry.specs.Standing.{standing}
 use Rattle.farm_entry.specs.declared.entry.Entry.{Entry}
 use Rattle.farm_entry.specs.declared.lease.DueRun.{DueRun}
-use Rattle.farm_entry.specs.declared.lease.Lease.{Lease}
+use Rattle.farm_entry.specs.declared.lease.LeasedRun.{LeasedRun}
 use Rattle.farm_entry.specs.declared.opening.Opening.{Opening}
 use Rattle.farm_entry.specs.declared.standing.Standing.{Standing}
 use Rattle.farm_entry.specs.declared.standing.Standing.TheVariants.{Searching, Verifying}
 
 -- whether a lease is open at a moment: its run has no report, and its deadline lies later
-abbrev pub is_open : List Entry → (moment : ℕ) → Lease → Bool
+abbrev pub is_open : List Entry → (moment : ℕ) → LeasedRun → Bool
 is_open H moment l = not (is_reported H l.run) && nat_lt moment l.deadline
 
 -- the open leases of a search at a stage
-abbrev pub open_leases : List Entry → (search : ℕ) → Stage → (moment : ℕ) → List Lease
+abbrev pub open_leases : List Entry → (search : ℕ) → Stage → (moment : ℕ) → List LeasedRun
 open_leases H search stage moment = filter (λ l. same_stage l.stage stage && is_open H moment l) (leases H search)
 
 -- their positions, by the numbers of the runs
@@ -31,12 +31,12 @@ open_positions H search stage moment = map (λ l. l.position) (open_leases H sea
 
 -- The leases of a search that are outstanding at a moment: those that are open, of the stage at which the search stands.
 -- The rules below take their positions
-abbrev pub outstanding_at : Standing → List Entry → (search : ℕ) → (moment : ℕ) → List Lease
+abbrev pub outstanding_at : Standing → List Entry → (search : ℕ) → (moment : ℕ) → List LeasedRun
 outstanding_at Searching H search moment = open_leases H search Search moment
 outstanding_at (Verifying culprit) H search moment = open_leases H search Verify moment
 outstanding_at _ H search moment = []
 
-abbrev pub outstanding : List Entry → Opening → (moment : ℕ) → List Lease
+abbrev pub outstanding : List Entry → Opening → (moment : ℕ) → List LeasedRun
 outstanding H o moment = outstanding_at (standing H o) H o.search moment
 
 -- where a search that is searching is to run next

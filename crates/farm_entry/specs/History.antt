@@ -14,8 +14,8 @@ use Rattle.farm_entry.specs.declared.entry.Fate.{Fate}
 use Rattle.farm_entry.specs.declared.entry.Fate.TheVariants.{Counted, Over}
 use Rattle.farm_entry.specs.declared.entry.What.{What}
 use Rattle.farm_entry.specs.declared.entry.What.TheVariants.{Founded, Opened, Leased, Reported, Cancelled, Ordered}
-use Rattle.farm_entry.specs.declared.lease.Lease.{Lease}
-use Rattle.farm_entry.specs.declared.lease.Report.{Report}
+use Rattle.farm_entry.specs.declared.lease.LeasedRun.{LeasedRun}
+use Rattle.farm_entry.specs.declared.lease.ReportedRun.{ReportedRun}
 use Rattle.farm_entry.specs.declared.opening.Opening.{Opening}
 use Rattle.farm_entry.specs.declared.order_page.OrderLine.{OrderLine}
 use Rattle.farm_entry.specs.declared.settings.Settings.{Settings}
@@ -30,12 +30,12 @@ abbrev pub opening_in : What → Option Opening
 opening_in (Opened opening) = Some opening
 opening_in _ = None
 
-abbrev pub lease_in : What → Option Lease
+abbrev pub lease_in : What → Option LeasedRun
 lease_in (Leased key worker run search stage position deadline) =
     Some (record { run = run; search = search; stage = stage; position = position; deadline = deadline })
 lease_in _ = None
 
-abbrev pub report_in : What → Option Report
+abbrev pub report_in : What → Option ReportedRun
 report_in (Reported run verdict fate) = Some (record { run = run; verdict = verdict; fate = fate })
 report_in _ = None
 
@@ -79,10 +79,10 @@ zone_minutes H = unwrap_or (option_map settings_zone_minutes (settings_of H)) (p
 abbrev pub openings : List Entry → List Opening
 openings H = filter_map (λ e. opening_in e.what) H
 
-abbrev pub all_leases : List Entry → List Lease
+abbrev pub all_leases : List Entry → List LeasedRun
 all_leases H = filter_map (λ e. lease_in e.what) H
 
-abbrev pub reports : List Entry → List Report
+abbrev pub reports : List Entry → List ReportedRun
 reports H = filter_map (λ e. report_in e.what) H
 
 abbrev pub cancellations : List Entry → List ℕ
@@ -96,11 +96,11 @@ abbrev pub opening_numbered : List Entry → (search : ℕ) → Option Opening
 opening_numbered H search = find (λ o. o.search == search) (openings H)
 
 -- the lease of a run
-abbrev pub lease_of : List Entry → (run : ℕ) → Option Lease
+abbrev pub lease_of : List Entry → (run : ℕ) → Option LeasedRun
 lease_of H run = find (λ l. l.run == run) (all_leases H)
 
 -- the leases of a search, at both stages
-abbrev pub leases : List Entry → (search : ℕ) → List Lease
+abbrev pub leases : List Entry → (search : ℕ) → List LeasedRun
 leases H search = filter (λ l. l.search == search) (all_leases H)
 
 -- whether a run has a report
@@ -122,12 +122,12 @@ is_over Over = true
 is_over _ = false
 
 -- a lease's run with its verdict, where the lease is of a search at a stage
-abbrev pub run_of : (search : ℕ) → Stage → Verdict → Lease → Option Run
+abbrev pub run_of : (search : ℕ) → Stage → Verdict → LeasedRun → Option Run
 run_of search stage verdict l =
     if l.search == search && same_stage l.stage stage then Some (record { position = l.position; verdict = verdict }) else None
 
 -- the run of a report that counts, where it is of a search at a stage
-abbrev pub counted_run : List Entry → (search : ℕ) → Stage → Report → Option Run
+abbrev pub counted_run : List Entry → (search : ℕ) → Stage → ReportedRun → Option Run
 counted_run H search stage r =
     if is_counted r.fate then option_and_then (run_of search stage r.verdict) (lease_of H r.run) else None
 
@@ -144,7 +144,7 @@ abbrev pub reruns : List Entry → (search : ℕ) → List Run
 reruns H search = counted H search Verify
 
 -- whether a lease is of a search
-abbrev pub is_of_search : (search : ℕ) → Option Lease → Bool
+abbrev pub is_of_search : (search : ℕ) → Option LeasedRun → Bool
 is_of_search search None = false
 is_of_search search (Some l) = l.search == search
 
@@ -183,7 +183,7 @@ abbrev pub place_of_key : List Entry → Key → Option ℕ
 place_of_key H key = position (has_key key) H
 
 -- whether a report is there and is of a run
-abbrev pub is_of_run : (run : ℕ) → Option Report → Bool
+abbrev pub is_of_run : (run : ℕ) → Option ReportedRun → Bool
 is_of_run run None = false
 is_of_run run (Some r) = r.run == run
 

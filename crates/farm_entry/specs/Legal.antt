@@ -3,8 +3,8 @@ use Rattle.std.specs.Prelude.{◌≡◌, List, [], ◌∷◌, ◌++◌, Option, 
 use Rattle.flake_rate.specs.Bar.{bar_denominator, bar_numerator}
 use Rattle.flake_rate.specs.Miss.{miss_denominator, miss_numerator}
 use Rattle.flake_rate.specs.Rate.{rate_denominator, rate_numerator}
-use Rattle.farm_entry.specs.Answer.{answer}
-use Rattle.farm_entry.specs.declared.answer.Answer.TheVariants.{New}
+use Rattle.farm_entry.specs.Decision.{decide}
+use Rattle.farm_entry.specs.declared.decision.Decision.TheVariants.{New}
 use Rattle.farm_entry.specs.declared.command.Command.{Command}
 use Rattle.farm_entry.specs.declared.command.Command.TheVariants.{Open, Lease, Report, Cancel, TakeRevert}
 use Rattle.farm_entry.specs.declared.command.OpenAsk.{OpenAsk}
@@ -13,7 +13,7 @@ use Rattle.farm_entry.specs.declared.entry.What.{What}
 use Rattle.farm_entry.specs.declared.entry.What.TheVariants.{Founded, Opened, Leased, Reported, Cancelled, Ordered}
 use Rattle.farm_entry.specs.declared.opening.Opening.{Opening}
 
--- the open that an opening answers
+-- the open that an opening names
 abbrev pub ask_of : Opening → OpenAsk
 ask_of o = record {
   key = o.key;
@@ -28,7 +28,7 @@ ask_of o = record {
   reruns = o.reruns;
 }
 
--- the command that an entry answers, by its kind, key and contents. A founding answers none
+-- the command that an entry names, by its kind, key and contents. A founding names none
 abbrev pub command_of : What → Option Command
 command_of (Founded settings) = None
 command_of (Opened o) = Some (Open (ask_of o))
@@ -40,7 +40,7 @@ command_of (Ordered key agent order commit search day) = Some (TakeRevert key ag
 -- an entry is the one that a command adds to a history at the entry's moment
 abbrev pub IsAddedBy : List Entry → Entry → Option Command → Type 0
 IsAddedBy H e None = ⊥
-IsAddedBy H e (Some q) = answer H q e.at ≡ New e
+IsAddedBy H e (Some q) = decide H q e.at ≡ New e
 
 -- an entry may come next: it is what the command that it names adds
 abbrev pub IsNext : List Entry → Entry → Type 0

@@ -8,7 +8,5 @@ pub mod Due
 pub mod Orders
 pub mod Pages
 pub mod Reply
-pub mod Answer
+pub mod Decision
 pub mod Legal
-pub mod Laws
-pub mod Example

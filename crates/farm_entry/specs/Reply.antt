@@ -9,12 +9,12 @@ use Rattle.farm_entry.specs.declared.entry.Entry.{Entry}
 use Rattle.farm_entry.specs.declared.entry.Fate.{Fate}
 use Rattle.farm_entry.specs.declared.entry.What.{What}
 use Rattle.farm_entry.specs.declared.entry.What.TheVariants.{Founded, Opened, Leased, Reported, Cancelled, Ordered}
-use Rattle.farm_entry.specs.declared.lease.Lease.{Lease}
+use Rattle.farm_entry.specs.declared.lease.LeasedRun.{LeasedRun}
 use Rattle.farm_entry.specs.declared.reply.Reply.{Reply}
 use Rattle.farm_entry.specs.declared.reply.Reply.TheVariants as reply
 
 -- the reply to a report: the run's search, and where it stands
-abbrev pub reply_to_report : List Entry → Verdict → Fate → Lease → Option Reply
+abbrev pub reply_to_report : List Entry → Verdict → Fate → LeasedRun → Option Reply
 reply_to_report H verdict fate l =
     option_map (λ o. reply.Reported l.run l.search verdict fate (standing H o)) (opening_numbered H l.search)
 

@@ -25,15 +25,15 @@ standing_of_reached o again (Some i) =
     if i == hypotheses (setup_of o) then NoCulprit else standing_of_outcome i (outcome i o.reruns again)
 
 -- the hypothesis of a search that is at the bar: its counted runs have brought it there, or its prior weight alone
-abbrev pub named : List Entry → Opening → Option ℕ
-named H o = reached (setup_of o) (runs H o.search)
+abbrev pub at_bar : List Entry → Opening → Option ℕ
+at_bar H o = reached (setup_of o) (runs H o.search)
 
 -- where a search stands, by the first case that fits: it was cancelled, it went over its budget, or what its belief says
 abbrev pub standing : List Entry → Opening → Standing
 standing H o =
     if was_cancelled H o.search then Cancelled
     else (if went_over H o.search then Inconclusive
-    else standing_of_reached o (reruns H o.search) (named H o))
+    else standing_of_reached o (reruns H o.search) (at_bar H o))
 
 abbrev pub is_searching : Standing → Bool
 is_searching Searching = true

@@ -4,7 +4,7 @@ use weight_exact::Verdict;
 
 /// A run that was handed out, as its entry says.
 #[derive(Clone, Copy, Debug, PartialEq, Eq, Hash)]
-pub struct Lease {
+pub struct LeasedRun {
     /// The number of the run, from 1.
     pub run: u32,
     /// The search that the run is for.
@@ -19,7 +19,7 @@ pub struct Lease {
 
 /// The first report of a run, as its entry says.
 #[derive(Clone, Copy, Debug, PartialEq, Eq)]
-pub struct Report {
+pub struct ReportedRun {
     /// The number of the run, from 1.
     pub run: u32,
     /// What the test said.

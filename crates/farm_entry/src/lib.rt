@@ -11,14 +11,14 @@
 //!
 //! The definitions stand in `specs/`, to be read in this order: `Ask` (the search that a request asks for), `Setup` (from
 //! an opening to its weights), `History` (what a list of entries holds), `Standing`, `Due`, `Orders`, `Pages`, `Reply`,
-//! `Answer` and `Legal`. They compute, so that [`laws::worked`] plays small farms by evaluating them; the other modules
-//! of [`laws`] say what holds of every legal history.
+//! `Decision` and `Legal`. They compute. Their laws stand in a crate above this one, `farm_laws`, and farms that are played
+//! by evaluating them in `farm_worked`; what is shown here, in `proofs/Growing`, is what a history holds after one entry
+//! more.
 #![tactic(auto)]
 
-mod answer;
 mod command;
+mod decision;
 mod entry;
-pub mod laws;
 mod lease;
 mod limits;
 mod opening;
@@ -32,10 +32,10 @@ mod suspects;
 #[cfg(test)]
 mod tests;
 
-pub use answer::Answer;
 pub use command::{Command, OpenAsk};
+pub use decision::Decision;
 pub use entry::{Entry, Fate, What};
-pub use lease::{DueRun, Lease, Report};
+pub use lease::{DueRun, LeasedRun, ReportedRun};
 pub use limits::{MAX_ENTRIES, MAX_RERUNS, MAX_SEARCHES, MAX_WIDTH};
 pub use opening::{BoxedOpening, Opening};
 pub use order_page::{OrderLine, OrderPage};

@@ -1,16 +1,16 @@
 -- A history stays legal with the entry that a command adds.
 use Rattle.std.proofs.Common.{◌≡◌, List, [], ◌∷◌, ◌++◌, sym, subst, ◌∙◌}
 use Rattle.farm_types.specs.declared.moment.Moment.{Moment}
-use Rattle.farm_entry.specs.Answer.{answer}
+use Rattle.farm_entry.specs.Decision.{decide}
 use Rattle.farm_entry.specs.Legal.{IsLegal}
-use Rattle.farm_entry.specs.declared.answer.Answer.{Answer}
-use Rattle.farm_entry.specs.declared.answer.Answer.TheVariants.{New}
+use Rattle.farm_entry.specs.declared.decision.Decision.{Decision}
+use Rattle.farm_entry.specs.declared.decision.Decision.TheVariants.{New}
 use Rattle.farm_entry.specs.declared.command.Command.{Command}
 use Rattle.farm_entry.specs.declared.entry.Entry.{Entry}
-use Rattle.farm_entry.proofs.Induct.{IsLegal-push}
-use Rattle.farm_entry.proofs.Recorded.{recorded}
+use Rattle.farm_laws.proofs.Induct.{IsLegal-push}
+use Rattle.farm_laws.proofs.Recorded.{recorded}
 
-pub played : (H G : List Entry) (q : Command) (m : Moment) (a : Answer) (e : Entry) →
-    IsLegal H → a ≡ answer H q m → a ≡ New e → G ≡ H ++ e ∷ [] → IsLegal G
+pub played : (H G : List Entry) (q : Command) (m : Moment) (a : Decision) (e : Entry) →
+    IsLegal H → a ≡ decide H q m → a ≡ New e → G ≡ H ++ e ∷ [] → IsLegal G
 played H G q m a e legal is new longer =
     subst IsLegal (sym longer) (IsLegal-push H e legal (recorded H q m e (sym is ∙ new)))

@@ -1,11 +1,11 @@
 //! A farm that is played command by command, by the plain program over the list of its entries.
 
 use farm_entry::{
-    Answer, Command, Entry, Fate, OpenAsk, Refusal, Reply, SearchPage, Settings, Standing,
+    Decision, Command, Entry, Fate, OpenAsk, Refusal, Reply, SearchPage, Settings, Standing,
     Suspects, Totals, What,
 };
 use farm_types::{CommitId, Key, Moment, Name, Stage};
-use plain_farm::{answer, reply_at};
+use plain_farm::{decide, reply_at};
 use std::alloc::Global;
 use std::marker::Model;
 use std::test::Fail;
@@ -147,15 +147,15 @@ impl Game {
 
     /// What a command comes to at a moment: its reply, or why it is refused. A new entry is appended.
     pub fn answer(&mut self, command: &Command, at: u64) -> Result<Answered, Fail> {
-        match answer(self.alloc, &self.history, command, Moment::of(at)?)? {
-            Answer::New(entry) => {
+        match decide(self.alloc, &self.history, command, Moment::of(at)?)? {
+            Decision::New(entry) => {
                 let place = self.history.len();
                 self.history.push(entry)?;
                 Ok(Ok(reply_at(self.alloc, &self.history, place)?))
             }
-            Answer::Repeat(place) => Ok(Ok(reply_at(self.alloc, &self.history, place as usize)?)),
-            Answer::Show(reply) => Ok(Ok(Some(reply))),
-            Answer::Refuse(refusal) => Ok(Err(refusal)),
+            Decision::Repeat(place) => Ok(Ok(reply_at(self.alloc, &self.history, place as usize)?)),
+            Decision::Show(reply) => Ok(Ok(Some(reply))),
+            Decision::Refuse(refusal) => Ok(Err(refusal)),
         }
     }
 

@@ -26,7 +26,7 @@ use Rattle.farm_entry.specs.Legal.{IsLegal}
 use Rattle.farm_entry.specs.Standing.{standing}
 use Rattle.farm_entry.specs.declared.entry.Entry.{Entry}
 use Rattle.farm_entry.specs.declared.standing.Standing.TheVariants.{Searching}
-use Rattle.farm_entry.proofs.Filters.{All-imp}
+use Rattle.farm_laws.proofs.Filters.{All-imp}
 use Rattle.plain_farm.specs.Loads.{LoadsFit}
 use Rattle.plain_farm.proofs.Histories.{loads_fit, opened_range, runs_in_range, some_left}
 use Rattle.farm_entry.specs.Setup.{setup_of}

@@ -12,7 +12,7 @@ use Rattle.farm_entry.specs.History.{all_leases, counted, counted_run, lease_in,
 use Rattle.farm_entry.specs.Legal.{IsLegal}
 use Rattle.farm_entry.specs.Orders.{ordered}
 use Rattle.farm_entry.specs.declared.entry.Entry.{Entry}
-use Rattle.farm_entry.specs.declared.lease.Lease.{Lease}
+use Rattle.farm_entry.specs.declared.lease.LeasedRun.{LeasedRun}
 use Rattle.farm_entry.specs.declared.order_page.OrderLine.{OrderLine}
 use Rattle.plain_farm.proofs.Histories.{few_entries}
 use Rattle.plain_history.proofs.Holding.{length-filter_map-le, length-filter-le}
@@ -27,7 +27,7 @@ pub few_orders : (H : List Entry) → IsLegal H → length (order_lines H) ≤ 1
 few_orders H legal = omega (arith, length-filter_map-le (λ (e : Entry). order_in e.what) H, few_entries H legal)
 
 pub few_of_search : (H : List Entry) (search : ℕ) → IsLegal H → length (leases H search) ≤ 1000000
-few_of_search H search legal = omega (arith, length-filter-le (λ (l : Lease). l.search == search) (all_leases H), few_leases H legal)
+few_of_search H search legal = omega (arith, length-filter-le (λ (l : LeasedRun). l.search == search) (all_leases H), few_leases H legal)
 
 pub few_counted : (H : List Entry) (search : ℕ) (stage : Stage) → IsLegal H → length (counted H search stage) ≤ 1000000
 few_counted H search stage legal =

@@ -2,12 +2,12 @@
 use Rattle.std.proofs.Common.{◌≡◌, ◌≢◌, ℕ, ◌+◌, ◌<◌, Bool, IsTrue, Decides, List, [], ◌∷◌, ◌++◌, length, get_or, take, drop, Option, Some, inr, sym, ap, subst, ◌∙◌, arith, length-append}
 use Rattle.std.specs.Prelude.{◌↔◌}
 use Rattle.std.proofs.lemmas.List.{take-append-drop}
-use Rattle.farm_entry.specs.Answer.{answer}
+use Rattle.farm_entry.specs.Decision.{decide}
 use Rattle.farm_entry.specs.Legal.{IsAddedBy, IsLegal, IsNext}
-use Rattle.farm_entry.specs.declared.answer.Answer.TheVariants.{New}
+use Rattle.farm_entry.specs.declared.decision.Decision.TheVariants.{New}
 use Rattle.farm_entry.specs.declared.command.Command.{Command}
 use Rattle.farm_entry.specs.declared.entry.Entry.{Entry}
-use Rattle.farm_entry.proofs.Induct.{IsLegal-first, IsLegal-push, IsLegal-pushed}
+use Rattle.farm_laws.proofs.Induct.{IsLegal-first, IsLegal-push, IsLegal-pushed}
 use Rattle.plain_farm.specs.Stops.{StopsAt}
 use Rattle.plain_history.proofs.Items.{take-at}
 
@@ -16,13 +16,13 @@ use Rattle.plain_history.proofs.Items.{take-at}
 same_entry : (a b : Entry) → New a ≡ New b → a ≡ b
 same_entry a b h = cc
 
-pub added-tells : (H : List Entry) (e made : Entry) (q : Command) (b : Bool) → answer H q e.at ≡ New made → Decides b (made ≡ e) →
+pub added-tells : (H : List Entry) (e made : Entry) (q : Command) (b : Bool) → decide H q e.at ≡ New made → Decides b (made ≡ e) →
     IsTrue b ↔ IsAddedBy H e (Some q)
 added-tells H e made q b answered decides =
     (λ same. answered ∙ ap New (decides.0 same), λ next. decides.1 (same_entry made e (sym answered ∙ next)))
 
 pub next-tells : (H : List Entry) (e made : Entry) (q : Command) (o : Option Command) (b : Bool) → o ≡ Some q →
-    answer H q e.at ≡ New made → Decides b (made ≡ e) → IsTrue b ↔ IsAddedBy H e o
+    decide H q e.at ≡ New made → Decides b (made ≡ e) → IsTrue b ↔ IsAddedBy H e o
 next-tells H e made q o b asked answered decides =
     subst (λ (p : Option Command). IsTrue b ↔ IsAddedBy H e p) (sym asked) (added-tells H e made q b answered decides)
 

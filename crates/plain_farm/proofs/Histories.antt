@@ -10,9 +10,9 @@ use Rattle.weight_exact.specs.Load.{floor, is_fail_above, load, may_miss}
 use Rattle.weight_exact.specs.declared.factors.Factors.{Factors}
 use Rattle.weight_exact.specs.Weights.{AreInRange, Setup, suspects}
 use Rattle.weight_exact.specs.declared.run.Run.{Run}
-use Rattle.farm_entry.specs.Answer.{run_with}
+use Rattle.farm_entry.specs.Decision.{run_with}
 use Rattle.farm_entry.specs.History.{openings, runs}
-use Rattle.farm_entry.specs.Laws.{culprit_of}
+use Rattle.farm_laws.specs.Laws.{culprit_of}
 use Rattle.farm_entry.specs.Legal.{IsLegal}
 use Rattle.farm_entry.specs.Setup.{setup_of}
 use Rattle.farm_entry.specs.Standing.{is_searching, standing}
@@ -20,12 +20,12 @@ use Rattle.farm_entry.specs.declared.entry.Entry.{Entry}
 use Rattle.farm_entry.specs.declared.limits.TheConstants.{MAX_ENTRIES, MAX_WIDTH}
 use Rattle.farm_entry.specs.declared.opening.Opening.{Opening}
 use Rattle.farm_entry.specs.declared.standing.Standing.TheVariants.{Searching, Verifying}
-use Rattle.farm_entry.proofs.Bounds.{entries-bounded}
-use Rattle.farm_entry.proofs.InRange.{runs-in_range}
-use Rattle.farm_entry.proofs.OpenLimits.{open_within, setup_facts}
-use Rattle.farm_entry.proofs.Opened.{each_opened, fresh-counted}
-use Rattle.farm_entry.proofs.RunSteps.{GrownRuns, runs-step}
-use Rattle.farm_entry.proofs.Standings.{culprit-named, searching-named, some-left}
+use Rattle.farm_laws.proofs.Bounds.{entries-bounded}
+use Rattle.farm_laws.proofs.InRange.{runs-in_range}
+use Rattle.farm_laws.proofs.OpenLimits.{open_within, setup_facts}
+use Rattle.farm_laws.proofs.Opened.{each_opened, fresh-counted}
+use Rattle.farm_laws.proofs.RunSteps.{GrownRuns, runs-step}
+use Rattle.farm_laws.proofs.Standings.{culprit-at_bar, searching-at_bar, some-left}
 use Rattle.plain_farm.specs.Loads.{LoadsFit}
 
 -- stated by `farm_entry`
@@ -49,12 +49,12 @@ runs_in_range = runs-in_range
 pub named_in_range : (H : List Entry) (o : Opening) (culprit : ℕ) → standing H o ≡ Verifying culprit →
     (1 ≤ culprit) × (culprit ≤ suspects (setup_of o))
 named_in_range H o culprit stands =
-    let named = culprit-named H o culprit (ap culprit_of stands) in (named.1, named.2)
+    let named = culprit-at_bar H o culprit (ap culprit_of stands) in (named.1, named.2)
 
 pub some_left : (H : List Entry) (o : Opening) → IsLegal H → Contains (openings H) o → standing H o ≡ Searching →
     floor (setup_of o).factors (runs H o.search) < suspects (setup_of o)
 some_left H o legal opened stands =
-    some-left (setup_of o) (runs H o.search) (setup_facts o (open_within H o legal opened)) (searching-named H o (ap is_searching stands))
+    some-left (setup_of o) (runs H o.search) (setup_facts o (open_within H o legal opened)) (searching-at_bar H o (ap is_searching stands))
 
 -- Each beginning of the runs of a search is within its budget, since a run counts only where it keeps the load within it.
 

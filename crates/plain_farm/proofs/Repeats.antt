@@ -1,7 +1,7 @@
--- The answer to a command whose key stands at a place.
+-- The decision on a command whose key stands at a place.
 use Rattle.std.proofs.Common.{◌≡◌, ℕ, Bool, List, slice_get, if◌then◌else◌, Option, Some, sym, ap, ◌∙◌}
-use Rattle.farm_entry.specs.Answer.{asked_before, asks_for, repeat_or_clash}
-use Rattle.farm_entry.specs.declared.answer.Answer.TheVariants.{Refuse, Repeat}
+use Rattle.farm_entry.specs.Decision.{asked_before, asks_for, repeat_or_clash}
+use Rattle.farm_entry.specs.declared.decision.Decision.TheVariants.{Refuse, Repeat}
 use Rattle.farm_entry.specs.declared.command.Command.{Command}
 use Rattle.farm_entry.specs.declared.entry.Entry.{Entry}
 use Rattle.farm_entry.specs.declared.refusal.Refusal.TheVariants.{KeyClash}

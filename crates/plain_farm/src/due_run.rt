@@ -15,7 +15,7 @@ ghost use Rattle.plain_history.specs.Held.{IsHeld};
 ghost use Rattle.farm_entry.specs.declared.standing.Standing.TheVariants.{Searching};
 
 use crate::standings::{belief, standing};
-use farm_entry::{DueRun, Entry, Lease, Opening, Standing, What};
+use farm_entry::{DueRun, Entry, LeasedRun, Opening, Standing, What};
 use farm_types::{Memory, Stage};
 use plain_history::{is_reported, last_lease, leases, opening_in, push_some, reruns, same_stage};
 use posterior::Belief;
@@ -27,7 +27,7 @@ use threshold_pick::plan_into;
 use weight_exact::{Run, Steps};
 
 /// Whether a lease is open at a moment: its run has no report, and its deadline lies later.
-pub fn is_open(history: &[Entry], moment: u64, lease: Lease) -> bool
+pub fn is_open(history: &[Entry], moment: u64, lease: LeasedRun) -> bool
     ensures { result ≡ is_open history.now moment lease }
 {
     !is_reported(history, lease.run) && moment < lease.deadline
@@ -40,7 +40,7 @@ pub fn open_leases(
     search: u32,
     stage: Stage,
     moment: u64,
-) -> Result<Vec<Lease>, Memory>
+) -> Result<Vec<LeasedRun>, Memory>
     ensures { IfOk result (λ found. found.items ≡ open_leases history.now search stage moment) }
 {
     let all = leases(alloc, history, search)?;

@@ -4,13 +4,13 @@ ghost use Rattle.std.specs.Prelude.{◌≡◌, ◌↔◌, take, IsTrue, IfOk};
 ghost use Rattle.farm_entry.specs.Legal.{IsLegal, IsNext, ask_of, command_of};
 ghost use Rattle.plain_farm.specs.Stops.{IsFirstIllegal};
 
-use crate::answers::answer;
-use farm_entry::{Answer, Command, Entry, OpenAsk, Opening, Suspects, What};
+use crate::decisions::decide;
+use farm_entry::{Decision, Command, Entry, OpenAsk, Opening, Suspects, What};
 use farm_types::Memory;
 use std::alloc::Global;
 use std::ops::Deref;
 
-/// The open that an opening answers.
+/// The open that an opening names.
 fn ask_of(alloc: Global, opening: &Opening) -> Result<OpenAsk, Memory>
     ensures { IfOk result (λ ask. ask ≡ ask_of opening.now) }
 {
@@ -28,7 +28,7 @@ fn ask_of(alloc: Global, opening: &Opening) -> Result<OpenAsk, Memory>
     })
 }
 
-/// The command that an entry answers, by its kind, key and contents. A founding answers none.
+/// The command that an entry names, by its kind, key and contents. A founding names none.
 pub fn command_of(alloc: Global, what: &What) -> Result<Option<Command>, Memory>
     ensures { IfOk result (λ command. command ≡ command_of what.now) }
 {
@@ -62,8 +62,8 @@ pub fn is_next(alloc: Global, history: &[Entry], entry: &Entry) -> Result<bool, 
     let Some(command) = command_of(alloc, &entry.what)? else {
         return Ok(false);
     };
-    match answer(alloc, history, &command, entry.at)? {
-        Answer::New(made) => Ok(made == *entry),
+    match decide(alloc, history, &command, entry.at)? {
+        Decision::New(made) => Ok(made == *entry),
         _ => Ok(false),
     }
 }

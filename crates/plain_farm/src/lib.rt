@@ -14,9 +14,9 @@
 //! below. Its tests stand in `finder_tests`.
 #![tactic(auto)]
 
-mod answer_known;
-mod answer_new;
-mod answers;
+mod decision_known;
+mod decision_new;
+mod decisions;
 mod due_run;
 mod legal;
 mod orders;
@@ -24,7 +24,7 @@ mod pages;
 mod reply;
 mod standings;
 
-pub use answers::{answer, moment_used};
+pub use decisions::{decide, moment_used};
 pub use due_run::{due, due_runs, is_open, next_run, open_leases, open_positions, plan};
 pub use legal::{command_of, first_illegal, is_next};
 pub use orders::{Confirmed, Next, confirmed_searches, day_in, next_order_at};

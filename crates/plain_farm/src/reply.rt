@@ -10,7 +10,7 @@ ghost use Rattle.farm_entry.specs.Reply.{reply_at, reply_to, reply_to_report};
 
 use crate::pages::budget_of_search;
 use crate::standings::{commit_of, standing};
-use farm_entry::{Entry, Fate, Lease, Opening, Reply, What};
+use farm_entry::{Entry, Fate, LeasedRun, Opening, Reply, What};
 use farm_types::Memory;
 use plain_history::{lease_of, opening_numbered};
 use std::alloc::Global;
@@ -31,7 +31,7 @@ fn reply_to_opening(alloc: Global, history: &[Entry], opening: &Opening) -> Resu
 }
 
 /// The reply to a lease: the run with the commit at its position and the test of its search.
-fn reply_to_lease(history: &[Entry], lease: Lease) -> Result<Option<Reply>, Memory>
+fn reply_to_lease(history: &[Entry], lease: LeasedRun) -> Result<Option<Reply>, Memory>
     ensures { IfOk result (λ reply. reply ≡ option_map (λ o. Reply.Leased lease.run lease.search
         lease.stage lease.position (commit_of o lease.position) o.test lease.deadline)
         (opening_numbered history.now lease.search)) }
@@ -56,7 +56,7 @@ fn reply_to_report(
     history: &[Entry],
     verdict: Verdict,
     fate: Fate,
-    lease: Lease,
+    lease: LeasedRun,
 ) -> Result<Option<Reply>, Memory>
     requires { IsLegal history.now }
     ensures { IfOk result (λ reply. reply ≡ reply_to_report history.now verdict fate lease) }
@@ -90,7 +90,7 @@ pub fn reply_to(alloc: Global, history: &[Entry], what: &What) -> Result<Option<
             deadline,
             ..
         } => {
-            let lease = Lease {
+            let lease = LeasedRun {
                 run: *run,
                 search: *search,
                 stage: *stage,

@@ -4,7 +4,7 @@ ghost use Rattle.std.specs.Prelude.{◌≡◌, is_some, IfOk};
 ghost use Rattle.std.specs.Option.{option_copied};
 ghost use Rattle.farm_entry.specs.History.{cancelled_in, key_in, lease_in, opening_in, order_in, report_in, settings_in};
 
-use farm_entry::{Lease, Opening, OrderLine, Report, Settings, What};
+use farm_entry::{LeasedRun, Opening, OrderLine, ReportedRun, Settings, What};
 use farm_types::{Key, Memory};
 use std::ops::Deref;
 
@@ -29,7 +29,7 @@ pub fn opening_in(what: &What) -> Option<&Opening>
 }
 
 /// The lease that an entry records.
-pub fn lease_in(what: &What) -> Option<Lease>
+pub fn lease_in(what: &What) -> Option<LeasedRun>
     ensures { result ≡ lease_in what.now }
 {
     match what {
@@ -40,7 +40,7 @@ pub fn lease_in(what: &What) -> Option<Lease>
             position,
             deadline,
             ..
-        } => Some(Lease {
+        } => Some(LeasedRun {
             run: *run,
             search: *search,
             stage: *stage,
@@ -52,11 +52,11 @@ pub fn lease_in(what: &What) -> Option<Lease>
 }
 
 /// The report that an entry records.
-pub fn report_in(what: &What) -> Option<Report>
+pub fn report_in(what: &What) -> Option<ReportedRun>
     ensures { result ≡ report_in what.now }
 {
     match what {
-        What::Reported { run, verdict, fate } => Some(Report {
+        What::Reported { run, verdict, fate } => Some(ReportedRun {
             run: *run,
             verdict: *verdict,
             fate: *fate,

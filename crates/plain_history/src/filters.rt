@@ -9,7 +9,7 @@ use crate::entries::{
     cancelled_in, is_opening, is_order, key_in, lease_in, opening_in, order_in, report_in,
 };
 use crate::lists::push_some;
-use farm_entry::{Entry, Fate, Lease, Opening, OrderLine, Report};
+use farm_entry::{Entry, Fate, LeasedRun, Opening, OrderLine, ReportedRun};
 use farm_types::{Key, Memory, Stage};
 use std::alloc::Global;
 use weight_exact::{Run, Verdict};
@@ -54,7 +54,7 @@ pub fn opening_numbered(history: &[Entry], search: u32) -> Option<&Opening>
 }
 
 /// The lease of a run.
-pub fn lease_of(history: &[Entry], run: u32) -> Option<Lease>
+pub fn lease_of(history: &[Entry], run: u32) -> Option<LeasedRun>
     ensures { result ≡ lease_of history.now run }
 {
     let mut leases = history.iter().filter_map(|entry| lease_in(&entry.what));
@@ -62,7 +62,7 @@ pub fn lease_of(history: &[Entry], run: u32) -> Option<Lease>
 }
 
 /// The leases of a search, at both stages.
-pub fn leases(alloc: Global, history: &[Entry], search: u32) -> Result<Vec<Lease>, Memory>
+pub fn leases(alloc: Global, history: &[Entry], search: u32) -> Result<Vec<LeasedRun>, Memory>
     ensures { IfOk result (λ found. found.items ≡ leases history.now search) }
 {
     let leases = history.iter().filter_map(|entry| lease_in(&entry.what));
@@ -112,7 +112,7 @@ fn is_over(fate: Fate) -> bool
 }
 
 /// A lease's run with its verdict, where the lease is of a search at a stage.
-fn run_of(search: u32, stage: Stage, verdict: Verdict, lease: Lease) -> Option<Run>
+fn run_of(search: u32, stage: Stage, verdict: Verdict, lease: LeasedRun) -> Option<Run>
     ensures { result ≡ run_of search stage verdict lease }
 {
     if lease.search == search && same_stage(lease.stage, stage) {
@@ -126,7 +126,7 @@ fn run_of(search: u32, stage: Stage, verdict: Verdict, lease: Lease) -> Option<R
 }
 
 /// The run of a report that counts, where it is of a search at a stage.
-fn counted_run(history: &[Entry], search: u32, stage: Stage, report: Report) -> Option<Run>
+fn counted_run(history: &[Entry], search: u32, stage: Stage, report: ReportedRun) -> Option<Run>
     ensures { result ≡ counted_run history.now search stage report }
 {
     if !is_counted(report.fate) {
@@ -170,7 +170,7 @@ pub fn reruns(alloc: Global, history: &[Entry], search: u32) -> Result<Vec<Run>,
 }
 
 /// Whether a lease is of a search.
-fn is_of_search(search: u32, lease: Option<Lease>) -> bool
+fn is_of_search(search: u32, lease: Option<LeasedRun>) -> bool
     ensures { result ≡ is_of_search search lease }
 {
     match lease {

@@ -1,6 +1,6 @@
 use Rattle.std.proofs.Common.{Bool, Decides, ◌≡◌, sym, subst, ◌∙◌}
 use Rattle.farm_entry.specs.Legal.{command_of}
-use Rattle.farm_entry.proofs.SameEntries.{same_entry-Decides}
+use Rattle.farm_laws.proofs.SameEntries.{same_entry-Decides}
 use Rattle.plain_farm.proofs.Growth.{next-tells}
 use Rattle.plain_farm.proofs.legal.is_next.Goals as goal
 

@@ -1,5 +1,0 @@
-use Rattle.farm_entry.proofs.OrdersOnce.{commits-once}
-use Rattle.farm_entry.proofs.laws.histories.each_commit_is_ordered_once.Goals as goal
-
-pub returns : goal.returns
-returns c = commits-once

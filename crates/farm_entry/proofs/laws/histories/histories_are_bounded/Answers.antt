@@ -1,5 +1,0 @@
-use Rattle.farm_entry.proofs.Bounds.{entries-bounded, openings-bounded}
-use Rattle.farm_entry.proofs.laws.histories.histories_are_bounded.Goals as goal
-
-pub returns : goal.returns
-returns c = record { entries = entries-bounded; searches = openings-bounded }

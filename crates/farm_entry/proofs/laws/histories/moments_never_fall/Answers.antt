@@ -1,5 +1,0 @@
-use Rattle.farm_entry.proofs.Moments.{moments-in_order}
-use Rattle.farm_entry.proofs.laws.histories.moments_never_fall.Goals as goal
-
-pub returns : goal.returns
-returns c = moments-in_order

@@ -1,5 +1,0 @@
-use Rattle.farm_entry.proofs.OrdersOnce.{days-limited}
-use Rattle.farm_entry.proofs.laws.histories.no_day_is_over_its_limit.Goals as goal
-
-pub returns : goal.returns
-returns c = days-limited

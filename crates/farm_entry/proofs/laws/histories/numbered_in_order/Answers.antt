@@ -1,5 +1,0 @@
-use Rattle.farm_entry.proofs.Numbered.{leases-numbered, openings-numbered, orders-numbered}
-use Rattle.farm_entry.proofs.laws.histories.numbered_in_order.Goals as goal
-
-pub returns : goal.returns
-returns c = record { searches = openings-numbered; runs = leases-numbered; orders = orders-numbered }

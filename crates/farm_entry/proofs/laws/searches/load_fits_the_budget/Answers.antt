@@ -1,5 +1,0 @@
-use Rattle.farm_entry.proofs.Ends.{load-fits}
-use Rattle.farm_entry.proofs.laws.searches.load_fits_the_budget.Goals as goal
-
-pub returns : goal.returns
-returns c = λ H o legal there. load-fits H legal o there

@@ -1,5 +1,0 @@
-use Rattle.farm_entry.proofs.Ends.{runs-stop}
-use Rattle.farm_entry.proofs.laws.searches.runs_of_a_search_stop_growing.Goals as goal
-
-pub returns : goal.returns
-returns c = runs-stop

@@ -1,0 +1,102 @@
+-- What a new entry says, by what it holds; and facts on each part of a legal history.
+use Rattle.std.proofs.Common.{◌≡◌, ℕ, List, [], ◌∷◌, ◌++◌, Option, Some, None, true, false, refl, sym, subst, true≢false}
+use Rattle.std.specs.List.{All, cons_option, filter_map}
+use Rattle.std.proofs.lemmas.List.Elements.{All-append, All-cons, All-nil}
+use Rattle.farm_types.specs.declared.moment.Moment.{Moment}
+use Rattle.farm_entry.specs.History.{cancelled_in, lease_in, opening_in, order_in, report_in}
+use Rattle.farm_entry.specs.Legal.{IsFounding, IsLegal}
+use Rattle.farm_entry.specs.declared.entry.Entry.{Entry}
+use Rattle.farm_entry.specs.declared.entry.What.{What}
+use Rattle.farm_entry.specs.declared.entry.What.TheVariants.{Founded, Opened, Leased, Reported, Cancelled, Ordered}
+use Rattle.farm_entry.specs.declared.lease.LeasedRun.{LeasedRun}
+use Rattle.farm_entry.specs.declared.lease.ReportedRun.{ReportedRun}
+use Rattle.farm_entry.specs.declared.opening.Opening.{Opening}
+use Rattle.farm_entry.specs.declared.order_page.OrderLine.{OrderLine}
+use Rattle.farm_entry.proofs.Growing.{parts-grow}
+use Rattle.farm_laws.proofs.Induct.{each_legal}
+use Rattle.farm_laws.proofs.Stepped.{CancelledNext, LeasedNext, OpenedNext, OrderedNext, ReportedNext, Stepped}
+
+-- nothing is no value
+pub none-some : {X : Type 0} (x : X) → None ≡ Some x → ⊥
+none-some x h = let b : true ≡ false = cc in true≢false b
+
+-- the facts of an entry that holds an opening, a lease, a report, a cancellation, an order
+
+pub opened-facts : (H : List Entry) (m : Moment) (w : What) (o : Opening) → opening_in w ≡ Some o → Stepped H m w → OpenedNext H o
+opened-facts H m (Opened x) o h s = let same : x ≡ o = cc in subst (λ (y : Opening). OpenedNext H y) same s.facts
+opened-facts H m (Founded x) o h s = absurd (none-some o h)
+opened-facts H m (Leased k w r q t p d) o h s = absurd (none-some o h)
+opened-facts H m (Reported r v _) o h s = absurd (none-some o h)
+opened-facts H m (Cancelled k q) o h s = absurd (none-some o h)
+opened-facts H m (Ordered k a n c q d) o h s = absurd (none-some o h)
+
+pub leased-facts : (H : List Entry) (m : Moment) (w : What) (l : LeasedRun) → lease_in w ≡ Some l → Stepped H m w → LeasedNext H m l
+leased-facts H m (Leased k w r q t p d) l h s =
+    let same : record { run = r; search = q; stage = t; position = p; deadline = d } ≡ l = cc in
+    subst (λ (y : LeasedRun). LeasedNext H m y) same s.facts
+leased-facts H m (Founded x) l h s = absurd (none-some l h)
+leased-facts H m (Opened x) l h s = absurd (none-some l h)
+leased-facts H m (Reported r v _) l h s = absurd (none-some l h)
+leased-facts H m (Cancelled k q) l h s = absurd (none-some l h)
+leased-facts H m (Ordered k a n c q d) l h s = absurd (none-some l h)
+
+pub reported-facts : (H : List Entry) (m : Moment) (w : What) (r : ReportedRun) → report_in w ≡ Some r → Stepped H m w →
+    ReportedNext H r.run r.verdict r.fate
+reported-facts H m (Reported n v f) r h s =
+    let same : record { run = n; verdict = v; fate = f } ≡ r = cc in
+    subst (λ (y : ReportedRun). ReportedNext H y.run y.verdict y.fate) same s.facts
+reported-facts H m (Founded x) r h s = absurd (none-some r h)
+reported-facts H m (Opened x) r h s = absurd (none-some r h)
+reported-facts H m (Leased k w n q t p d) r h s = absurd (none-some r h)
+reported-facts H m (Cancelled k q) r h s = absurd (none-some r h)
+reported-facts H m (Ordered k a n c q d) r h s = absurd (none-some r h)
+
+pub cancelled-facts : (H : List Entry) (m : Moment) (w : What) (q : ℕ) → cancelled_in w ≡ Some q → Stepped H m w → CancelledNext H q
+cancelled-facts H m (Cancelled k x) q h s = let same : x ≡ q = cc in subst (λ (y : ℕ). CancelledNext H y) same s.facts
+cancelled-facts H m (Founded x) q h s = absurd (none-some q h)
+cancelled-facts H m (Opened x) q h s = absurd (none-some q h)
+cancelled-facts H m (Leased k w n x t p d) q h s = absurd (none-some q h)
+cancelled-facts H m (Reported n v _) q h s = absurd (none-some q h)
+cancelled-facts H m (Ordered k a n c x d) q h s = absurd (none-some q h)
+
+pub ordered-facts : (H : List Entry) (m : Moment) (w : What) (x : OrderLine) → order_in w ≡ Some x → Stepped H m w →
+    OrderedNext H m x.order x.commit x.search x.day
+ordered-facts H m (Ordered k a n c q d) x h s =
+    let same : record { order = n; agent = a; commit = c; search = q; day = d } ≡ x = cc in
+    subst (λ (y : OrderLine). OrderedNext H m y.order y.commit y.search y.day) same s.facts
+ordered-facts H m (Founded y) x h s = absurd (none-some x h)
+ordered-facts H m (Opened y) x h s = absurd (none-some x h)
+ordered-facts H m (Leased k w n q t p d) x h s = absurd (none-some x h)
+ordered-facts H m (Reported n v _) x h s = absurd (none-some x h)
+ordered-facts H m (Cancelled k q) x h s = absurd (none-some x h)
+
+-- what holds of the value, if there is one, holds of the list of it
+All-optional : {X : Type 0} (P : X → Type 0) (o : Option X) → ((x : X) → o ≡ Some x → P x) → All P (cons_option o [])
+All-optional P None h = All-nil P
+All-optional P (Some x) h = All-cons P x [] (h x refl) (All-nil P)
+
+-- A part of each entry that has it. What holds of the part of a new entry, where it holds of all parts before, and stays,
+-- holds of all parts
+pub each_part_on : {X : Type 0} (part : What → Option X) (P : List Entry → X → Type 0) →
+    ((w : What) → IsFounding w → part w ≡ None) →
+    ((H : List Entry) (e : Entry) (x : X) → IsLegal H → All (P H) (filter_map (λ (y : Entry). part y.what) H) →
+    Stepped H e.at e.what → P H x → P (H ++ e ∷ []) x) →
+    ((H : List Entry) (e : Entry) (x : X) → IsLegal H → All (P H) (filter_map (λ (y : Entry). part y.what) H) →
+    Stepped H e.at e.what → part e.what ≡ Some x → P (H ++ e ∷ []) x) →
+    (H : List Entry) → IsLegal H → All (P H) (filter_map (λ (e : Entry). part e.what) H)
+each_part_on part P none stays fresh =
+    each_legal (λ (H : List Entry). All (P H) (filter_map (λ (e : Entry). part e.what) H))
+    (λ e founding. subst (λ o. All (P (e ∷ [])) (cons_option o [])) (sym (none e.what founding)) (All-nil (P (e ∷ []))))
+    (λ H e legal all s.
+    subst (λ xs. All (P (H ++ e ∷ [])) xs) (sym (parts-grow part H e))
+    (All-append (P (H ++ e ∷ [])) (filter_map (λ (x : Entry). part x.what) H) (cons_option (part e.what) [])
+    (λ k d below. stays H e _ legal all s (all k d below))
+    (All-optional (P (H ++ e ∷ [])) (part e.what) (λ x is. fresh H e x legal all s is))))
+
+pub each_part : {X : Type 0} (part : What → Option X) (P : List Entry → X → Type 0) →
+    ((w : What) → IsFounding w → part w ≡ None) →
+    ((H : List Entry) (e : Entry) (x : X) → IsLegal H → Stepped H e.at e.what → P H x → P (H ++ e ∷ []) x) →
+    ((H : List Entry) (e : Entry) (x : X) → IsLegal H → Stepped H e.at e.what → part e.what ≡ Some x → P (H ++ e ∷ []) x) →
+    (H : List Entry) → IsLegal H → All (P H) (filter_map (λ (e : Entry). part e.what) H)
+each_part part P none stays fresh =
+    each_part_on part P none (λ H e x legal all s. stays H e x legal s) (λ H e x legal all s. fresh H e x legal s)

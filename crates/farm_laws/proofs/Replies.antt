@@ -1,0 +1,111 @@
+-- Each entry after the founding has a reply, which stays.
+use Rattle.std.proofs.Common.{◌≡◌, ℕ, zero, suc, ◌+◌, ◌<◌, ◌≤◌, List, [], ◌∷◌, ◌++◌, length, take, slice_get, length-append, Option, Some, refl, sym, ap, subst, ◌∙◌, ⊎_elim, arith}
+use Rattle.std.specs.Option.{option_and_then, option_map}
+use Rattle.std.proofs.lemmas.Bool.{cases_lt}
+use Rattle.std.proofs.lemmas.List.{take-append-le, take_all}
+use Rattle.std.proofs.lemmas.List.Elements.{All-contains}
+use Rattle.farm_types.specs.Moment.{moment_ms}
+use Rattle.farm_types.specs.declared.moment.Moment.{Moment}
+use Rattle.farm_entry.specs.History.{all_leases, lease_of, opening_numbered, settings_in, settings_of}
+use Rattle.farm_entry.specs.Legal.{IsFounding, IsLegal}
+use Rattle.farm_entry.specs.Reply.{reply_at, reply_to, reply_to_report}
+use Rattle.farm_entry.specs.declared.entry.Entry.{Entry}
+use Rattle.farm_entry.specs.declared.entry.What.{What}
+use Rattle.farm_entry.specs.declared.entry.What.TheVariants.{Founded, Opened, Leased, Reported, Cancelled, Ordered}
+use Rattle.farm_entry.specs.declared.lease.LeasedRun.{LeasedRun}
+use Rattle.farm_entry.specs.declared.reply.Reply.{Reply}
+use Rattle.farm_entry.specs.declared.settings.Settings.{Settings}
+use Rattle.farm_laws.proofs.Filters.{lease_of-stays, opening_numbered-stays}
+use Rattle.farm_laws.proofs.Induct.{each_legal}
+use Rattle.farm_laws.proofs.Known.{HasOpening, leases-known, next_run-due}
+use Rattle.farm_laws.proofs.Numbered.{lease-there, opening-found}
+use Rattle.farm_laws.proofs.Stepped.{KindFacts}
+
+-- Lists.
+
+-- the elements of a list stay where they are when the list grows
+pub slice_get-first : {X : Type 0} (xs ys : List X) (i : ℕ) → i < length xs → slice_get (xs ++ ys) i ≡ slice_get xs i
+slice_get-first [] ys i below = absurd (omega arith)
+slice_get-first (x ∷ xs) ys zero below = refl
+slice_get-first (x ∷ xs) ys (suc i) below = slice_get-first xs ys i (omega arith)
+
+-- the last element stands at the length of the others
+pub slice_get-last : {X : Type 0} (xs : List X) (x : X) → slice_get (xs ++ x ∷ []) (length xs) ≡ Some x
+slice_get-last [] x = refl
+slice_get-last (y ∷ xs) x = slice_get-last xs x
+
+-- Replies.
+
+-- a reply is by what stands up to its place alone
+pub reply-same : (H K : List Entry) (place : ℕ) → place < length H → reply_at (H ++ K) place ≡ reply_at H place
+reply-same H K place below =
+    let front : take (place + 1) (H ++ K) ≡ take (place + 1) H = take-append-le (place + 1) H K (omega arith) in
+    ap (λ (G : List Entry). option_and_then (λ e. reply_to G e.what) (slice_get (H ++ K) place)) front
+    ∙ ap (λ (o : Option Entry). option_and_then (λ e. reply_to (take (place + 1) H) e.what) o) (slice_get-first H K place below)
+
+-- there is a reply
+abbrev IsReplied : Option Reply → Type 0
+IsReplied o = (r : Reply) × (o ≡ Some r)
+
+-- what is made of a value that is there is there
+replied : {X : Type 0} (make : X → Reply) (o : Option X) (x : X) → o ≡ Some x → IsReplied (option_map make o)
+replied make o x h = (make x, ap (option_map make) h)
+
+-- the reply to an entry that may come next
+reply-new : (H : List Entry) (e : Entry) (m : Moment) (what : What) → IsLegal H → KindFacts H m what → IsReplied (reply_to (H ++ e ∷ []) what)
+reply-new H e m (Founded settings) legal facts = absurd facts
+reply-new H e m (Opened o) legal facts = (_, refl)
+reply-new H e m (Leased key worker run search stage position deadline) legal facts =
+    let due_in = next_run-due H (moment_ms m) _ facts.due in
+    let o = due_in.opening in
+    let found : opening_numbered H search ≡ Some o = ap (opening_numbered H) due_in.of_search ∙ opening-found H o legal due_in.there in
+    replied _ (opening_numbered (H ++ e ∷ []) search) o (opening_numbered-stays H e search o found)
+reply-new H e m (Reported run verdict fate) legal facts =
+    let l = facts.lease in
+    let there = lease-there H run l facts.known in
+    let opened = All-contains (λ (x : LeasedRun). HasOpening H x.search) (all_leases H) l (leases-known H legal) there.0 in
+    let lease : lease_of (H ++ e ∷ []) run ≡ Some l = lease_of-stays H e run l facts.known in
+    let of_lease = replied _ (opening_numbered (H ++ e ∷ []) l.search) opened.0 (opening_numbered-stays H e l.search opened.0 opened.1) in
+    (of_lease.0, ap (option_and_then (reply_to_report (H ++ e ∷ []) verdict fate)) lease ∙ of_lease.1)
+reply-new H e m (Cancelled key search) legal facts = (_, refl)
+reply-new H e m (Ordered key agent order commit search day) legal facts = (_, refl)
+
+-- the reply at the last place
+reply-last : (H : List Entry) (e : Entry) → reply_at (H ++ e ∷ []) (length H) ≡ reply_to (H ++ e ∷ []) e.what
+reply-last H e =
+    let longer : length (H ++ e ∷ []) ≡ length H + 1 = length-append H (e ∷ []) in
+    let whole : take (length H + 1) (H ++ e ∷ []) ≡ H ++ e ∷ [] = take_all (length H + 1) (H ++ e ∷ []) (omega arith) in
+    ap (λ (o : Option Entry). option_and_then (λ x. reply_to (take (length H + 1) (H ++ e ∷ [])) x.what) o) (slice_get-last H e)
+    ∙ ap (λ (G : List Entry). reply_to G e.what) whole
+
+-- each entry after the founding has a reply
+pub reply-there : (H : List Entry) (place : ℕ) → IsLegal H → 1 ≤ place → place < length H → IsReplied (reply_at H place)
+reply-there H place legal later below =
+    each_legal (λ (G : List Entry). (k : ℕ) → 1 ≤ k → k < length G → IsReplied (reply_at G k))
+    (λ e founding k some inside. absurd (omega arith))
+    (λ G e legal' there step k some inside.
+    let longer : length (G ++ e ∷ []) ≡ length G + 1 = length-append G (e ∷ []) in
+    ⊎_elim
+    (λ (before : k < length G).
+    subst IsReplied (sym (reply-same G (e ∷ []) k before)) (there k some before))
+    (λ (past : length G ≤ k).
+    let last : length G ≡ k = omega arith in
+    subst (λ (i : ℕ). IsReplied (reply_at (G ++ e ∷ []) i)) last
+    (subst IsReplied (sym (reply-last G e)) (reply-new G e e.at e.what legal' step.facts)))
+    (cases_lt k (length G)))
+    H legal place later below
+
+-- Settings.
+
+founded-with : (what : What) → IsFounding what → (s : Settings) × (settings_in what ≡ Some s)
+founded-with (Founded settings) founding = (settings, refl)
+founded-with (Opened o) founding = absurd founding
+founded-with (Leased key worker run search stage position deadline) founding = absurd founding
+founded-with (Reported run verdict _) founding = absurd founding
+founded-with (Cancelled key search) founding = absurd founding
+founded-with (Ordered key agent order commit search day) founding = absurd founding
+
+-- what a farm was founded with is there, and stays
+pub settings-there : (H K : List Entry) → IsLegal H → (s : Settings) × (settings_of (H ++ K) ≡ Some s) × (settings_of H ≡ Some s)
+settings-there [] K legal = absurd legal
+settings-there (f ∷ H) K legal = let with = founded-with f.what legal.0 in (with.0, with.1, with.1)

@@ -1,0 +1,2 @@
+pub mod LargeFarm
+pub mod Thousand

@@ -1,0 +1,259 @@
+//! What each command that may add an entry is for.
+
+ghost use Rattle.std.specs.Prelude.{◌≡◌, ◌++◌, ◌∷◌, [], count_by, Contains, IfOk};
+ghost use Rattle.weight_exact.specs.Load.{is_fail_above, last_pass, load, passed_at};
+ghost use Rattle.farm_entry.specs.Decision.{cancel_decision, fate_at, fate_of, is_past_budget, lease_decision, open_decision, report_decision, revert_decision, run_with};
+ghost use Rattle.farm_entry.specs.History.{opening_numbered, openings};
+ghost use Rattle.farm_entry.specs.Legal.{IsLegal};
+ghost use Rattle.plain_farm.specs.Next.{next_as};
+
+use crate::due_run::reruns_at;
+use crate::orders::{Next, day_in};
+use crate::pages::budget_of_search;
+use crate::standings::{is_active, is_fail, standing};
+use farm_entry::{
+    Decision, BoxedOpening, DueRun, Entry, Fate, LeasedRun, MAX_SEARCHES, OpenAsk, Opening, Refusal,
+    Standing, What,
+};
+use farm_types::{Key, Memory, Moment, Name, Stage};
+use plain_history::{
+    all_leases_count, lease_ms, opening_numbered, opening_of, openings_count, orders_count, reruns,
+    runs, same_stage,
+};
+use std::alloc::Global;
+use weight_exact::{Factors, Run, Verdict};
+
+/// A new search, if the farm takes one more.
+pub(crate) fn open_decision(
+    alloc: Global,
+    history: &[Entry],
+    ask: &OpenAsk,
+    at: Moment,
+) -> Result<Decision, Memory>
+    requires { IsLegal history.now }
+    ensures { IfOk result (λ found. found ≡ open_decision history.now ask.now at) }
+{
+    let count = openings_count(history);
+    if MAX_SEARCHES as usize <= count {
+        return Ok(Decision::Refuse(Refusal::TooManySearches));
+    }
+    match opening_of(alloc, ask, count as u32 + 1)? {
+        Ok(opening) => Ok(Decision::New(Entry {
+            at,
+            what: What::Opened(BoxedOpening::of(alloc, opening)?),
+        })),
+        Err(fault) => Ok(Decision::Refuse(Refusal::BadOpen(fault))),
+    }
+}
+
+/// The due run, handed out until one lease time later.
+pub(crate) fn lease_decision(
+    history: &[Entry],
+    key: Key,
+    worker: &Name,
+    at: Moment,
+    due: Option<DueRun>,
+) -> Result<Decision, Memory>
+    requires { IsLegal history.now }
+    ensures { IfOk result (λ found. found ≡ lease_decision history.now key worker.now at due) }
+{
+    let Some(run) = due else {
+        return Ok(Decision::Refuse(Refusal::NoRun));
+    };
+    let what = What::Leased {
+        key,
+        worker: worker.copy()?,
+        run: all_leases_count(history) as u32 + 1,
+        search: run.search,
+        stage: run.stage,
+        position: run.position,
+        deadline: at.ms() + lease_ms(history) as u64,
+    };
+    Ok(Decision::New(Entry { at, what }))
+}
+
+// The report of a run.
+
+/// The greatest position at which a run passed, or 0.
+fn last_pass(runs: &[Run]) -> u16
+    ensures { result ≡ last_pass runs.now }
+{
+    let mut last = 0;
+    for run in runs {
+        last = passed_at(*run).max(last);
+    }
+    last
+}
+
+/// The position of a run that passed, else 0.
+fn passed_at(run: Run) -> u16
+    ensures { result ≡ passed_at run.verdict run.position }
+{
+    match run.verdict {
+        Verdict::Pass => run.position,
+        Verdict::Fail => 0,
+    }
+}
+
+/// How many of the runs still tell hypotheses apart: all, where a broken test may pass, else the fails above the last
+/// pass.
+fn load(factors: &Factors, runs: &[Run]) -> usize
+    ensures { result ≡ load factors.now runs.now }
+{
+    if 0 < factors.pass_in {
+        return runs.len();
+    }
+    fails_above(last_pass(runs), runs)
+}
+
+/// How many runs failed above a position.
+fn fails_above(position: u16, runs: &[Run]) -> usize
+    ensures { result ≡ count_by (is_fail_above position) runs.now }
+{
+    let fails = runs
+        .iter()
+        .filter(|run| is_fail(run.verdict) && position < run.position);
+    fails.count()
+}
+
+/// Whether one run more takes a search past its budget.
+fn is_past_budget(
+    alloc: Global,
+    history: &[Entry],
+    opening: &Opening,
+    run: Run,
+) -> Result<bool, Memory>
+    requires legal { IsLegal history.now }
+    requires opened { Contains (openings history.now) opening.now }
+    ensures { IfOk result (λ past. past ≡ is_past_budget history.now opening.now run) }
+{
+    let mut told = runs(alloc, history, opening.search)?;
+    told.push(run)?;
+    let factors = Factors::of(opening.rate, opening.miss);
+    let budget = budget_of_search(alloc, opening)?;
+    Ok((budget as usize) < load(&factors, &told))
+}
+
+/// What becomes of the first report of a run, by where its search stands: late, unless it is of the stage at which the
+/// search stands; a search run over the budget is over; a rerun beyond the count of its side is late.
+fn fate_at(
+    alloc: Global,
+    history: &[Entry],
+    opening: &Opening,
+    lease: LeasedRun,
+    verdict: Verdict,
+) -> Result<Fate, Memory>
+    requires legal { IsLegal history.now }
+    requires opened { Contains (openings history.now) opening.now }
+    ensures { IfOk result (λ fate. fate ≡ fate_of history.now lease verdict (Some opening.now)) }
+{
+    let run = Run {
+        position: lease.position,
+        verdict,
+    };
+    match standing(alloc, history, opening)? {
+        Standing::Searching if same_stage(lease.stage, Stage::Search) => {
+            if is_past_budget(alloc, history, opening, run)? {
+                Ok(Fate::Over)
+            } else {
+                Ok(Fate::Counted)
+            }
+        }
+        Standing::Verifying(_) if same_stage(lease.stage, Stage::Verify) => {
+            let again = reruns(alloc, history, opening.search)?;
+            if reruns_at(lease.position, &again) < usize::from(opening.reruns) {
+                Ok(Fate::Counted)
+            } else {
+                Ok(Fate::Late)
+            }
+        }
+        _ => Ok(Fate::Late),
+    }
+}
+
+/// The fate of the first report of a run. That of a search that isn't there would be late.
+fn fate_of(alloc: Global, history: &[Entry], lease: LeasedRun, verdict: Verdict) -> Result<Fate, Memory>
+    requires { IsLegal history.now }
+    ensures { IfOk result (λ fate. fate
+        ≡ fate_of history.now lease verdict (opening_numbered history.now lease.search)) }
+{
+    match opening_numbered(history, lease.search) {
+        None => Ok(Fate::Late),
+        Some(opening) => fate_at(alloc, history, opening, lease, verdict),
+    }
+}
+
+/// The first report of a run that was handed out.
+pub(crate) fn report_decision(
+    alloc: Global,
+    history: &[Entry],
+    run: u32,
+    verdict: Verdict,
+    at: Moment,
+    lease: Option<LeasedRun>,
+) -> Result<Decision, Memory>
+    requires { IsLegal history.now }
+    ensures { IfOk result (λ found. found ≡ report_decision history.now run verdict at lease) }
+{
+    let Some(lease) = lease else {
+        return Ok(Decision::Refuse(Refusal::UnknownRun(run)));
+    };
+    let fate = fate_of(alloc, history, lease, verdict)?;
+    let what = What::Reported { run, verdict, fate };
+    Ok(Decision::New(Entry { at, what }))
+}
+
+// The end of a search, and orders.
+
+/// The end of a search that goes on.
+pub(crate) fn cancel_decision(
+    alloc: Global,
+    history: &[Entry],
+    key: Key,
+    search: u32,
+    at: Moment,
+) -> Result<Decision, Memory>
+    requires { IsLegal history.now }
+    ensures { IfOk result (λ found. found
+        ≡ cancel_decision history.now key search at (opening_numbered history.now search)) }
+{
+    let Some(opening) = opening_numbered(history, search) else {
+        return Ok(Decision::Refuse(Refusal::UnknownSearch(search)));
+    };
+    let standing = standing(alloc, history, opening)?;
+    if is_active(standing) {
+        let what = What::Cancelled { key, search };
+        Ok(Decision::New(Entry { at, what }))
+    } else {
+        Ok(Decision::Refuse(Refusal::SearchEnded(standing)))
+    }
+}
+
+/// The next order.
+pub(crate) fn revert_decision(
+    history: &[Entry],
+    key: Key,
+    agent: &Name,
+    at: Moment,
+    next: Next,
+) -> Result<Decision, Memory>
+    requires { IsLegal history.now }
+    ensures { IfOk result (λ found. found ≡ revert_decision history.now key agent.now at (next_as next)) }
+{
+    let day = day_in(history, at);
+    match next {
+        Next::NoSearch => Ok(Decision::Refuse(Refusal::NoRevert)),
+        Next::DayIsFull(count) => Ok(Decision::Refuse(Refusal::DailyLimit { day, count })),
+        Next::OrderFor(confirmed) => {
+            let what = What::Ordered {
+                key,
+                agent: agent.copy()?,
+                order: orders_count(history) as u32 + 1,
+                commit: confirmed.commit,
+                search: confirmed.search,
+                day,
+            };
+            Ok(Decision::New(Entry { at, what }))
+        }
+    }
+}

@@ -1,0 +1,141 @@
+//! The one decision on a command, at a history and a moment.
+
+ghost use Rattle.std.specs.Prelude.{◌≡◌, IfOk};
+ghost use Rattle.farm_entry.specs.History.{opening_numbered};
+ghost use Rattle.farm_entry.specs.Decision.{decide, full_decision, is_show, known_decision, last_moment, later, moment_used, own_decision, page_decision, shape_decision};
+ghost use Rattle.farm_entry.specs.Legal.{IsLegal};
+
+use crate::decision_known::known_decision;
+use crate::decision_new::{cancel_decision, lease_decision, open_decision, report_decision, revert_decision};
+use crate::due_run::next_run;
+use crate::orders::next_order_at;
+use crate::pages::{order_page, page_of, totals};
+use farm_entry::{Decision, Command, Entry, MAX_ENTRIES, Refusal, Reply};
+use farm_types::{Memory, Moment};
+use plain_history::{lease_of, opening_numbered, opening_of};
+use std::alloc::Global;
+
+/// The later of two moments.
+fn later(a: Moment, b: Moment) -> Moment
+    ensures { result ≡ later a b }
+{
+    if a.ms() <= b.ms() { b } else { a }
+}
+
+/// The moment of the last entry, or this one where there is none.
+fn last_moment(at: Moment, history: &[Entry]) -> Moment
+    ensures { result ≡ last_moment at history.now }
+{
+    let mut last = at;
+    for entry in history {
+        last = entry.at;
+    }
+    last
+}
+
+/// The moment at which a command is decided: moments never fall.
+pub fn moment_used(history: &[Entry], at: Moment) -> Moment
+    ensures { result ≡ moment_used history.now at }
+{
+    later(last_moment(at, history), at)
+}
+
+/// First the shape of an open, which needs no history.
+fn shape_decision(alloc: Global, command: &Command) -> Result<Option<Decision>, Memory>
+    ensures { IfOk result (λ found. found ≡ shape_decision command.now) }
+{
+    match command {
+        Command::Open(ask) => match opening_of(alloc, ask, 0)? {
+            Ok(_) => Ok(None),
+            Err(fault) => Ok(Some(Decision::Refuse(Refusal::BadOpen(fault)))),
+        },
+        _ => Ok(None),
+    }
+}
+
+/// Whether a command only shows something.
+fn is_show(command: &Command) -> bool
+    ensures { result ≡ is_show command.now }
+{
+    match command {
+        Command::ShowSearch { .. } | Command::ShowFarm | Command::ShowOrders => true,
+        _ => false,
+    }
+}
+
+/// Then a full history, which still shows.
+fn full_decision(history: &[Entry], command: &Command) -> Option<Decision>
+    ensures { result ≡ full_decision history.now command.now }
+{
+    if MAX_ENTRIES <= history.len() && !is_show(command) {
+        Some(Decision::Refuse(Refusal::Full))
+    } else {
+        None
+    }
+}
+
+/// The page of a search.
+fn page_decision(alloc: Global, history: &[Entry], search: u32) -> Result<Decision, Memory>
+    requires { IsLegal history.now }
+    ensures { IfOk result (λ found. found ≡ page_decision history.now search (opening_numbered history.now search)) }
+{
+    match opening_numbered(history, search) {
+        None => Ok(Decision::Refuse(Refusal::UnknownSearch(search))),
+        Some(opening) => {
+            let page = page_of(alloc, history, opening)?;
+            Ok(Decision::Show(Reply::Search(page)))
+        }
+    }
+}
+
+/// Then what each command is for, at the moment used.
+fn own_decision(
+    alloc: Global,
+    history: &[Entry],
+    command: &Command,
+    at: Moment,
+) -> Result<Decision, Memory>
+    requires { IsLegal history.now }
+    ensures { IfOk result (λ found. found ≡ own_decision history.now command.now at) }
+{
+    match command {
+        Command::Open(ask) => open_decision(alloc, history, ask, at),
+        Command::Lease { key, worker } => {
+            let run = next_run(alloc, history, at.ms())?;
+            lease_decision(history, *key, worker, at, run)
+        }
+        Command::Report { run, verdict } => {
+            report_decision(alloc, history, *run, *verdict, at, lease_of(history, *run))
+        }
+        Command::Cancel { key, search } => cancel_decision(alloc, history, *key, *search, at),
+        Command::TakeRevert { key, agent } => {
+            let next = next_order_at(alloc, history, at)?;
+            revert_decision(history, *key, agent, at, next)
+        }
+        Command::ShowSearch { search } => page_decision(alloc, history, *search),
+        Command::ShowFarm => Ok(Decision::Show(Reply::Farm(totals(alloc, history)?))),
+        Command::ShowOrders => Ok(Decision::Show(Reply::Orders(order_page(alloc, history)?))),
+    }
+}
+
+/// The decision on a command at a history and a moment: the first that is there.
+pub fn decide(
+    alloc: Global,
+    history: &[Entry],
+    command: &Command,
+    at: Moment,
+) -> Result<Decision, Memory>
+    requires { IsLegal history.now }
+    ensures { IfOk result (λ found. found ≡ decide history.now command.now at) }
+{
+    if let Some(found) = shape_decision(alloc, command)? {
+        return Ok(found);
+    }
+    if let Some(found) = known_decision(alloc, history, command)? {
+        return Ok(found);
+    }
+    if let Some(found) = full_decision(history, command) {
+        return Ok(found);
+    }
+    own_decision(alloc, history, command, moment_used(history, at))
+}
