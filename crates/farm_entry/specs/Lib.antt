@@ -10,3 +10,4 @@ pub mod Pages
 pub mod Reply
 pub mod Decision
 pub mod Legal
+pub mod Playing

@@ -153,7 +153,7 @@ searches-differ H legal =
     commits-once H legal i j d before below (one-commit H _ _ _ _ legal (all i d first) (all j d below) same)
 
 -- what differs in a part makes the parts differ
-AllPairs-parts : {X : Type 0} (f : X → ℕ) (xs : List X) → AllPairs (λ (a b : X). f a ≢ f b) xs → AllPairs (λ (a b : ℕ). a ≢ b) (map f xs)
+pub AllPairs-parts : {X : Type 0} (f : X → ℕ) (xs : List X) → AllPairs (λ (a b : X). f a ≢ f b) xs → AllPairs (λ (a b : ℕ). a ≢ b) (map f xs)
 AllPairs-parts f [] pairs = AllPairs-nil (λ (a b : ℕ). a ≢ b)
 AllPairs-parts f (x ∷ xs) pairs =
     λ i j d before below same.
@@ -163,7 +163,7 @@ AllPairs-parts f (x ∷ xs) pairs =
     (sym (get_or-map f (x ∷ xs) i x d first) ∙ same ∙ get_or-map f (x ∷ xs) j x d short)
 
 -- a part of a member is a member of the parts, and comes from one
-part-there : {X : Type 0} (f : X → ℕ) (xs : List X) (x : X) (n : ℕ) → Contains xs x → f x ≡ n → Contains (map f xs) n
+pub part-there : {X : Type 0} (f : X → ℕ) (xs : List X) (x : X) (n : ℕ) → Contains xs x → f x ≡ n → Contains (map f xs) n
 part-there f xs x n h e = (h.0, omega (arith, h.1, length-map xs f), get_or-map f xs h.0 x n h.1 ∙ ap f h.2 ∙ e)
 
 -- the search of each order is opened

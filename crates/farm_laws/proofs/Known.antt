@@ -76,7 +76,7 @@ mapped-search make s is None d h = absurd (none-some d h)
 mapped-search make s is (Some k) d h = let same : make k ≡ d = cc in ap (λ (x : DueRun). x.search) (sym same) ∙ is k
 
 -- a due run names the search that it is due in
-due_at-search : (s : Standing) (H : List Entry) (o : Opening) (m : ℕ) (d : DueRun) → due_at s H o m ≡ Some d → d.search ≡ o.search
+pub due_at-search : (s : Standing) (H : List Entry) (o : Opening) (m : ℕ) (d : DueRun) → due_at s H o m ≡ Some d → d.search ≡ o.search
 due_at-search Searching H o m d h = mapped-search (λ k. record { search = o.search; stage = Search; position = k }) o.search (λ k. refl) (due_searching H o m) d h
 due_at-search (Verifying c) H o m d h = mapped-search (λ k. record { search = o.search; stage = Verify; position = k }) o.search (λ k. refl) (due_verifying H o c m) d h
 due_at-search (Confirmed c) H o m d h = absurd (none-some d h)

@@ -65,10 +65,10 @@ same_text text = (bytes_eq-Decides text text).1 refl
 -- Entries at their places.
 
 -- an entry is found by its key or by its run, and an opening is what it asks for
-record Placed (H : List Entry) (place : ℕ) (what : What) : Type 0 where
-  by_key : (key : Key) → key_in what ≡ Some key → place_of_key H key ≡ Some place
-  by_run : (r : ReportedRun) → report_in what ≡ Some r → place_of_report H r.run ≡ Some place
-  made : (o : Opening) → opening_in what ≡ Some o → opening_of (ask_of o) o.search ≡ Ok o
+pub record Placed (H : List Entry) (place : ℕ) (what : What) : Type 0 where
+  pub by_key : (key : Key) → key_in what ≡ Some key → place_of_key H key ≡ Some place
+  pub by_run : (r : ReportedRun) → report_in what ≡ Some r → place_of_report H r.run ≡ Some place
+  pub made : (o : Opening) → opening_in what ≡ Some o → opening_of (ask_of o) o.search ≡ Ok o
 
 no_key : (w : What) → IsFounding w → key_in w ≡ None
 no_key (Founded s) h = refl
@@ -129,7 +129,7 @@ stepped-placed H e placed s k x is =
     (subst (λ (n : ℕ). Placed (H ++ e ∷ []) n e.what) last (Placed-new H e s)))
     (cases_lt k (length H))
 
-all-placed : (H : List Entry) → IsLegal H → (k : ℕ) (x : Entry) → slice_get H k ≡ Some x → Placed H k x.what
+pub all-placed : (H : List Entry) → IsLegal H → (k : ℕ) (x : Entry) → slice_get H k ≡ Some x → Placed H k x.what
 all-placed =
     each_legal (λ (H : List Entry). (k : ℕ) (x : Entry) → slice_get H k ≡ Some x → Placed H k x.what)
     (λ e founding k x is. founded-placed e k x founding is)

@@ -6,7 +6,7 @@ ghost use Rattle.farm_entry.specs.History.{settings_of};
 ghost use Rattle.farm_entry.specs.Legal.{IsLegal, IsNext, command_of};
 ghost use Rattle.farm_entry.specs.Reply.{reply_at};
 
-use farm_entry::{Decision, Command, Entry, Reply, Settings};
+use farm_entry::{Command, Decision, Entry, Reply, Settings};
 use farm_types::Moment;
 
 /// The entry that a command makes may come next, whatever command it is: what the entry says is enough to make it again.

@@ -1,0 +1,7 @@
+pub mod Lists
+pub mod Parts
+pub mod Own
+pub mod Held
+pub mod Caused
+pub mod Turns
+pub mod Played

@@ -1,0 +1,60 @@
+-- Open leases, at later moments and in longer histories.
+use Rattle.std.proofs.Common.{◌≡◌, ℕ, ◌==◌, ◌<◌, ◌≤◌, Bool, true, false, not, ◌&&◌, ◌||◌, nat_lt, List, [], ◌∷◌, ◌++◌, map, refl, sym, ap, ◌∙◌, arith, true≢false}
+use Rattle.std.specs.List.{filter_map, list_any}
+use Rattle.std.proofs.lemmas.Bool.Decides.{nat_tests}
+use Rattle.std.proofs.lemmas.List.Elements.{filter_map-append}
+use Rattle.std.proofs.lemmas.List.Folds.{list_any-append}
+use Rattle.farm_types.specs.declared.stage.Stage.TheVariants.{Search, Verify}
+use Rattle.farm_entry.specs.Due.{is_open, open_positions, outstanding, outstanding_at}
+use Rattle.farm_entry.specs.History.{is_reported, report_in, reports}
+use Rattle.farm_entry.specs.Standing.{is_active, standing}
+use Rattle.farm_entry.specs.declared.entry.Entry.{Entry}
+use Rattle.farm_entry.specs.declared.lease.LeasedRun.{LeasedRun}
+use Rattle.farm_entry.specs.declared.lease.ReportedRun.{ReportedRun}
+use Rattle.farm_entry.specs.declared.opening.Opening.{Opening}
+use Rattle.farm_entry.specs.declared.standing.Standing.{Standing}
+use Rattle.farm_entry.specs.declared.standing.Standing.TheVariants.{Searching, Verifying, Confirmed, Vindicated, NoCulprit, Inconclusive, Cancelled}
+
+-- a reported run stays reported
+reported-more : (H K : List Entry) (run : ℕ) →
+    is_reported (H ++ K) run ≡ (is_reported H run || is_reported K run)
+reported-more H K run =
+    ap (list_any (λ (r : ReportedRun). r.run == run)) (filter_map-append (λ (e : Entry). report_in e.what) H K)
+    ∙ list_any-append (λ (r : ReportedRun). r.run == run) (reports H) (reports K)
+
+still-closed : (told more : Bool) (moment later deadline : ℕ) → moment ≤ later →
+    (not told && nat_lt moment deadline) ≡ false →
+    (not (told || more) && nat_lt later deadline) ≡ false
+still-closed true more moment later deadline rises h = refl
+still-closed false true moment later deadline rises h = refl
+still-closed false false moment later deadline rises h = grind (arith, nat_tests)
+
+pub stays-closed : (H K : List Entry) (l : LeasedRun) (moment later : ℕ) → moment ≤ later →
+    is_open H moment l ≡ false → is_open (H ++ K) later l ≡ false
+stays-closed H K l moment later rises h =
+    ap (λ (b : Bool). not b && nat_lt later l.deadline) (reported-more H K l.run)
+    ∙ still-closed (is_reported H l.run) (is_reported K l.run) moment later l.deadline rises h
+
+pub outstanding-searching : (H : List Entry) (o : Opening) (moment : ℕ) → standing H o ≡ Searching →
+    map (λ (l : LeasedRun). l.position) (outstanding H o moment) ≡ open_positions H o.search Search moment
+outstanding-searching H o moment is =
+    ap (λ (s : Standing). map (λ (l : LeasedRun). l.position) (outstanding_at s H o.search moment)) is
+
+pub outstanding-verifying : (H : List Entry) (o : Opening) (moment suspect : ℕ) → standing H o ≡ Verifying suspect →
+    map (λ (l : LeasedRun). l.position) (outstanding H o moment) ≡ open_positions H o.search Verify moment
+outstanding-verifying H o moment suspect is =
+    ap (λ (s : Standing). map (λ (l : LeasedRun). l.position) (outstanding_at s H o.search moment)) is
+
+none-out : (s : Standing) (H : List Entry) (search moment : ℕ) → is_active s ≡ false →
+    outstanding_at s H search moment ≡ []
+none-out Searching H search moment h = absurd (true≢false h)
+none-out (Verifying c) H search moment h = absurd (true≢false h)
+none-out (Confirmed c) H search moment h = refl
+none-out (Vindicated c) H search moment h = refl
+none-out NoCulprit H search moment h = refl
+none-out Inconclusive H search moment h = refl
+none-out Cancelled H search moment h = refl
+
+pub outstanding-ended : (H : List Entry) (o : Opening) (moment : ℕ) → is_active (standing H o) ≡ false →
+    outstanding H o moment ≡ []
+outstanding-ended H o moment h = none-out (standing H o) H o.search moment h

@@ -1,0 +1,219 @@
+-- What a search holds after an entry that isn't about it, and its leases after any entry.
+use Rattle.std.proofs.Common.{◌≡◌, ℕ, ◌+◌, ◌==◌, Bool, true, false, not, ◌&&◌, ◌||◌, nat_lt, cond, if◌then◌else◌, List, [], ◌∷◌, ◌++◌, length, filter, Contains, Option, Some, None, refl, sym, ap, subst, ◌∙◌, append-nil, ⊎_elim, arith, true≢false}
+use Rattle.std.specs.List.{cons_option, filter_map, list_any}
+use Rattle.std.proofs.lemmas.Bool.{cases_Bool, cases_eq, ne_eqb}
+use Rattle.std.proofs.lemmas.List.Elements.{filter-append}
+use Rattle.std.proofs.lemmas.Option.{none-some}
+use Rattle.farm_types.specs.declared.stage.Stage.{Stage}
+use Rattle.farm_types.specs.declared.stage.Stage.TheVariants.{Search, Verify}
+use Rattle.weight_exact.specs.Share.{reached}
+use Rattle.weight_exact.specs.declared.run.Run.{Run}
+use Rattle.farm_entry.specs.Decision.{run_with}
+use Rattle.farm_entry.specs.Due.{is_open, open_leases}
+use Rattle.farm_entry.specs.History.{cancelled_in, counted, counted_run, is_counted, is_lease_for, is_of_run, is_of_search, is_over, is_report_of, is_reported, last_lease, last_place, lease_in, lease_of, leases, openings, report_in, reruns, runs, same_stage, was_cancelled, went_over}
+use Rattle.farm_entry.specs.Legal.{IsLegal}
+use Rattle.farm_entry.specs.Setup.{setup_of}
+use Rattle.farm_entry.specs.Standing.{standing, standing_of_reached}
+use Rattle.farm_entry.specs.declared.entry.Entry.{Entry}
+use Rattle.farm_entry.specs.declared.entry.What.{What}
+use Rattle.farm_entry.specs.declared.entry.What.TheVariants.{Founded, Opened, Leased, Reported, Cancelled, Ordered}
+use Rattle.farm_entry.specs.declared.lease.LeasedRun.{LeasedRun}
+use Rattle.farm_entry.specs.declared.lease.ReportedRun.{ReportedRun}
+use Rattle.farm_entry.specs.declared.opening.Opening.{Opening}
+use Rattle.farm_entry.specs.declared.standing.Standing.TheVariants as standings
+use Rattle.farm_laws.proofs.EntryParts.{reported-facts}
+use Rattle.farm_laws.proofs.Filters.{counted-grow, is_reported-grow, lease_of-stays, leases-grow, was_cancelled-grow, went_over-grow}
+use Rattle.farm_laws.proofs.Known.{reports-known}
+use Rattle.farm_laws.proofs.RunSteps.{chosen_run, counted_run-is}
+use Rattle.farm_laws.proofs.Stepped.{Stepped}
+use Rattle.search_laws.specs.Steps.{IsAbout, handed_out, open_of, without_reported}
+
+-- A report of another search's run adds nothing to a search.
+
+-- the run that an entry reports is of another search
+abbrev IsOfOther : List Entry → What → ℕ → Type 0
+IsOfOther H what s = (r : ReportedRun) (l : LeasedRun) → report_in what ≡ Some r → lease_of H r.run ≡ Some l →
+    l.search == s ≡ false
+
+none-more : (xs : List Run) (o : Option Run) → o ≡ None → xs ++ cons_option o [] ≡ xs
+none-more xs o none = ap (λ (x : Option Run). xs ++ cons_option x []) none ∙ append-nil xs
+
+other-run : (counts : Bool) (same here : Bool) (r : Run) → same ≡ false → chosen_run counts (same && here) r ≡ None
+other-run true true here r h = absurd (true≢false h)
+other-run true false here r h = refl
+other-run false same here r h = refl
+
+counted-same_by : (H : List Entry) (e : Entry) (s : ℕ) (stage : Stage) (rep : Option ReportedRun) →
+    Stepped H e.at e.what → IsOfOther H e.what s →
+    report_in e.what ≡ rep →
+    counted (H ++ e ∷ []) s stage ≡ counted H s stage ++ filter_map (counted_run (H ++ e ∷ []) s stage)
+    (cons_option rep []) →
+    counted (H ++ e ∷ []) s stage ≡ counted H s stage
+counted-same_by H e s stage None step other is grown = grown ∙ append-nil (counted H s stage)
+counted-same_by H e s stage (Some r) step other is grown =
+    let facts = reported-facts H e.at e.what r is step in
+    let l = facts.lease in
+    let longer = H ++ e ∷ [] in
+    let none : counted_run longer s stage r ≡ None =
+    counted_run-is longer s stage r l (lease_of-stays H e r.run l facts.known)
+    ∙ other-run (is_counted r.fate) (l.search == s) (same_stage l.stage stage) (run_with l r.verdict)
+    (other r l is facts.known) in
+    grown ∙ none-more (counted H s stage) (counted_run longer s stage r) none
+
+counted-same : (H : List Entry) (e : Entry) (s : ℕ) (stage : Stage) → IsLegal H → Stepped H e.at e.what →
+    IsOfOther H e.what s →
+    counted (H ++ e ∷ []) s stage ≡ counted H s stage
+counted-same H e s stage legal step other =
+    counted-same_by H e s stage (report_in e.what) step other refl (counted-grow H e s stage (reports-known H legal))
+
+or-none : (a b : Bool) → b ≡ false → (a || b) ≡ a
+or-none true b h = refl
+or-none false b h = h
+
+and-none : (a b : Bool) → b ≡ false → (a && b) ≡ false
+and-none true b h = h
+and-none false b h = refl
+
+over-same_by : (H : List Entry) (e : Entry) (s : ℕ) (rep : Option ReportedRun) → Stepped H e.at e.what →
+    IsOfOther H e.what s → report_in e.what ≡ rep →
+    went_over (H ++ e ∷ []) s
+    ≡ (went_over H s || list_any (λ (r : ReportedRun). is_over r.fate && is_of_search s (lease_of
+    (H ++ e ∷ []) r.run)) (cons_option rep [])) →
+    went_over (H ++ e ∷ []) s ≡ went_over H s
+over-same_by H e s None step other is grown = grown ∙ or-none (went_over H s) false refl
+over-same_by H e s (Some r) step other is grown =
+    let facts = reported-facts H e.at e.what r is step in
+    let l = facts.lease in
+    let not_of : is_of_search s (lease_of (H ++ e ∷ []) r.run) ≡ false =
+    ap (is_of_search s) (lease_of-stays H e r.run l facts.known) ∙ other r l is facts.known in
+    let none : (is_over r.fate && is_of_search s (lease_of (H ++ e ∷ []) r.run)) ≡ false =
+    and-none (is_over r.fate) _ not_of in
+    grown ∙ or-none (went_over H s) _ (or-none (is_over r.fate && is_of_search s (lease_of
+    (H ++ e ∷ []) r.run)) false refl ∙ none)
+
+over-same : (H : List Entry) (e : Entry) (s : ℕ) → IsLegal H → Stepped H e.at e.what → IsOfOther H e.what s →
+    went_over (H ++ e ∷ []) s ≡ went_over H s
+over-same H e s legal step other =
+    over-same_by H e s (report_in e.what) step other refl (went_over-grow H e s (reports-known H legal))
+
+cancelled-same_by : (H : List Entry) (e : Entry) (s : ℕ) (c : Option ℕ) → ((x : ℕ) → c ≡ Some x → x == s ≡ false) →
+    was_cancelled (H ++ e ∷ []) s ≡ (was_cancelled H s || list_any (λ (x : ℕ). x == s) (cons_option c [])) →
+    was_cancelled (H ++ e ∷ []) s ≡ was_cancelled H s
+cancelled-same_by H e s None other grown = grown ∙ or-none (was_cancelled H s) false refl
+cancelled-same_by H e s (Some x) other grown =
+    grown ∙ or-none (was_cancelled H s) _ (or-none (x == s) false refl ∙ other x refl)
+
+cancelled-same : (H : List Entry) (e : Entry) (s : ℕ) → ((x : ℕ) → cancelled_in e.what ≡ Some x → x == s ≡ false) →
+    was_cancelled (H ++ e ∷ []) s ≡ was_cancelled H s
+cancelled-same H e s other = cancelled-same_by H e s (cancelled_in e.what) other (was_cancelled-grow H e s)
+
+-- What isn't about a search says so of its report and its cancellation.
+
+abbrev run_of_report : Option ReportedRun → ℕ
+run_of_report None = 0
+run_of_report (Some r) = r.run
+
+differ : (a b : ℕ) → (a ≡ b → ⊥) → a == b ≡ false
+differ a b h = ne_eqb a b h
+
+not_about-report : (H : List Entry) (what : What) (s : ℕ) → (IsAbout H what s → ⊥) → IsOfOther H what s
+not_about-report H (Reported run verdict _) s other r l is known =
+    let same : run ≡ r.run = ap run_of_report is in
+    differ l.search s (λ of_it. other (l, ap (lease_of H) same ∙ known, of_it))
+not_about-report H (Founded settings) s other r l is known = absurd (none-some r is)
+not_about-report H (Opened o) s other r l is known = absurd (none-some r is)
+not_about-report H (Leased k w q t p d x) s other r l is known = absurd (none-some r is)
+not_about-report H (Cancelled k q) s other r l is known = absurd (none-some r is)
+not_about-report H (Ordered k a n c q d) s other r l is known = absurd (none-some r is)
+
+not_about-cancel : (H : List Entry) (what : What) (s : ℕ) → (IsAbout H what s → ⊥) → (x : ℕ) →
+    cancelled_in what ≡ Some x → x == s ≡ false
+not_about-cancel H (Cancelled key q) s other x is =
+    let same : q ≡ x = cc in
+    differ x s (λ of_it. other (same ∙ of_it))
+not_about-cancel H (Founded settings) s other x is = absurd (none-some x is)
+not_about-cancel H (Opened o) s other x is = absurd (none-some x is)
+not_about-cancel H (Leased k w q t p d y) s other x is = absurd (none-some x is)
+not_about-cancel H (Reported run verdict _) s other x is = absurd (none-some x is)
+not_about-cancel H (Ordered k a n c q d) s other x is = absurd (none-some x is)
+
+pub runs-same : (H : List Entry) (e : Entry) (s : ℕ) (stage : Stage) → IsLegal H → Stepped H e.at e.what →
+    (IsAbout H e.what s → ⊥) →
+    counted (H ++ e ∷ []) s stage ≡ counted H s stage
+runs-same H e s stage legal step other = counted-same H e s stage legal step (not_about-report H e.what s other)
+
+pub standing-same : (H : List Entry) (e : Entry) (o : Opening) → IsLegal H → Stepped H e.at e.what →
+    (IsAbout H e.what o.search → ⊥) →
+    standing (H ++ e ∷ []) o ≡ standing H o
+standing-same H e o legal step other =
+    let cancelled = cancelled-same H e o.search (not_about-cancel H e.what o.search other) in
+    let over = over-same H e o.search legal step (not_about-report H e.what o.search other) in
+    let run = runs-same H e o.search Search legal step other in
+    let again = runs-same H e o.search Verify legal step other in
+    λ i. if cancelled i then standings.Cancelled
+    else (if over i then standings.Inconclusive
+    else standing_of_reached o (again i) (reached (setup_of o) (run i)))
+
+-- Leases.
+
+open-test : (a told more lt : Bool) → (a && (not (told || more) && lt)) ≡ ((a && (not told && lt)) && not more)
+open-test true true more lt = refl
+open-test true false true true = refl
+open-test true false true false = refl
+open-test true false false true = refl
+open-test true false false false = refl
+open-test false told more lt = refl
+
+-- whether an entry reports a run
+reports_run : (run : ℕ) (rep : Option ReportedRun) → (list_any (λ (r : ReportedRun).
+    r.run == run) (cons_option rep [])) ≡ is_of_run run rep
+reports_run run None = refl
+reports_run run (Some r) = or-none (r.run == run) false refl
+
+open-step : (H : List Entry) (e : Entry) (stage : Stage) (moment : ℕ) (l : LeasedRun) →
+    (same_stage l.stage stage && is_open (H ++ e ∷ []) moment l) ≡
+    ((same_stage l.stage stage && is_open H moment l) && not (is_report_of l.run e))
+open-step H e stage moment l =
+    ap (λ (b : Bool). same_stage l.stage stage && (not b && nat_lt moment l.deadline))
+    (is_reported-grow H e l.run ∙ ap (λ (b : Bool). is_reported H l.run || b) (reports_run l.run (report_in e.what)))
+    ∙ open-test (same_stage l.stage stage) (is_reported H l.run) (is_report_of l.run e) (nat_lt moment l.deadline)
+
+-- a list filtered by two tests at once is filtered by one after the other
+filter-both_if : {X : Type 0} (q : X → Bool) (x : X) (a : List X) (b : List X) (p t : Bool) → q x ≡ t → a ≡ filter q b →
+    (if p && t then x ∷ a else a) ≡ filter q (if p then x ∷ b else b)
+filter-both_if q x a b true true e h = ap (λ (l : List _). x ∷ l) h
+    ∙ sym (ap (λ (t : Bool). if t then x ∷ filter q b else filter q b) e)
+filter-both_if q x a b true false e h = h ∙ sym (ap (λ (t : Bool). if t then x ∷ filter q b else filter q b) e)
+filter-both_if q x a b false t e h = h
+
+filter-both : {X : Type 0} (p q r : X → Bool) → ((x : X) → r x ≡ (p x && q x)) → (xs : List X) →
+    filter r xs ≡ filter q (filter p xs)
+filter-both p q r both [] = refl
+filter-both p q r both (x ∷ xs) =
+    ap (λ (b : Bool). if b then x ∷ filter r xs else filter r xs) (both x)
+    ∙ filter-both_if q x (filter r xs) (filter p xs) (p x) (q x) refl (filter-both p q r both xs)
+
+pub open_leases-step : (H : List Entry) (e : Entry) (s : ℕ) (stage : Stage) (moment : ℕ) →
+    open_leases (H ++ e ∷ []) s stage moment
+    ≡ without_reported e (open_leases H s stage moment ++ open_of H stage moment (handed_out e.what s))
+open_leases-step H e s stage moment =
+    let before : LeasedRun → Bool = λ l. same_stage l.stage stage && is_open H moment l in
+    let now : LeasedRun → Bool = λ l. same_stage l.stage stage && is_open (H ++ e ∷ []) moment l in
+    let left : LeasedRun → Bool = λ l. not (is_report_of l.run e) in
+    ap (filter now) (leases-grow H e s)
+    ∙ filter-both before left now (open-step H e stage moment) (leases H s ++ handed_out e.what s)
+    ∙ ap (filter left) (filter-append before (leases H s) (handed_out e.what s))
+
+last_place-append : (test : Entry → Bool) (place found : ℕ) (H : List Entry) (e : Entry) →
+    last_place test place found (H ++ e ∷ []) ≡ (if test e then place + length H else last_place test place found H)
+last_place-append test place found [] e = ap (λ (n : ℕ). if test e then n else found) (omega arith)
+last_place-append test place found (f ∷ H) e =
+    last_place-append test (place + 1) (if test f then place else found) H e
+    ∙ ap (λ (n : ℕ). if test e then n else last_place test (place + 1) (if test f then place else found) H)
+    (omega arith)
+
+pub last_lease-step : (H : List Entry) (e : Entry) (s : ℕ) →
+    last_lease (H ++ e ∷ []) s ≡ (if is_lease_for s e then length H else last_lease H s)
+last_lease-step H e s =
+    last_place-append (is_lease_for s) 0 0 H e
+    ∙ ap (λ (n : ℕ). if is_lease_for s e then n else last_lease H s) (omega arith)
