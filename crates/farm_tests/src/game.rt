@@ -1,7 +1,7 @@
 //! A farm that is played command by command, by the plain program over the list of its entries.
 
 use farm_entry::{
-    Decision, Command, Entry, Fate, OpenAsk, Refusal, Reply, SearchPage, Settings, Standing,
+    Command, Decision, Entry, Fate, OpenAsk, Refusal, Reply, SearchPage, Settings, Standing,
     Suspects, Totals, What,
 };
 use farm_types::{CommitId, Key, Moment, Name, Stage};

@@ -2,6 +2,10 @@
 #![tactic(auto)]
 
 #[cfg(test)]
-mod farms;
-#[cfg(test)]
 mod game;
+#[cfg(test)]
+mod requests;
+#[cfg(test)]
+mod rounds;
+#[cfg(test)]
+mod searches;
