@@ -1,9 +1,11 @@
 -- Open leases, at later moments and in longer histories.
-use Rattle.std.proofs.Common.{◌≡◌, ℕ, ◌==◌, ◌<◌, ◌≤◌, Bool, true, false, not, ◌&&◌, ◌||◌, nat_lt, List, [], ◌∷◌, ◌++◌, map, refl, sym, ap, ◌∙◌, arith, true≢false}
+use Rattle.std.proofs.Common.{◌≡◌, ◌≢◌, All, ℕ, ◌==◌, ◌<◌, ◌≤◌, Bool, true, false, not, ◌&&◌, ◌||◌, nat_lt, List, [], ◌∷◌, ◌++◌, map, refl, sym, ap, ◌∙◌, arith, true≢false}
 use Rattle.std.specs.List.{filter_map, list_any}
-use Rattle.std.proofs.lemmas.Bool.Decides.{nat_tests}
+use Rattle.std.proofs.lemmas.Bool.{ne_eqb, or_parts}
+use Rattle.std.proofs.lemmas.Bool.Decides.{nat_tests, Decides-eqb}
+use Rattle.std.proofs.lemmas.List.Elements.{All-cons, All-nil}
 use Rattle.std.proofs.lemmas.List.Elements.{filter_map-append}
-use Rattle.std.proofs.lemmas.List.Folds.{list_any-append}
+use Rattle.std.proofs.lemmas.List.Folds.{list_any-append, list_any_none}
 use Rattle.farm_types.specs.declared.stage.Stage.TheVariants.{Search, Verify}
 use Rattle.farm_entry.specs.Due.{is_open, open_positions, outstanding, outstanding_at}
 use Rattle.farm_entry.specs.History.{is_reported, report_in, reports}
@@ -58,3 +60,41 @@ none-out Cancelled H search moment h = refl
 pub outstanding-ended : (H : List Entry) (o : Opening) (moment : ℕ) → is_active (standing H o) ≡ false →
     outstanding H o moment ≡ []
 outstanding-ended H o moment h = none-out (standing H o) H o.search moment h
+
+-- A lease is open where no report names its run and its deadline lies later.
+
+unreported : (run : ℕ) (rs : List ReportedRun) → list_any (λ (r : ReportedRun). r.run == run) rs ≡ false →
+    All (λ (r : ReportedRun). r.run ≢ run) rs
+unreported run [] h = All-nil (λ (r : ReportedRun). r.run ≢ run)
+unreported run (x ∷ rs) h =
+    let parts = or_parts (x.run == run) (list_any (λ (r : ReportedRun). r.run == run) rs) h in
+    All-cons (λ (r : ReportedRun). r.run ≢ run) x rs
+    (λ same. true≢false (sym ((Decides-eqb x.run run).1 same) ∙ parts.0)) (unreported run rs parts.1)
+
+reported-none : (run : ℕ) (rs : List ReportedRun) → All (λ (r : ReportedRun). r.run ≢ run) rs →
+    list_any (λ (r : ReportedRun). r.run == run) rs ≡ false
+reported-none run rs all =
+    list_any_none (λ (r : ReportedRun). r.run == run) rs
+    (λ k d below. ne_eqb _ run (all k d below))
+
+open-parts : (told lt : Bool) → (not told && lt) ≡ true → (told ≡ false) × (lt ≡ true)
+open-parts true lt h = absurd (true≢false (sym h))
+open-parts false lt h = (refl, h)
+
+before : (a b : ℕ) → nat_lt a b ≡ true → a < b
+before a b h = grind (arith, nat_tests)
+
+after : (a b : ℕ) → a < b → nat_lt a b ≡ true
+after a b h = grind (arith, nat_tests)
+
+pub open-says : (H : List Entry) (l : LeasedRun) (moment : ℕ) → is_open H moment l ≡ true →
+    All (λ (r : ReportedRun). r.run ≢ l.run) (reports H) × (moment < l.deadline)
+open-says H l moment h =
+    let parts = open-parts (is_reported H l.run) (nat_lt moment l.deadline) h in
+    (unreported l.run (reports H) parts.0, before moment l.deadline parts.1)
+
+pub says-open : (H : List Entry) (l : LeasedRun) (moment : ℕ) →
+    All (λ (r : ReportedRun). r.run ≢ l.run) (reports H) × (moment < l.deadline) → is_open H moment l ≡ true
+says-open H l moment h =
+    ap (λ (b : Bool). not b && nat_lt moment l.deadline) (reported-none l.run (reports H) h.0)
+    ∙ after moment l.deadline h.1

@@ -1,3 +1,4 @@
+pub mod Sides
 pub mod Views
 pub mod Verified
 pub mod Leases

@@ -30,6 +30,7 @@ use Rattle.farm_laws.proofs.RunSteps.{GrownRuns, NewRun, counted-step, runs-step
 use Rattle.farm_laws.proofs.Standings.{at_bar-searching}
 use Rattle.farm_laws.proofs.Stepped.{Stepped}
 use Rattle.search_laws.specs.Stands.{IsBeingRerun, IsBelieved, IsNamed}
+use Rattle.search_laws.proofs.Sides.{counts-lacking, silent-vindicated}
 use Rattle.search_laws.proofs.Views.{bar-reached, cancelled-standing, named-standing_names, reached-bar, standing-verifying}
 
 -- One rerun more.
@@ -155,7 +156,9 @@ new-verified H e o legal there s before new =
     let r : Run = run_with new.lease new.verdict in
     let side : IsAtSide c r = subst (λ (n : ℕ). IsAtSide n r) same at.4 in
     let one : counts c o.reruns (reruns H o.search) r ≡ true =
-    open-counts c o.reruns (reruns H o.search) r being.none_against being.lacking counts_it.room in
+    open-counts c o.reruns (reruns H o.search) r
+    (silent-vindicated c (reruns H o.search) being.named.at_bar.reached.first being.none_against)
+    (counts-lacking c o.reruns (reruns H o.search) being.lacking) counts_it.room in
     let more : WentThrough c o.reruns (reruns (H ++ e ∷ []) o.search) =
     subst (WentThrough c o.reruns) (sym new.grown) (push-through c o.reruns (reruns H o.search) r went side one) in
     subst (λ (n : Option ℕ). Verified n o.reruns (reruns (H ++ e ∷ []) o.search)) (sym

@@ -18,7 +18,8 @@ use Rattle.farm_entry.specs.declared.standing.Standing.TheVariants.{Searching, V
 use Rattle.farm_laws.specs.Laws.{culprit_of}
 use Rattle.farm_laws.proofs.InRange.{total-some}
 use Rattle.farm_laws.proofs.OpenLimits.{open_within, setup_facts}
-use Rattle.search_laws.specs.Stands.{IsAtBar, IsBeingRerun, IsBelieved, IsBorneOut, IsNamed, IsSpokenAgainst, IsUndecided}
+use Rattle.search_laws.specs.Stands.{IsAtBar, IsBeingRerun, IsBelieved, IsBorneOut, IsNamed, IsSpokenAgainst, IsUndecided, SpeaksAgainst}
+use Rattle.search_laws.proofs.Sides.{counts-enough, counts-lacking, enough-counts, lacking-counts, none_vindicated-silent, silent-vindicated, spoke-vindicated, vindicated-spoke}
 
 -- a search stands so: the cases in their order
 pub data StandsBy (o : Opening) (cancelled over : Bool) (again : List Run) (n : Option ℕ) (s : Standing) : Type 0 where
@@ -305,45 +306,71 @@ names-outcome H o c s legal there names is =
     let n = standing-named H o c (ap culprit_of is ∙ names) in
     (n, sym (named-standing H o c legal there n) ∙ is)
 
+-- a named suspect is one of 1 and up
+some-suspect : (H : List Entry) (o : Opening) (c : ℕ) → IsNamed H o c → 1 ≤ c
+some-suspect H o c n = n.at_bar.reached.first
+
 pub standing-vindicated : (H : List Entry) (o : Opening) (c : ℕ) → IsLegal H → Contains (openings H) o →
     standing H o ≡ Vindicated c → IsSpokenAgainst H o c
 standing-vindicated H o c legal there h =
     let n = names-outcome H o c (Vindicated c) legal there refl h in
-    record { named = n.0; against = vindicated-by c _ _ _ (outcome-of H o c) n.1 }
+    let spoke =
+    vindicated-spoke c (reruns H o.search) (some-suspect H o c n.0) (vindicated-by c _ _ _ (outcome-of H o c) n.1) in
+    record { named = n.0; rerun = spoke.rerun; there = spoke.there; against = spoke.against }
 
 pub vindicated-standing : (H : List Entry) (o : Opening) (c : ℕ) → IsLegal H → Contains (openings H) o →
     IsSpokenAgainst H o c → standing H o ≡ Vindicated c
 vindicated-standing H o c legal there v =
+    let against = spoke-vindicated c (reruns H o.search) v.rerun v.there v.against in
     named-standing H o c legal there v.named
-    ∙ ap (λ (b : Bool). standing_of_outcome c (if b then vindicating else (if enough c o.reruns
-    (reruns H o.search) then confirmed else verifying))) v.against
+    ∙ ap (λ (b : Bool). standing_of_outcome c
+    (if b then vindicating else (if enough c o.reruns (reruns H o.search) then confirmed else verifying))) against
+
+-- the outcome of reruns that don't speak against a suspect, by whether they are enough
+silent-standing : (H : List Entry) (o : Opening) (c : ℕ) (full : Bool) → IsLegal H → Contains (openings H) o →
+    IsNamed H o c →
+    ((r : Run) → Contains (reruns H o.search) r → SpeaksAgainst c r → ⊥) →
+    enough c o.reruns (reruns H o.search) ≡ full →
+    standing H o ≡ standing_of_outcome c (if full then confirmed else verifying)
+silent-standing H o c full legal there n silent is =
+    let none = silent-vindicated c (reruns H o.search) (some-suspect H o c n) silent in
+    named-standing H o c legal there n
+    ∙ ap (λ (x : Bool). standing_of_outcome c
+    (if x then vindicating else (if enough c o.reruns (reruns H o.search) then confirmed else verifying))) none
+    ∙ ap (λ (x : Bool). standing_of_outcome c (if x then confirmed else verifying)) is
 
 pub standing-confirmed : (H : List Entry) (o : Opening) (c : ℕ) → IsLegal H → Contains (openings H) o →
     standing H o ≡ Confirmed c → IsBorneOut H o c
 standing-confirmed H o c legal there h =
     let n = names-outcome H o c (Confirmed c) legal there refl h in
     let tests = confirmed-by c _ _ _ (outcome-of H o c) n.1 in
-    record { named = n.0; none_against = tests.0; enough = tests.1 }
+    let counts = enough-counts c o.reruns (reruns H o.search) tests.1 in
+    record {
+      named = n.0;
+      none_against = none_vindicated-silent c (reruns H o.search) tests.0;
+      failed = counts.0;
+      passed = counts.1;
+    }
 
 pub confirmed-standing : (H : List Entry) (o : Opening) (c : ℕ) → IsLegal H → Contains (openings H) o →
     IsBorneOut H o c → standing H o ≡ Confirmed c
 confirmed-standing H o c legal there b =
-    named-standing H o c legal there b.named
-    ∙ ap (λ (x : Bool). standing_of_outcome c (if x then vindicating else (if enough c o.reruns
-    (reruns H o.search) then confirmed else verifying))) b.none_against
-    ∙ ap (λ (x : Bool). standing_of_outcome c (if x then confirmed else verifying)) b.enough
+    silent-standing H o c true legal there b.named b.none_against (counts-enough c o.reruns
+    (reruns H o.search) b.failed b.passed)
 
 pub standing-verifying : (H : List Entry) (o : Opening) (c : ℕ) → IsLegal H → Contains (openings H) o →
     standing H o ≡ Verifying c → IsBeingRerun H o c
 standing-verifying H o c legal there h =
     let n = names-outcome H o c (Verifying c) legal there refl h in
     let tests = verifying-by c _ _ _ (outcome-of H o c) n.1 in
-    record { named = n.0; none_against = tests.0; lacking = tests.1 }
+    record {
+      named = n.0;
+      none_against = none_vindicated-silent c (reruns H o.search) tests.0;
+      lacking = lacking-counts c o.reruns (reruns H o.search) tests.1;
+    }
 
 pub verifying-standing : (H : List Entry) (o : Opening) (c : ℕ) → IsLegal H → Contains (openings H) o →
     IsBeingRerun H o c → standing H o ≡ Verifying c
 verifying-standing H o c legal there b =
-    named-standing H o c legal there b.named
-    ∙ ap (λ (x : Bool). standing_of_outcome c (if x then vindicating else (if enough c o.reruns
-    (reruns H o.search) then confirmed else verifying))) b.none_against
-    ∙ ap (λ (x : Bool). standing_of_outcome c (if x then confirmed else verifying)) b.lacking
+    silent-standing H o c false legal there b.named b.none_against (counts-lacking c o.reruns
+    (reruns H o.search) b.lacking)

@@ -12,7 +12,10 @@ mod standings;
 mod steps;
 mod totals;
 
-pub use outstanding::{due_runs_go_by_outstanding_leases, expired_leases_stay_expired};
+pub use outstanding::{
+    due_runs_go_by_outstanding_leases, expired_leases_stay_expired,
+    leases_are_open_until_their_deadline,
+};
 pub use reruns::{reruns_are_those_of_a_verification, verifications_keep_their_suspect};
 pub use standings::{
     beliefs_decide_standings, entries_end_searches, named_suspects_stand_by_their_reruns,
