@@ -1,0 +1,113 @@
+-- The forms that the values of a command's members have in JSON, with what each value is read as.
+use Rattle.std.specs.Prelude.{ℕ, ◌^◌, ◌==◌, nat_le, nat_lt, Bool, if◌then◌else◌, List, [], ◌∷◌, is_none, Option, Some, None, option_and_then, option_map, codes}
+use Rattle.std.specs.Int.{from_be_bytes, w128}
+use Rattle.std.specs.Str.{bytes_eq}
+use Rattle.serde_json.specs.Data.{Data, Items, no_items, item}
+use Rattle.serde_json.specs.Find.{as_array, as_number, as_str, as_u64}
+use Rattle.uuid.specs.Text.{parsed}
+use Rattle.farm_types.specs.Name.{name_fault}
+use Rattle.farm_types.specs.declared.commit_id.CommitId.{CommitId}
+use Rattle.farm_types.specs.declared.key.Key.{Key}
+use Rattle.farm_types.specs.declared.moment.Moment.{Moment}
+use Rattle.suspect_range.specs.declared.suspect.Suspect.{Suspect}
+use Rattle.weight_exact.specs.declared.run.Verdict.{Verdict}
+use Rattle.weight_exact.specs.declared.run.Verdict.TheVariants.{Fail, Pass}
+use Rattle.farm_wire.specs.Made.{id_named, moment_at}
+use Rattle.farm_wire.specs.declared.verb.Verb.{Verb}
+use Rattle.farm_wire.specs.declared.verb.Verb.TheVariants as asks
+
+-- a value where it passes a test
+abbrev pub where_passed : {X : Type 0} → (X → Bool) → X → Option X
+where_passed test x = if test x then Some x else None
+
+-- Numbers.
+
+-- a whole number as serde_json tells it: below 2 ^ 64, and written without a point or an exponent
+unfoldable pub whole : Data → Option ℕ
+whole d = option_and_then as_u64 (as_number d)
+
+-- a whole number below 2 ^ 32
+unfoldable pub small : Data → Option ℕ
+small d = option_and_then (where_passed (λ n. nat_lt n (2 ^ 32))) (whole d)
+
+-- a whole number below 2 ^ 32 that numbers a run or a search, from 1
+unfoldable pub ordinal : Data → Option ℕ
+ordinal d = option_and_then (where_passed (λ n. nat_le 1 n)) (small d)
+
+-- a moment, in milliseconds since 1970-01-01 in UTC
+unfoldable pub moment : Data → Option Moment
+moment d = option_and_then moment_at (whole d)
+
+-- Texts.
+
+-- the key that a text spells, in one of the forms of a UUID (RFC 9562)
+abbrev pub key_named : List ℕ → Option Key
+key_named text = option_map (λ bytes. record { 0 = from_be_bytes w128 bytes }) (parsed text)
+
+unfoldable pub key : Data → Option Key
+key d = option_and_then key_named (as_str d)
+
+unfoldable pub name : Data → Option (List ℕ)
+name d = option_and_then (where_passed (λ text. is_none (name_fault text))) (as_str d)
+
+unfoldable pub commit : Data → Option CommitId
+commit d = option_and_then id_named (as_str d)
+
+-- the verdict that a text names
+abbrev pub verdict_named : List ℕ → Option Verdict
+verdict_named text =
+    if bytes_eq text (codes "pass") then Some Pass
+    else if bytes_eq text (codes "fail") then Some Fail
+    else None
+
+unfoldable pub verdict : Data → Option Verdict
+verdict d = option_and_then verdict_named (as_str d)
+
+-- what a text asks for
+abbrev pub verb_named : List ℕ → Option Verb
+verb_named text =
+    if bytes_eq text (codes "open") then Some asks.Open
+    else if bytes_eq text (codes "lease") then Some asks.Lease
+    else if bytes_eq text (codes "report") then Some asks.Report
+    else if bytes_eq text (codes "cancel") then Some asks.Cancel
+    else if bytes_eq text (codes "revert") then Some asks.Revert
+    else if bytes_eq text (codes "search") then Some asks.Search
+    else if bytes_eq text (codes "farm") then Some asks.Farm
+    else if bytes_eq text (codes "orders") then Some asks.Orders
+    else None
+
+unfoldable pub verb : Data → Option Verb
+verb d = option_and_then verb_named (as_str d)
+
+-- Arrays.
+
+-- two values, each in its form
+abbrev pub both_of : {X Y : Type 0} → Option X → Option Y → Option (X × Y)
+both_of x y = option_and_then (λ a. option_map (λ b. (a, b)) y) x
+
+abbrev pub two_of : {X Y : Type 0} → (Data → Option X) → (Data → Option Y) → Items → Option (X × Y)
+two_of f g no_items = None
+two_of f g (item a no_items) = None
+two_of f g (item a (item b no_items)) = both_of (f a) (g b)
+two_of f g (item a (item b (item c more))) = None
+
+-- an array of two values, each in its form
+abbrev pub pair : {X Y : Type 0} → (Data → Option X) → (Data → Option Y) → Data → Option (X × Y)
+pair f g d = option_and_then (two_of f g) (as_array d)
+
+-- a fraction, as its numerator and its denominator
+unfoldable pub fraction : Data → Option (ℕ × ℕ)
+fraction d = pair small small d
+
+-- a suspect, as its commit and its weight
+unfoldable pub suspect : Data → Option Suspect
+suspect d = option_map (λ p. record { commit = p.0; weight = p.1 }) (pair commit small d)
+
+-- the items, where each is a suspect
+abbrev pub suspects_of : Items → Option (List Suspect)
+suspects_of no_items = Some []
+suspects_of (item d more) = option_and_then (λ s. option_map (λ rest. s ∷ rest) (suspects_of more)) (suspect d)
+
+-- an array of suspects
+unfoldable pub suspects : Data → Option (List Suspect)
+suspects d = option_and_then suspects_of (as_array d)

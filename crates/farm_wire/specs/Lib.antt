@@ -1,0 +1,9 @@
+pub mod Dates
+pub mod Fields
+pub mod Forms
+pub mod Made
+pub mod Members
+pub mod Object
+pub mod Reading
+pub mod Refusals
+pub mod Replies

@@ -1,0 +1,120 @@
+-- Replies as JSON objects, of which the text that is sent is written.
+use Rattle.std.specs.Prelude.{ℕ, List, [], ◌∷◌, ◌++◌, map, codes, All, ◌≤◌, ⊤}
+use Rattle.serde_json.specs.Data.{Data, array, string}
+use Rattle.farm_types.specs.declared.stage.Stage.{Stage}
+use Rattle.farm_types.specs.declared.stage.Stage.TheVariants as stage
+use Rattle.weight_exact.specs.declared.run.Verdict.{Verdict}
+use Rattle.weight_exact.specs.declared.run.Verdict.TheVariants.{Fail, Pass}
+use Rattle.farm_entry.specs.declared.entry.Fate.{Fate}
+use Rattle.farm_entry.specs.declared.entry.Fate.TheVariants.{Counted, Late, Over}
+use Rattle.farm_entry.specs.declared.order_page.OrderLine.{OrderLine}
+use Rattle.farm_entry.specs.declared.reply.Reply.{Reply}
+use Rattle.farm_entry.specs.declared.reply.Reply.TheVariants as reply
+use Rattle.farm_entry.specs.declared.reply.SearchPage.{SearchPage}
+use Rattle.farm_entry.specs.declared.reply.Totals.{Totals}
+use Rattle.farm_entry.specs.declared.standing.Standing.TheVariants.{Cancelled}
+use Rattle.serde_json.specs.View.{items_of}
+use Rattle.farm_types.specs.declared.moment.TheConstants.{LAST_DAY}
+use Rattle.farm_wire.specs.Dates.{day_text}
+use Rattle.farm_wire.specs.Members.{Named, commit_value, object_with, standing_members, where_some, whole, wholes}
+
+abbrev pub stage_word : Stage → List ℕ
+stage_word stage.Search = codes "search"
+stage_word stage.Verify = codes "verify"
+
+abbrev pub verdict_word : Verdict → List ℕ
+verdict_word Pass = codes "pass"
+verdict_word Fail = codes "fail"
+
+abbrev pub fate_word : Fate → List ℕ
+fate_word Counted = codes "counted"
+fate_word Late = codes "late"
+fate_word Over = codes "over"
+
+-- the members of a reply of a kind
+abbrev pub reply_of : List ℕ → List Named → Data
+reply_of kind members = object_with ((codes "reply", string kind) ∷ members)
+
+unfoldable pub page_data : SearchPage → Data
+page_data page =
+    reply_of (codes "search")
+    ((codes "search", whole page.search)
+    ∷ (codes "test", string page.test)
+    ∷ (codes "budget", whole page.budget)
+    ∷ (codes "leases", whole page.leases)
+    ∷ (codes "counted", whole page.counted)
+    ∷ (codes "verified", whole page.verified)
+    ∷ (codes "shares", wholes page.shares)
+    ∷ (where_some (codes "commit") commit_value page.commit ++ standing_members page.standing))
+
+-- totals, as a reply of a kind
+unfoldable pub totals_data : List ℕ → Totals → Data
+totals_data kind totals =
+    reply_of kind
+    ((codes "entries", whole totals.entries)
+    ∷ (codes "searches", whole totals.searches)
+    ∷ (codes "searching", whole totals.searching)
+    ∷ (codes "verifying", whole totals.verifying)
+    ∷ (codes "confirmed", whole totals.confirmed)
+    ∷ (codes "ended", whole totals.ended)
+    ∷ (codes "counted", whole totals.counted)
+    ∷ (codes "orders", whole totals.orders)
+    ∷ [])
+
+-- one of the orders that are shown
+unfoldable pub order_data : OrderLine → Data
+order_data line =
+    object_with
+    ((codes "order", whole line.order)
+    ∷ (codes "agent", string line.agent)
+    ∷ (codes "commit", commit_value line.commit)
+    ∷ (codes "search", whole line.search)
+    ∷ (codes "date", string (day_text line.day))
+    ∷ [])
+
+unfoldable pub reply_data : Reply → Data
+reply_data (reply.Opened search budget standing) =
+    reply_of (codes "open")
+    ((codes "search", whole search) ∷ (codes "budget", whole budget) ∷ standing_members standing)
+reply_data (reply.Leased run search stage position commit test deadline) =
+    reply_of (codes "lease")
+    ((codes "run", whole run)
+    ∷ (codes "search", whole search)
+    ∷ (codes "stage", string (stage_word stage))
+    ∷ (codes "position", whole position)
+    ∷ (codes "commit", commit_value commit)
+    ∷ (codes "test", string test)
+    ∷ (codes "deadline", whole deadline)
+    ∷ [])
+reply_data (reply.Reported run search verdict fate standing) =
+    reply_of (codes "report")
+    ((codes "run", whole run)
+    ∷ (codes "search", whole search)
+    ∷ (codes "verdict", string (verdict_word verdict))
+    ∷ (codes "fate", string (fate_word fate))
+    ∷ standing_members standing)
+reply_data (reply.Cancelled search) =
+    reply_of (codes "cancel") ((codes "search", whole search) ∷ standing_members Cancelled)
+reply_data (reply.Ordered order commit search day) =
+    reply_of (codes "revert")
+    ((codes "order", whole order)
+    ∷ (codes "commit", commit_value commit)
+    ∷ (codes "search", whole search)
+    ∷ (codes "day", whole day)
+    ∷ (codes "date", string (day_text day))
+    ∷ [])
+reply_data (reply.Search page) = page_data page
+reply_data (reply.Farm totals) = totals_data (codes "farm") totals
+reply_data (reply.Orders lines) =
+    reply_of (codes "orders") ((codes "orders", array (items_of (map order_data lines))) ∷ [])
+
+-- the days that a reply shows have dates that can be written, which every day of a legal history has
+abbrev pub HasDates : Reply → Type 0
+HasDates (reply.Opened search budget standing) = ⊤
+HasDates (reply.Leased run search stage position commit test deadline) = ⊤
+HasDates (reply.Reported run search verdict outcome standing) = ⊤
+HasDates (reply.Cancelled search) = ⊤
+HasDates (reply.Ordered order commit search day) = day ≤ LAST_DAY
+HasDates (reply.Search page) = ⊤
+HasDates (reply.Farm totals) = ⊤
+HasDates (reply.Orders lines) = All (λ line. line.day ≤ LAST_DAY) lines

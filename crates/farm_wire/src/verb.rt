@@ -1,0 +1,12 @@
+/// What a script line asks for, by its member `do`.
+#[derive(Clone, Copy, Debug, PartialEq, Eq)]
+pub(crate) enum Verb {
+    Open,
+    Lease,
+    Report,
+    Cancel,
+    Revert,
+    Search,
+    Farm,
+    Orders,
+}
