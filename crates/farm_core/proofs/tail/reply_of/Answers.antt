@@ -1,0 +1,9 @@
+use Rattle.std.proofs.Common.{sym, ◌∙◌}
+use Rattle.farm_laws.proofs.EntryParts.{none-some}
+use Rattle.farm_laws.proofs.Replies.{reply-there}
+use Rattle.farm_core.proofs.tail.reply_of.Goals as goal
+
+pub unreachable-requires : goal.unreachable-requires
+unreachable-requires c =
+    let there = reply-there c.args.history.now c.args.place c.requires.legal c.requires.later c.requires.there in
+    none-some there.0 (sym c.in-None.is ∙ c.in_ok-reply.ensures ∙ there.1)

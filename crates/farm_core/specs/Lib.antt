@@ -1,0 +1,4 @@
+pub mod FarmFaults
+pub mod FarmInside
+pub mod FarmView
+pub mod Outcome

@@ -1,0 +1,24 @@
+-- What preparing a command answers, by what the command comes to.
+use Rattle.std.specs.Prelude.{◌≡◌, ℕ, List, [], ◌∷◌, ◌++◌, length, Some, Result, Ok, Err}
+use Rattle.farm_types.specs.declared.moment.Moment.{Moment}
+use Rattle.farm_entry.specs.Decision.{decide}
+use Rattle.farm_entry.specs.Reply.{reply_at}
+use Rattle.farm_entry.specs.declared.decision.Decision.TheVariants as decision
+use Rattle.farm_entry.specs.declared.command.Command.{Command}
+use Rattle.farm_entry.specs.declared.entry.Entry.{Entry}
+use Rattle.farm_core.specs.declared.prepared.CoreFault.{CoreFault}
+use Rattle.farm_core.specs.declared.prepared.Prepared.{Prepared}
+use Rattle.farm_core.specs.declared.prepared.Prepared.TheVariants.{Repeat, Shown, New}
+
+-- what a command that isn't refused is answered: the first reply to it again, what it shows, or its entry with the
+-- reply that the entry has when it comes next
+abbrev pub IsPrepared : List Entry → Command → Moment → Prepared → Type 0
+IsPrepared H q m (Repeat r) = (place : ℕ) × (decide H q m ≡ decision.Repeat place) × (reply_at H place ≡ Some r)
+IsPrepared H q m (Shown r) = decide H q m ≡ decision.Show r
+IsPrepared H q m (New e r) = (decide H q m ≡ decision.New e) × (reply_at (H ++ e ∷ []) (length H) ≡ Some r)
+
+-- the entries that may be committed once a command was prepared: its own, or none
+abbrev pub ready_after : Result Prepared CoreFault → List Entry
+ready_after (Ok (New e r)) = e ∷ []
+ready_after (Ok _) = []
+ready_after (Err f) = []
