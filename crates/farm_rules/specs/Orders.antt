@@ -1,13 +1,12 @@
 -- Which search gets the next revert order.
-use Rattle.std.specs.Prelude.{ℕ, ◌==◌, nat_le, nat_lt, Bool, not, List, [], ◌∷◌, count_by, filter, if◌then◌else◌, Option, Some, None}
+use Rattle.std.specs.Prelude.{ℕ, ◌+◌, ◌==◌, nat_le, nat_lt, Bool, not, List, [], ◌∷◌, length, count_by, filter, if◌then◌else◌, Option, Some, None, Result, Ok, Err}
 use Rattle.std.specs.List.{list_any}
 use Rattle.farm_types.specs.CommitId.{same_id}
 use Rattle.farm_types.specs.declared.commit_id.CommitId.{CommitId}
-
--- a search whose culprit is confirmed: its number, and the culprit
-pub record Confirmed : Type 0 where
-  pub search : ℕ
-  pub commit : CommitId
+use Rattle.farm_rules.specs.declared.orders.Candidate.{Candidate}
+use Rattle.farm_rules.specs.declared.orders.Draft.{Draft}
+use Rattle.farm_rules.specs.declared.orders.NoOrder.{NoOrder}
+use Rattle.farm_rules.specs.declared.orders.NoOrder.TheVariants.{DailyLimit, NoRevert}
 
 -- a revert order that stands: the commit that it reverts, and its day
 pub record Ordered : Type 0 where
@@ -19,16 +18,16 @@ abbrev pub has_order : List Ordered → CommitId → Bool
 has_order orders commit = list_any (λ o. same_id o.commit commit) orders
 
 -- the confirmed searches whose commit has no order yet
-abbrev pub candidates : List Confirmed → List Ordered → List Confirmed
+abbrev pub candidates : List Candidate → List Ordered → List Candidate
 candidates searches orders = filter (λ c. not (has_order orders c.commit)) searches
 
 -- of two searches the one with the smaller number, and on a tie the first
-abbrev pub earlier : Confirmed → Option Confirmed → Confirmed
+abbrev pub earlier : Candidate → Option Candidate → Candidate
 earlier c None = c
 earlier c (Some other) = if nat_le c.search other.search then c else other
 
 -- the search with the smallest number, the first of them on a tie
-abbrev pub earliest : List Confirmed → Option Confirmed
+abbrev pub earliest : List Candidate → Option Candidate
 earliest [] = None
 earliest (c ∷ rest) = Some (earlier c (earliest rest))
 
@@ -36,15 +35,34 @@ earliest (c ∷ rest) = Some (earlier c (earliest rest))
 abbrev pub orders_of : (day : ℕ) → List Ordered → ℕ
 orders_of day orders = count_by (λ o. o.day == day) orders
 
--- what the next request for an order comes to: no search is left, the day has its orders, or this search gets one
+-- the order of this number for a search, on a day
+abbrev pub draft_for : Candidate → (order day : ℕ) → Draft
+draft_for c order day = record { order = order; commit = c.commit; search = c.search; day = day }
+
+-- that order, while fewer stand on its day than the limit allows
+abbrev pub draft_of : Option Candidate → (order day limit count : ℕ) → Result Draft NoOrder
+draft_of None order day limit count = Err NoRevert
+draft_of (Some c) order day limit count =
+    if nat_lt count limit then Ok (draft_for c order day) else Err (DailyLimit day count)
+
+-- what the next request for an order comes to: the next order, or why there is none
+abbrev pub next_draft : List Candidate → List Ordered → (day limit : ℕ) → Result Draft NoOrder
+next_draft searches orders day limit =
+    draft_of (earliest (candidates searches orders)) (length orders + 1) day limit (orders_of day orders)
+
+-- Until the layers above cite the words before this line: the same by other names.
+
+abbrev pub Confirmed : Type 0
+Confirmed = Candidate
+
 pub data Next : Type 0 where
   no_search : Next
   day_is_full : (count : ℕ) → Next
-  order_for : Confirmed → Next
+  order_for : Candidate → Next
 
-abbrev pub next_of : Option Confirmed → (limit count : ℕ) → Next
+abbrev pub next_of : Option Candidate → (limit count : ℕ) → Next
 next_of None limit count = no_search
 next_of (Some c) limit count = if nat_lt count limit then order_for c else day_is_full count
 
-abbrev pub next_order : List Confirmed → List Ordered → (day limit : ℕ) → Next
+abbrev pub next_order : List Candidate → List Ordered → (day limit : ℕ) → Next
 next_order searches orders day limit = next_of (earliest (candidates searches orders)) limit (orders_of day orders)

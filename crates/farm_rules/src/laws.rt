@@ -1,12 +1,13 @@
 //! Worked numbers and laws of the rules. A function here does nothing: its contract is the law.
 
-ghost use Rattle.std.specs.Prelude.{◌≡◌, ◌≢◌, ℕ, ◌+◌, ◌<◌, ◌≤◌, List, [], ◌∷◌, length, Some, None, pos, negsuc};
+ghost use Rattle.std.specs.Prelude.{◌≡◌, ◌≢◌, ℕ, ◌+◌, ◌<◌, ◌≤◌, List, [], ◌∷◌, length, Some, None, Ok, Err, pos, negsuc};
 ghost use Rattle.weight_exact.specs.Example.{fail_at, pass_at};
 ghost use Rattle.farm_rules.specs.Due.{struck, due_search, due_verify};
 ghost use Rattle.farm_rules.specs.Reruns.{outcome, confirmed, vindicating, verifying, after_reruns};
-ghost use Rattle.farm_rules.specs.Orders.{next_order, no_search, day_is_full, order_for};
+ghost use Rattle.farm_rules.specs.Orders.{draft_for, next_draft};
 ghost use Rattle.farm_rules.specs.Day.{day_at};
 
+use crate::NoOrder;
 use farm_types::CommitId;
 
 /// The rules on numbers that were worked out by hand.
@@ -24,18 +25,20 @@ pub fn worked_numbers()
     ensures a_third_fail_is_late { after_reruns 2 1 [] (fail_at 2 ∷ fail_at 2 ∷ pass_at 1 ∷ [])
         ≡ fail_at 2 ∷ pass_at 1 ∷ [] }
     ensures smallest_number_first { (c d : CommitId) →
-        next_order (record { search = 7; commit = c } ∷ record { search = 4; commit = d } ∷ []) [] 20 1
-        ≡ order_for (record { search = 4; commit = d }) }
+        next_draft (record { search = 7; commit = c } ∷ record { search = 4; commit = d } ∷ []) [] 20 1
+        ≡ Ok (draft_for (record { search = 4; commit = d }) 1 20) }
     ensures first_on_a_tie { (c d : CommitId) →
-        next_order (record { search = 4; commit = c } ∷ record { search = 4; commit = d } ∷ []) [] 20 1
-        ≡ order_for (record { search = 4; commit = c }) }
+        next_draft (record { search = 4; commit = c } ∷ record { search = 4; commit = d } ∷ []) [] 20 1
+        ≡ Ok (draft_for (record { search = 4; commit = c }) 1 20) }
     ensures none_left_on_a_full_day { (c : CommitId) →
-        next_order (record { search = 4; commit = c } ∷ []) (record { commit = c; day = 20 } ∷ []) 20 1 ≡ no_search }
+        next_draft (record { search = 4; commit = c } ∷ []) (record { commit = c; day = 20 } ∷ []) 20 1
+        ≡ Err NoOrder.NoRevert }
     ensures a_day_is_full { (c d : CommitId) → c ≢ d →
-        next_order (record { search = 4; commit = c } ∷ []) (record { commit = d; day = 20 } ∷ []) 20 1 ≡ day_is_full 1 }
+        next_draft (record { search = 4; commit = c } ∷ []) (record { commit = d; day = 20 } ∷ []) 20 1
+        ≡ Err (NoOrder.DailyLimit 20 1) }
     ensures another_day_is_free { (c d : CommitId) → c ≢ d →
-        next_order (record { search = 4; commit = c } ∷ []) (record { commit = d; day = 19 } ∷ []) 20 1
-        ≡ order_for (record { search = 4; commit = c }) }
+        next_draft (record { search = 4; commit = c } ∷ []) (record { commit = d; day = 19 } ∷ []) 20 1
+        ≡ Ok (draft_for (record { search = 4; commit = c }) 2 20) }
     ensures a_day_begins { day_at 86400000 (pos 0) ≡ 1 }
     ensures west_of_utc { day_at 86400000 (negsuc 719) ≡ 0 }
     ensures east_of_utc { day_at 122399999 (pos 840) ≡ 1 }

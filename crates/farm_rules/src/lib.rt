@@ -2,7 +2,15 @@
 //! gets the next revert order, and the day that an order counts on.
 //!
 //! The rules are definitions, in specs/: nothing here runs. They compute by recursion on lists, so that the worked
-//! numbers in [`laws`] are found by evaluating them.
+//! numbers in [`laws`] are found by evaluating them; the other laws there say what characterises them. The types that a
+//! rule is asked with and answers, where it has some of its own, stand here too, so that every layer above means the
+//! same by a candidate, a draft and a refusal. The crate stands on `farm_types` for ids, moments and days, on
+//! `weight_exact` for runs, and on `thiserror` for the texts of refusals.
 #![tactic(auto)]
 
+mod day;
 pub mod laws;
+mod orders;
+
+pub use day::{MS_PER_DAY, MS_PER_MINUTE};
+pub use orders::{Candidate, Draft, NoOrder};

@@ -2,11 +2,12 @@
 use Rattle.std.proofs.Common.{◌≡◌, Bool, true, false, nat_le, List, [], ◌∷◌, Option, Some, None, if◌then◌else◌, ⊎_elim, ◌<◌, ◌≤◌, ap, sym, subst, ◌∙◌, refl, arith}
 use Rattle.std.proofs.lemmas.Bool.{cases_Bool, cases_lt}
 use Rattle.std.proofs.lemmas.Bool.Decides.{nat_tests}
-use Rattle.farm_rules.specs.Orders.{Confirmed, Ordered, candidates, earlier, earliest, has_order}
-use Rattle.revert_orders.specs.Request.{earlier_of}
+use Rattle.farm_rules.specs.Orders.{Ordered, candidates, earlier, earliest, has_order}
+use Rattle.farm_rules.specs.declared.orders.Candidate.{Candidate}
+use Rattle.revert_orders.specs.Earlier.{earlier_of}
 
 -- the choice among three goes by the search numbers alone
-chosen : (a b c : Confirmed) → earlier a (Some (earlier b (Some c))) ≡ earlier (earlier a (Some b)) (Some c)
+chosen : (a b c : Candidate) → earlier a (Some (earlier b (Some c))) ≡ earlier (earlier a (Some b)) (Some c)
 chosen a b c =
     ⊎_elim
     (λ (ba : b.search < a.search). ⊎_elim
@@ -18,18 +19,18 @@ chosen a b c =
     (cases_lt b.search a.search)
 
 -- a candidate joins the best so far, or the best of the rest
-pub earlier_of-assoc : (best : Option Confirmed) (c : Confirmed) (rest : Option Confirmed)
+pub earlier_of-assoc : (best : Option Candidate) (c : Candidate) (rest : Option Candidate)
     → earlier_of best (Some (earlier c rest)) ≡ earlier_of (earlier_of best (Some c)) rest
 earlier_of-assoc None c rest = refl
 earlier_of-assoc (Some best) c None = refl
 earlier_of-assoc (Some best) c (Some other) = ap Some (chosen best c other)
 
 -- nothing is left
-pub earlier_of-none : (best : Option Confirmed) → earlier_of best None ≡ best
+pub earlier_of-none : (best : Option Candidate) → earlier_of best None ≡ best
 earlier_of-none None = refl
 earlier_of-none (Some best) = refl
 
-module _ (orders : List Ordered) (c : Confirmed) (rest : List Confirmed) where
+module _ (orders : List Ordered) (c : Candidate) (rest : List Candidate) where
   -- a search whose commit has an order is passed over
   pub earliest-passed : has_order orders c.commit ≡ true → earliest (candidates (c ∷ rest) orders) ≡ earliest (candidates rest orders)
   earliest-passed has = rw has refl
@@ -40,27 +41,27 @@ module _ (orders : List Ordered) (c : Confirmed) (rest : List Confirmed) where
   earliest-counted lacks = rw lacks refl
 
   -- so the best so far stays the best
-  pub joined-passed : (best : Option Confirmed) → has_order orders c.commit ≡ true
+  pub joined-passed : (best : Option Candidate) → has_order orders c.commit ≡ true
       → earlier_of best (earliest (candidates (c ∷ rest) orders)) ≡ earlier_of best (earliest (candidates rest orders))
   joined-passed best has = ap (earlier_of best) (earliest-passed has)
 
   -- or it joins the best so far
-  pub joined-counted : (best : Option Confirmed) → has_order orders c.commit ≡ false
+  pub joined-counted : (best : Option Candidate) → has_order orders c.commit ≡ false
       → earlier_of best (earliest (candidates (c ∷ rest) orders)) ≡ earlier_of (earlier_of best (Some c)) (earliest (candidates rest orders))
   joined-counted best lacks = ap (earlier_of best) (earliest-counted lacks) ∙ earlier_of-assoc best c (earliest (candidates rest orders))
 
 -- the earlier of a search and the best of others lacks an order where they do
-free_of : (orders : List Ordered) (x : Confirmed) (others : Option Confirmed) (c : Confirmed) → has_order orders x.commit ≡ false
-    → ((o : Confirmed) → others ≡ Some o → has_order orders o.commit ≡ false) → earlier x others ≡ c → has_order orders c.commit ≡ false
-free_of orders x None c lacks rest e = subst (λ (k : Confirmed). has_order orders k.commit ≡ false) e lacks
+free_of : (orders : List Ordered) (x : Candidate) (others : Option Candidate) (c : Candidate) → has_order orders x.commit ≡ false
+    → ((o : Candidate) → others ≡ Some o → has_order orders o.commit ≡ false) → earlier x others ≡ c → has_order orders c.commit ≡ false
+free_of orders x None c lacks rest e = subst (λ (k : Candidate). has_order orders k.commit ≡ false) e lacks
 free_of orders x (Some o) c lacks rest e = by (nat_le x.search o.search) e
   where
     by : (b : Bool) → (if b then x else o) ≡ c → has_order orders c.commit ≡ false
-    by true same = subst (λ (k : Confirmed). has_order orders k.commit ≡ false) same lacks
-    by false same = subst (λ (k : Confirmed). has_order orders k.commit ≡ false) same (rest o refl)
+    by true same = subst (λ (k : Candidate). has_order orders k.commit ≡ false) same lacks
+    by false same = subst (λ (k : Candidate). has_order orders k.commit ≡ false) same (rest o refl)
 
 -- the commit of the earliest candidate has no order
-pub earliest-free : (searches : List Confirmed) (orders : List Ordered) (c : Confirmed)
+pub earliest-free : (searches : List Candidate) (orders : List Ordered) (c : Candidate)
     → earliest (candidates searches orders) ≡ Some c → has_order orders c.commit ≡ false
 earliest-free [] orders c e = cc e
 earliest-free (x ∷ rest) orders c e =

@@ -1,2 +1,2 @@
 pub mod Book
-pub mod Request
+pub mod Earlier

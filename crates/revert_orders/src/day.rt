@@ -2,11 +2,8 @@ ghost use Rattle.std.specs.Prelude.{◌≡◌, ◌≤◌, ◌≤ℤ◌};
 ghost use Rattle.farm_rules.specs.Day.{day_at};
 ghost use Rattle.farm_types.specs.Moment.{moment_ms};
 
+use farm_rules::{MS_PER_DAY, MS_PER_MINUTE};
 use farm_types::{LAST_DAY, Moment, ZONE_MAX_MINUTES, ZONE_MIN_MINUTES};
-
-const MS_PER_MINUTE: i64 = 60_000;
-
-const MS_PER_DAY: i64 = 86_400_000;
 
 /// The day of a moment by the local clock, in whole days since 1970-01-01, where local time is `zone_minutes` minutes
 /// ahead of UTC.

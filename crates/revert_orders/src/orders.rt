@@ -1,9 +1,8 @@
 ghost use Rattle.std.specs.Prelude.{◌≡◌, ◌≤◌, ◌<◌, ◌+◌, ◌^◌, ◌↔◌, length, map, false, None, Some, [], ◌∷◌, ◌++◌, IfSome, IfNone, IfOk, IfErr, OnOk, IsSome};
-ghost use Rattle.std.specs.Option.{option_map};
-ghost use Rattle.farm_rules.specs.Orders.{candidates, earliest, has_order, next_order, orders_of};
-ghost use Rattle.revert_orders.specs.Request.{as_next, confirmed_of, earlier_of, named_day, searches_of};
+ghost use Rattle.farm_rules.specs.Orders.{candidates, earliest, has_order, next_draft, orders_of};
+ghost use Rattle.revert_orders.specs.Earlier.{earlier_of};
 
-use crate::{Candidate, Draft, NoOrder};
+use farm_rules::{Candidate, Draft, NoOrder};
 use farm_types::{CommitId, Memory};
 use indexmap::IndexMap;
 use std::alloc::Global;
@@ -69,9 +68,7 @@ impl Orders {
     /// Nothing is added, and no memory is taken.
     pub fn next(&self, confirmed: &[Candidate], day: u32, limit: u32) -> Result<Draft, NoOrder>
         requires { length self.now.orders + 1 < 2 ^ 32 }
-        ensures next { as_next result ≡ next_order (searches_of confirmed.now) self.now.orders day limit }
-        ensures number { IfOk result (λ draft. draft.order ≡ length self.now.orders + 1) }
-        ensures dated { named_day result day ≡ day }
+        ensures next { result ≡ next_draft confirmed.now self.now.orders day limit }
         ensures free { IfOk result (λ draft. has_order self.now.orders draft.commit ≡ false) }
     {
         let Some(chosen) = self.earliest(confirmed) else {
@@ -127,7 +124,7 @@ impl Orders {
 
     /// Of the candidates whose commit has no order, the one with the smallest search number, the first on a tie.
     fn earliest(&self, confirmed: &[Candidate]) -> Option<Candidate>
-        ensures { option_map confirmed_of result ≡ earliest (candidates (searches_of confirmed.now) self.now.orders) }
+        ensures { result ≡ earliest (candidates confirmed.now self.now.orders) }
     {
         let mut best: Option<Candidate> = None;
         for candidate in confirmed {
@@ -149,7 +146,7 @@ impl Orders {
 
 /// The best so far, or this later candidate where its search number is smaller.
 fn earlier(best: Option<Candidate>, candidate: Candidate) -> Candidate
-    ensures { Some (confirmed_of result) ≡ earlier_of (option_map confirmed_of best) (Some (confirmed_of candidate)) }
+    ensures { Some result ≡ earlier_of best (Some candidate) }
 {
     match best {
         Some(found) if found.search <= candidate.search => found,

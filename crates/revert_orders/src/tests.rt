@@ -1,7 +1,8 @@
 ghost use Rattle.std.specs.Prelude.{◌≡◌, ◌≤◌, ◌+◌, length, false};
 ghost use Rattle.farm_rules.specs.Orders.{has_order};
 
-use crate::{Candidate, Draft, NoOrder, Orders, RevertOrder, date_text, day_of};
+use crate::{Orders, RevertOrder, date_text, day_of};
+use farm_rules::{Candidate, Draft, NoOrder};
 use farm_types::{CommitId, Memory, Moment, ZONE_MAX_MINUTES, ZONE_MIN_MINUTES};
 use std::alloc::Global;
 use std::test::Fail;

@@ -1,3 +1,4 @@
 pub mod Sums
+pub mod CanPick
 pub mod Picks
 pub mod Cumulative

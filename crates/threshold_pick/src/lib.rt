@@ -3,7 +3,7 @@
 //!
 //! A search that may have k runs at once cuts what it believes into k + 1 parts, as near to equal as whole suspects
 //! allow: bisection, with the quantiles of the posterior for the middle. [`pick`] finds one such position by halves,
-//! and [`plan_into`] all k. They stand on `weight_exact`: they read its `Sums`, count on its `Steps`, and meet its
+//! and [`plan_into`] all k, as [`plan_uncounted`] does for a caller that counts no steps. They stand on `weight_exact`: they read its `Sums`, count on its `Steps`, and meet its
 //! definition of the plan. The layer above passes the sums and the floor of a belief. By the laws the positions are then
 //! the plan of the runs that the belief stands for.
 #![tactic(auto)]
@@ -12,7 +12,7 @@ pub mod laws;
 mod picks;
 mod threshold;
 
-pub use picks::{pick, plan_into};
+pub use picks::{pick, plan_into, plan_uncounted};
 
 #[cfg(test)]
 mod tests;

@@ -1,12 +1,15 @@
 //! The positions to run next.
 
 ghost use Rattle.std.specs.Prelude.{◌≡◌, ℕ, ◌+◌, ◌-◌, ◌*◌, ◌<◌, ◌≤◌, ◌^◌, length};
-ghost use Rattle.weight_exact.specs.declared.limits.TheConstants.{BASIS_POINTS, MAX_SUSPECTS, MAX_WIDTH};
-ghost use Rattle.threshold_pick.specs.Sums.{sum_at, whole, suspects_in, RiseAbove};
+ghost use Rattle.weight_exact.specs.Steps.{CanCount};
+ghost use Rattle.weight_exact.specs.declared.limits.TheConstants.{MAX_WIDTH};
+ghost use Rattle.threshold_pick.specs.CanPick.{CanPick};
+ghost use Rattle.threshold_pick.specs.Sums.{sum_at, suspects_in, whole};
 ghost use Rattle.threshold_pick.specs.Picks.{IsPick, ArePicks};
 
 use crate::threshold::Threshold;
-use std::sync::ledger::Ledger;
+use std::marker::Brand;
+use std::sync::ledger::{Blank, Ledger};
 use weight_exact::{Steps, Sums};
 
 /// The `j`-th of `k` positions to run next: of the suspects above the floor the one whose cumulative weight is nearest
@@ -15,10 +18,7 @@ use weight_exact::{Steps, Sums};
 /// It takes no memory, and searches by halves: it reads at most two sums more than the number of suspects has binary
 /// digits. Each read is a step.
 pub fn pick<L: Ledger>(sums: &Sums, floor: u16, j: u8, k: u8, steps: &mut Steps<L>) -> u16
-    requires few { suspects_in sums.now ≤ MAX_SUSPECTS }
-    requires some { floor < suspects_in sums.now }
-    requires rising { RiseAbove floor sums.now }
-    requires room { whole sums.now * BASIS_POINTS < 2 ^ 128 }
+    requires sums { CanPick floor sums.now }
     requires first { 1 ≤ j }
     requires last { j ≤ k }
     requires narrow { k ≤ MAX_WIDTH }
@@ -48,9 +48,7 @@ fn first_reaching<L: Ledger>(
     threshold: Threshold,
     steps: &mut Steps<L>,
 ) -> u16
-    requires few { suspects_in sums.now ≤ MAX_SUSPECTS }
-    requires some { floor < suspects_in sums.now }
-    requires rising { RiseAbove floor sums.now }
+    requires sums { CanPick floor sums.now }
     requires room { whole sums.now * threshold.parts < 2 ^ 128 }
 
     ensures above { floor < result }
@@ -78,10 +76,7 @@ fn first_reaching<L: Ledger>(
 ///
 /// It takes no memory, and at most `k` times the steps that one [`pick`] may take.
 pub fn plan_into<L: Ledger>(sums: &Sums, floor: u16, k: u8, out: &mut [u16], steps: &mut Steps<L>)
-    requires few { suspects_in sums.now ≤ MAX_SUSPECTS }
-    requires some { floor < suspects_in sums.now }
-    requires rising { RiseAbove floor sums.now }
-    requires room { whole sums.now * BASIS_POINTS < 2 ^ 128 }
+    requires sums { CanPick floor sums.now }
     requires narrow { k ≤ MAX_WIDTH }
     requires places { length out.old ≡ k }
 
@@ -89,7 +84,28 @@ pub fn plan_into<L: Ledger>(sums: &Sums, floor: u16, k: u8, out: &mut [u16], ste
     ensures cost { 2 ^ (steps.new - steps.old) ≤ (8 * suspects_in sums.now) ^ k }
     ensures counted { steps.old ≤ steps.new }
 {
-    for place in 0..k {
-        out[usize::from(place)] = pick(sums, floor, place + 1, k, steps);
+    for index in 0..k {
+        out[usize::from(index)] = pick(sums, floor, index + 1, k, steps);
     }
+}
+
+/// The same for a caller that counts no steps.
+pub fn plan_uncounted(sums: &Sums, floor: u16, k: u8, out: &mut [u16])
+    requires sums { CanPick floor sums.now }
+    requires narrow { k ≤ MAX_WIDTH }
+    requires places { length out.old ≡ k }
+    ensures { ArePicks sums.now floor k out.new }
+{
+    plan_on::<Brand>(sums, floor, k, out, Blank::new(1));
+}
+
+/// The same on a counter of its own, which nobody reads.
+fn plan_on<L: Ledger>(sums: &Sums, floor: u16, k: u8, out: &mut [u16], blank: Blank)
+    requires blank { CanCount blank L.name L.parts }
+    requires sums { CanPick floor sums.now }
+    requires narrow { k ≤ MAX_WIDTH }
+    requires places { length out.old ≡ k }
+    ensures { ArePicks sums.now floor k out.new }
+{
+    plan_into(sums, floor, k, out, &mut Steps::<L>::new(blank));
 }

@@ -1,9 +1,11 @@
-ghost use Rattle.std.specs.Prelude.{◌≡◌, ◌+◌, ◌-◌, ◌*◌, ◌^◌, ◌<◌, ◌≤◌, length, IfOk};
+ghost use Rattle.std.specs.Prelude.{◌+◌, ◌<◌, ◌≤◌, length};
 ghost use Rattle.std.specs.Bool.{OnTrue};
-ghost use Rattle.threshold_pick.specs.Sums.{suspects_in, whole, RiseAbove};
+ghost use Rattle.weight_exact.specs.Steps.{CanCount};
+ghost use Rattle.threshold_pick.specs.CanPick.{CanPick};
+ghost use Rattle.threshold_pick.specs.Sums.{RiseAbove, suspects_in};
 
 use crate::laws::steps_are_few;
-use crate::{pick, plan_into};
+use crate::{pick, plan_into, plan_uncounted};
 use std::alloc::{AllocError, Global};
 use std::marker::Brand;
 use std::process::Abort;
@@ -16,8 +18,8 @@ fn sums_of(alloc: Global, numbers: &[u32]) -> Result<Sums, Memory>
     requires { 0 < length numbers.now }
 {
     let mut sums = Sums::room(alloc, numbers.len() - 1)?;
-    for (place, number) in numbers.iter().enumerate() {
-        sums.set(place + 1, u128::from(*number));
+    for (index, number) in numbers.iter().enumerate() {
+        sums.set(index + 1, u128::from(*number));
     }
     Ok(sums)
 }
@@ -37,10 +39,7 @@ fn rise_above<L: Ledger>(sums: &Sums, floor: u16, steps: &mut Steps<L>) -> bool
 
 /// Stops the test where the sums aren't what a pick requires.
 fn expect_sums<L: Ledger>(rt: &impl Abort, sums: &Sums, floor: u16, steps: &mut Steps<L>)
-    ensures few { suspects_in sums.now ≤ MAX_SUSPECTS }
-    ensures some { floor < suspects_in sums.now }
-    ensures rising { RiseAbove floor sums.now }
-    ensures room { whole sums.now * 10_000 < 2 ^ 128 }
+    ensures { CanPick floor sums.now }
 {
     assert!(rt; sums.suspects() <= MAX_SUSPECTS);
     assert!(rt; usize::from(floor) < sums.suspects());
@@ -57,10 +56,7 @@ fn picked<L: Ledger>(
     k: u8,
     steps: &mut Steps<L>,
 ) -> u16
-    requires few { suspects_in sums.now ≤ MAX_SUSPECTS }
-    requires some { floor < suspects_in sums.now }
-    requires rising { RiseAbove floor sums.now }
-    requires room { whole sums.now * 10_000 < 2 ^ 128 }
+    requires { CanPick floor sums.now }
     ensures twelve_steps { steps.new ≤ steps.old + 12 }
 {
     assert!(rt; 1 <= j && j <= k && k <= MAX_WIDTH);
@@ -68,16 +64,18 @@ fn picked<L: Ledger>(
     pick(sums, floor, j, k, steps)
 }
 
-/// The plan as wide as `positions`.
+/// The plan as wide as `positions`, which is the same where no steps are counted.
 fn plan<L: Ledger>(rt: &impl Abort, sums: &Sums, floor: u16, positions: &mut [u16], blank: Blank)
-    requires name { blank.name ≡ L.name }
-    requires parts { blank.parts ≡ L.parts }
-    requires some { 1 ≤ L.parts }
+    requires { CanCount blank L.name L.parts }
 {
     let mut steps = Steps::<L>::new(blank);
     expect_sums(rt, sums, floor, &mut steps);
     assert!(rt; positions.len() <= usize::from(MAX_WIDTH));
-    plan_into(sums, floor, positions.len() as u8, positions, &mut steps);
+    let width = positions.len();
+    plan_into(sums, floor, width as u8, positions, &mut steps);
+    let mut uncounted = [0; MAX_WIDTH as usize];
+    plan_uncounted(sums, floor, width as u8, &mut uncounted[..width]);
+    assert_eq!(rt; &uncounted[..width], &*positions);
 }
 
 /// The distance of one sum, written out.
@@ -176,9 +174,7 @@ fn a_search_of_120_suspects_closes_in_on_its_culprit(rt: HostRuntime) -> Result<
 
 /// Compares each pick of each width with the plain one.
 fn compare<L: Ledger>(rt: &impl Abort, sums: &Sums, numbers: &[u32], floor: u16, blank: Blank)
-    requires name { blank.name ≡ L.name }
-    requires parts { blank.parts ≡ L.parts }
-    requires some { 1 ≤ L.parts }
+    requires { CanCount blank L.name L.parts }
 {
     let mut steps = Steps::<L>::new(blank);
     expect_sums(rt, sums, floor, &mut steps);

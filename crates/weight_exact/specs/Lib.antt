@@ -12,3 +12,4 @@ pub mod Plan
 pub mod PowerTable
 pub mod Powers
 pub mod PowersInside
+pub mod Steps

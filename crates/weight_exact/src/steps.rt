@@ -1,6 +1,7 @@
 //! The counter of steps.
 
-ghost use Rattle.std.specs.Prelude.{◌≡◌, ◌+◌, ◌≤◌};
+ghost use Rattle.std.specs.Prelude.{◌≡◌, ◌+◌};
+ghost use Rattle.weight_exact.specs.Steps.{CanCount};
 
 use std::marker::Model;
 use std::sync::ledger::{Blank, Book, Ledger, Share};
@@ -25,11 +26,9 @@ impl<L: Ledger> Model for Steps<L> {
 }
 
 impl<L: Ledger> Steps<L> {
-    /// A counter at 0. It takes a blank of the ledger: a caller that counts nothing passes `Blank::new(1)`.
+    /// A counter at 0, on a blank of its ledger. A call that counts steps has one beside it for callers that count none.
     pub fn new(blank: Blank) -> Steps<L>
-        requires name { blank.name ≡ L.name }
-        requires parts { blank.parts ≡ L.parts }
-        requires some { 1 ≤ L.parts }
+        requires { CanCount blank L.name L.parts }
         ensures { result ≡ 0 }
     {
         let (book, share) = blank.open::<L>();

@@ -8,7 +8,7 @@ pub is_reached_by-requires : goal.is_reached_by-requires
 is_reached_by-requires g c =
     let kept = c.loop-low.invariant in
     rw c.at.ensures.value
-    (sum_at_fits c.args.floor c.args.sums.now c.from.result c.args.threshold.parts c.requires.rising
+    (sum_at_fits c.args.floor c.args.sums.now c.from.result c.args.threshold.parts c.requires.sums.rising
     (omega arith) (omega arith) c.requires.room)
 
 pub loop-low-preserved-then-is_reached_by : goal.loop-low-preserved-then-is_reached_by
@@ -24,7 +24,7 @@ loop-low-preserved-then-is_reached_by g c =
       before = kept.before;
       from = λ i from_middle last.
           let higher =
-          sum_at_scaled c.args.floor sums middle i c.args.threshold.parts c.requires.rising (omega arith) from_middle (omega arith) in
+          sum_at_scaled c.args.floor sums middle i c.args.threshold.parts c.requires.sums.rising (omega arith) from_middle (omega arith) in
           let here : c.at.result ≡ sum_at sums middle = rw c.from.ensures at c.at.ensures.value in
           let reached_here = rw here at reached in
           omega (arith, higher, reached_here);
@@ -44,7 +44,7 @@ loop-low-preserved g c =
       within = omega arith;
       before = λ i above to_middle.
           let lower =
-          sum_at_scaled c.args.floor sums i middle c.args.threshold.parts c.requires.rising above (omega arith) (omega arith) in
+          sum_at_scaled c.args.floor sums i middle c.args.threshold.parts c.requires.sums.rising above (omega arith) (omega arith) in
           let here : c.at.result ≡ sum_at sums middle = rw c.from.ensures at c.at.ensures.value in
           let below_here = rw here at below in
           omega (arith, lower, below_here);

@@ -12,7 +12,7 @@ returns-then-reaching-floor-clause-nearest g c =
     let sums = c.args.sums.now in
     let turn = c.first_reaching-reaching.result in
     IsNearest-first (away sums c.args.j c.args.k) c.args.floor (suspects_in sums) turn
-    (IsValley-away sums c.args.floor c.args.j c.args.k _ _ turn c.requires.rising
+    (IsValley-away sums c.args.floor c.args.j c.args.k _ _ turn c.requires.sums.rising
     c.of-threshold.ensures.parts c.of-threshold.ensures.mark found.above found.within found.before found.from)
     c.if-reaching-floor.true
 
@@ -21,7 +21,7 @@ distance-here-requires g c =
     let found = c.first_reaching-reaching.ensures in
     rw (c.at-2.ensures.value, c.from-2.ensures)
     (sum_at_fits c.args.floor c.args.sums.now c.first_reaching-reaching.result c.of-threshold.result.parts
-    c.requires.rising (omega arith) (omega arith) c.of-threshold.ensures.room)
+    c.requires.sums.rising (omega arith) (omega arith) c.of-threshold.ensures.room)
 
 pub returns-then-before-here-clause-nearest : goal.returns-then-before-here-clause-nearest
 returns-then-before-here-clause-nearest g c =
@@ -31,7 +31,7 @@ returns-then-before-here-clause-nearest g c =
     let turn = c.first_reaching-reaching.result in
     let neighbours =
     IsPick-neighbours sums c.args.floor c.args.j c.args.k _ _ turn c.at.result c.at-2.result threshold.parts threshold.mark
-    (IsValley-away sums c.args.floor c.args.j c.args.k _ _ turn c.requires.rising threshold.parts threshold.mark
+    (IsValley-away sums c.args.floor c.args.j c.args.k _ _ turn c.requires.sums.rising threshold.parts threshold.mark
     found.above found.within found.before found.from)
     (omega arith)
     (rw c.from.ensures at c.at.ensures.value)
@@ -54,7 +54,7 @@ returns-else-before-here-clause-nearest g c =
     let turn = c.first_reaching-reaching.result in
     let neighbours =
     IsPick-neighbours sums c.args.floor c.args.j c.args.k _ _ turn c.at.result c.at-2.result threshold.parts threshold.mark
-    (IsValley-away sums c.args.floor c.args.j c.args.k _ _ turn c.requires.rising threshold.parts threshold.mark
+    (IsValley-away sums c.args.floor c.args.j c.args.k _ _ turn c.requires.sums.rising threshold.parts threshold.mark
     found.above found.within found.before found.from)
     (omega arith)
     (rw c.from.ensures at c.at.ensures.value)

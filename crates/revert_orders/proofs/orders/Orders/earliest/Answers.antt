@@ -1,9 +1,8 @@
 use Rattle.std.proofs.Common.{◌<◌, ◌∙◌, ◌+◌, ap, sym, drop, length, List, ◌∷◌, Option, arith}
 use Rattle.std.proofs.lemmas.List.{at_drop_more}
-use Rattle.std.specs.Option.{option_map}
-use Rattle.farm_rules.specs.Orders.{Confirmed, candidates, earliest}
-use Rattle.revert_orders.specs.Request.{confirmed_of, earlier_of, searches_of}
-use Rattle.revert_orders.specs.declared.request.Candidate.{Candidate}
+use Rattle.farm_rules.specs.Orders.{candidates, earliest}
+use Rattle.farm_rules.specs.declared.orders.Candidate.{Candidate}
+use Rattle.revert_orders.specs.Earlier.{earlier_of}
 use Rattle.revert_orders.proofs.Earliest.{joined-counted, joined-passed}
 use Rattle.revert_orders.proofs.orders.Orders.earliest.Goals as goal
 use Rattle.revert_orders.proofs.orders.Orders.earliest.Goals.{then-not-has_order, else-not-has_order}
@@ -13,19 +12,19 @@ loop-candidate-preserved c =
     let orders = c.args.self.now.orders in
     let all = c.args.confirmed.now in
     let item = c.candidate-item.result in
-    let best = option_map confirmed_of c.loop-candidate.best in
+    let best = c.loop-candidate.best in
     let rest = drop (c.loop-candidate.candidate-index + 1) all in
-    let joined = λ (left : List Candidate). earlier_of best (earliest (candidates (searches_of left) orders)) in
+    let joined = λ (left : List Candidate). earlier_of best (earliest (candidates left orders)) in
     let within : c.loop-candidate.candidate-index < length all = omega arith in
     let before =
     ap (λ (k : Candidate). joined (k ∷ rest)) c.candidate-item.is
     ∙ (sym (at_drop_more joined all c.loop-candidate.candidate-index item within) ∙ c.loop-candidate.invariant) in
-    let kept = λ (k : Option Confirmed). earlier_of k (earliest (candidates (searches_of rest) orders)) in
+    let kept = λ (k : Option Candidate). earlier_of k (earliest (candidates rest orders)) in
     elim c.if-not-has_order.branch [
       | then-not-has_order w ↦
-          let counted = joined-counted orders (confirmed_of item) (searches_of rest) best (sym c.has_order.ensures ∙ w.if-not-has_order.true) in
-          ap (λ (k : Option Candidate). kept (option_map confirmed_of k)) w.best-is ∙ (ap kept w.earlier.ensures ∙ (sym counted ∙ before))
+          let counted = joined-counted orders item rest best (sym c.has_order.ensures ∙ w.if-not-has_order.true) in
+          ap kept w.best-is ∙ (ap kept w.earlier.ensures ∙ (sym counted ∙ before))
       | else-not-has_order w ↦
-          let passed = joined-passed orders (confirmed_of item) (searches_of rest) best (sym c.has_order.ensures ∙ w.if-not-has_order.false) in
-          ap (λ (k : Option Candidate). kept (option_map confirmed_of k)) w.best-is ∙ (sym passed ∙ before)
+          let passed = joined-passed orders item rest best (sym c.has_order.ensures ∙ w.if-not-has_order.false) in
+          ap kept w.best-is ∙ (sym passed ∙ before)
     ]

@@ -1,3 +1,5 @@
+//! What a request for the next revert order is asked with, and what it comes to.
+
 use farm_types::CommitId;
 use thiserror::Error;
 
