@@ -1,4 +1,5 @@
 pub mod Due
 pub mod Reruns
 pub mod Orders
+pub mod NextOrder
 pub mod Day

@@ -1,14 +1,17 @@
-//! Worked numbers and laws of the rules. A function here does nothing: its contract is the law.
+//! Worked numbers, and laws that say what characterises the rules. A function here does nothing: its contract is the law.
 
-ghost use Rattle.std.specs.Prelude.{◌≡◌, ◌≢◌, ℕ, ◌+◌, ◌<◌, ◌≤◌, List, [], ◌∷◌, length, Some, None, Ok, Err, pos, negsuc};
+ghost use Rattle.std.specs.Prelude.{◌≡◌, ◌≢◌, ◌↔◌, ℕ, ◌+◌, ◌<◌, ◌≤◌, ℤ, ◌*ℤ◌, ◌≤ℤ◌, ◌<ℤ◌, List, [], ◌∷◌, ◌++◌, All, IsPermutation, Some, None, Ok, Err, pos, negsuc};
+ghost use Rattle.std.specs.List.{Contains};
+ghost use Rattle.farm_types.specs.Limits.{IsMoment};
 ghost use Rattle.weight_exact.specs.Example.{fail_at, pass_at};
 ghost use Rattle.farm_rules.specs.Due.{struck, due_search, due_verify};
 ghost use Rattle.farm_rules.specs.Reruns.{outcome, confirmed, vindicating, verifying, after_reruns};
-ghost use Rattle.farm_rules.specs.Orders.{draft_for, next_draft};
-ghost use Rattle.farm_rules.specs.Day.{day_at};
+ghost use Rattle.farm_rules.specs.Orders.{Ordered, candidates, draft_for, earliest, next_draft, orders_of};
+ghost use Rattle.farm_rules.specs.NextOrder.{IsNextOrder};
+ghost use Rattle.farm_rules.specs.Day.{day_at, local_ms};
 
-use crate::NoOrder;
-use farm_types::CommitId;
+use crate::{Candidate, Draft, MS_PER_DAY, NoOrder};
+use farm_types::{CommitId, LAST_DAY, ZONE_MAX_MINUTES, ZONE_MIN_MINUTES};
 
 /// The rules on numbers that were worked out by hand.
 pub fn worked_numbers()
@@ -42,4 +45,53 @@ pub fn worked_numbers()
     ensures a_day_begins { day_at 86400000 (pos 0) ≡ 1 }
     ensures west_of_utc { day_at 86400000 (negsuc 719) ≡ 0 }
     ensures east_of_utc { day_at 122399999 (pos 840) ≡ 1 }
+{}
+
+/// What is due doesn't depend on the order in which the outstanding runs stand: each strikes an entry at its position, so
+/// only how many there are at a position matters.
+pub fn outstanding_runs_in_any_order()
+    ensures left { (plan outstanding other : List ℕ) → IsPermutation outstanding other →
+        struck plan other ≡ struck plan outstanding }
+    ensures searching { (plan outstanding other : List ℕ) → IsPermutation outstanding other →
+        due_search plan other ≡ due_search plan outstanding }
+    ensures verifying { (culprit at_culprit at_parent reruns : ℕ) (outstanding other : List ℕ) →
+        IsPermutation outstanding other →
+        due_verify culprit at_culprit at_parent other reruns
+        ≡ due_verify culprit at_culprit at_parent outstanding reruns }
+{}
+
+/// The earliest of a list of searches is one of them, none of them has a smaller number, and of those with its number it
+/// is the first. There is one unless the list is empty.
+pub fn earliest_is_the_first_with_the_least_number()
+    ensures one_of_them { (searches : List Candidate) (c : Candidate) → earliest searches ≡ Some c → Contains searches c }
+    ensures least { (searches : List Candidate) (c : Candidate) → earliest searches ≡ Some c →
+        All (λ (o : Candidate). c.search ≤ o.search) searches }
+    ensures first { (before after : List Candidate) (c : Candidate) →
+        All (λ (o : Candidate). c.search < o.search) before → All (λ (o : Candidate). c.search ≤ o.search) after →
+        earliest (before ++ c ∷ after) ≡ Some c }
+    ensures none { (searches : List Candidate) → (earliest searches ≡ None) ↔ (searches ≡ []) }
+{}
+
+/// A draft is the next order: for a confirmed search whose commit has none, with the smallest number among those, with the
+/// next number, on a day that has room for it. There is no draft where no confirmed search is left, and else none where
+/// the day has as many orders as its limit allows.
+pub fn drafts_are_next_orders()
+    ensures next { (searches : List Candidate) (orders : List Ordered) (day limit : ℕ) (d : Draft) →
+        next_draft searches orders day limit ≡ Ok d → IsNextOrder searches orders day limit d }
+    ensures none_left { (searches : List Candidate) (orders : List Ordered) (day limit : ℕ) →
+        (next_draft searches orders day limit ≡ Err NoOrder.NoRevert) ↔ (candidates searches orders ≡ []) }
+    ensures full { (searches : List Candidate) (orders : List Ordered) (day limit named count : ℕ) →
+        next_draft searches orders day limit ≡ Err (NoOrder.DailyLimit named count) →
+        (named ≡ day) × (count ≡ orders_of day orders) × (limit ≤ orders_of day orders) }
+{}
+
+/// The day of a moment, by its milliseconds: it begins at or before the local time, the next one begins after it, and it
+/// lies from day 0 to the last day.
+pub fn days_have_their_milliseconds()
+    ensures begins { (moment : ℕ) (zone : ℤ) → IsMoment moment → ZONE_MIN_MINUTES ≤ℤ zone →
+        (pos (day_at moment zone) *ℤ MS_PER_DAY) ≤ℤ local_ms moment zone }
+    ensures ends { (moment : ℕ) (zone : ℤ) → IsMoment moment → ZONE_MIN_MINUTES ≤ℤ zone →
+        local_ms moment zone <ℤ (pos (day_at moment zone + 1) *ℤ MS_PER_DAY) }
+    ensures few { (moment : ℕ) (zone : ℤ) → IsMoment moment → zone ≤ℤ ZONE_MAX_MINUTES →
+        day_at moment zone ≤ LAST_DAY }
 {}

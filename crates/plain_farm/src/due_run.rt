@@ -21,10 +21,8 @@ use plain_history::{is_reported, last_lease, leases, opening_in, push_some, reru
 use posterior::Belief;
 use run_plan::{due_search, due_verify};
 use std::alloc::Global;
-use std::marker::Brand;
-use std::sync::ledger::{Blank, Ledger};
-use threshold_pick::plan_into;
-use weight_exact::{Run, Steps};
+use threshold_pick::plan_uncounted;
+use weight_exact::Run;
 
 /// Whether a lease is open at a moment: its run has no report, and its deadline lies later.
 pub fn is_open(history: &[Entry], moment: u64, lease: LeasedRun) -> bool
@@ -76,7 +74,7 @@ pub fn plan(alloc: Global, history: &[Entry], opening: &Opening) -> Result<Vec<u
 {
     let belief = belief(alloc, history, opening)?;
     let mut positions = zeros(alloc, opening.width)?;
-    write_plan::<Brand>(history, opening, &belief, &mut positions, Blank::new(1));
+    write_plan(history, opening, &belief, &mut positions);
     Ok(positions)
 }
 
@@ -88,16 +86,7 @@ fn zeros(alloc: Global, count: u8) -> Result<Vec<u16>, Memory>
 }
 
 /// Writes the plan of a search that is searching, by its belief.
-fn write_plan<L: Ledger>(
-    history: &[Entry],
-    opening: &Opening,
-    belief: &Belief,
-    positions: &mut [u16],
-    blank: Blank,
-)
-    requires name { blank.name ≡ L.name }
-    requires parts { blank.parts ≡ L.parts }
-    requires some { 1 ≤ L.parts }
+fn write_plan(history: &[Entry], opening: &Opening, belief: &Belief, positions: &mut [u16])
     requires legal { IsLegal history.now }
     requires opened { Contains (openings history.now) opening.now }
     requires searching { standing history.now opening.now ≡ Searching }
@@ -106,9 +95,8 @@ fn write_plan<L: Ledger>(
     requires places { length positions.old ≡ opening.now.width }
     ensures { positions.new ≡ plan (setup_of opening.now) (runs history.now opening.now.search) opening.now.width }
 {
-    let mut steps = Steps::<L>::new(blank);
     let floor = belief.floor();
-    plan_into(belief.sums(), floor, opening.width, positions, &mut steps);
+    plan_uncounted(belief.sums(), floor, opening.width, positions);
 }
 
 /// Where a search that is searching is to run next.

@@ -1,0 +1,4 @@
+pub mod Striking
+pub mod Earliest
+pub mod Drafts
+pub mod Days
