@@ -35,22 +35,22 @@ over_one : (n d : ℕ) → d ≡ 1 → n / d ≡ n
 over_one n d one = ap (λ (k : ℕ). n / k) one ∙ div-one n
 
 -- the numbers of a rate make the rate, since they are in lowest terms
-rate-again : (rate : Rate) → rate_of (rate_numerator rate) (rate_denominator rate) ≡ Some rate
+pub rate-again : (rate : Rate) → rate_of (rate_numerator rate) (rate_denominator rate) ≡ Some rate
 rate-again rate =
     when_passed-same (is_rate rate.a rate.b) _ rate (rate-tested rate.a rate.b rate.in_limits)
     (λ h. rate-from_numbers _ rate (over_one rate.a (gcd rate.a rate.b) rate.lowest_terms) (over_one rate.b (gcd rate.a rate.b) rate.lowest_terms))
 
-miss-again : (miss : Miss) → miss_of (miss_numerator miss) (miss_denominator miss) ≡ Some miss
+pub miss-again : (miss : Miss) → miss_of (miss_numerator miss) (miss_denominator miss) ≡ Some miss
 miss-again miss =
     when_passed-same (is_miss miss.c miss.d) _ miss (miss-tested miss.c miss.d miss.in_limits)
     (λ h. miss-from_numbers _ miss (over_one miss.c (gcd miss.c miss.d) miss.lowest_terms) (over_one miss.d (gcd miss.c miss.d) miss.lowest_terms))
 
-bar-again : (bar : Bar) → bar_of (bar_numerator bar) (bar_denominator bar) ≡ Some bar
+pub bar-again : (bar : Bar) → bar_of (bar_numerator bar) (bar_denominator bar) ≡ Some bar
 bar-again bar =
     when_passed-same (is_bar bar.t bar.u) _ bar (bar-tested bar.t bar.u bar.in_limits) (λ h. bar-from_numbers _ bar refl refl)
 
 -- a miss rate that fits passes
-fitting-again : (rate : Rate) (miss : Miss) → FitsRate miss rate → fitting rate miss ≡ Some miss
+pub fitting-again : (rate : Rate) (miss : Miss) → FitsRate miss rate → fitting rate miss ≡ Some miss
 fitting-again rate miss fits = ap (λ (b : Bool). if b then Some miss else None) (fits-tested miss rate fits)
 
 -- the parts of an opening that was made, asked for again

@@ -1,0 +1,9 @@
+-- Numbers of settings are within the limits.
+use Rattle.std.proofs.Common.{◌≡◌, ℕ, ℤ, ◌≤◌, ◌≤ℤ◌, ◌&&◌, Bool, true, nat_le, if◌then◌else◌, Option, Some, None, refl, sym, ap, ◌∙◌, arith, rules}
+use Rattle.std.proofs.lemmas.Bool.Decides.{nat_tests}
+use Rattle.farm_entry.specs.Limits.{IsDailyLimit, IsLeaseTime, IsZone}
+use Rattle.farm_entry.specs.Settings.{settings_fault}
+
+pub no_fault : (lease daily : ℕ) (zone : ℤ) → IsLeaseTime lease → IsDailyLimit daily → IsZone zone →
+    settings_fault lease daily zone ≡ None
+no_fault lease daily zone in_lease in_daily in_zone = search rules
