@@ -16,7 +16,7 @@ pub at-set_same : (xs : List ℕ) (i v : ℕ) → 1 ≤ i → i ≤ length xs �
 at-set_same xs i v low high = get_or-set_same xs (i - 1) v 0 (omega arith)
 
 -- a write at place i leaves the counts below it
-counted_to-set_below : (xs : List ℕ) (i v m : ℕ) → 1 ≤ i → m < i → counted_to (set xs (i - 1) v) m ≡ counted_to xs m
+pub counted_to-set_below : (xs : List ℕ) (i v m : ℕ) → 1 ≤ i → m < i → counted_to (set xs (i - 1) v) m ≡ counted_to xs m
 counted_to-set_below xs i v m low below =
     sum_to-same (at (set xs (i - 1) v)) (at xs) m (λ p first last. at-set_other xs i v p low first (λ e. (let h : p ≡ i = e in omega arith)))
 

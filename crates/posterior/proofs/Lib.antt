@@ -4,6 +4,9 @@ pub mod KeptWeights
 pub mod Bounds
 pub mod Stands
 pub mod Counting
+pub mod Factored
+pub mod Struck
+pub mod Halving
 pub mod Walking
 pub mod Readers
 pub mod Noting
@@ -11,3 +14,4 @@ pub mod Remade
 pub mod Reclosed
 pub mod Matching
 pub mod Begun
+pub mod InPlace

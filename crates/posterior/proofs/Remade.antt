@@ -14,11 +14,11 @@ kept s floor load fails passes sums = record { setup = s; floor = floor; load = 
 -- what is kept of the new counts and sums, where the setup is as before
 pub remade : (s : Setup) (f l : ℕ) (fs ps ss : List ℕ) → IsKept (kept s f l fs ps ss)
     → (f' l' : ℕ) (fs' ps' ss' : List ℕ) → length fs' ≡ length fs → length ps' ≡ length ps → length ss' ≡ length ss
-    → f' < hypotheses s → (1 ≤ s.factors.pass_in → f' ≡ 0) → AreCleared f' fs' → AreCleared f' ps'
+    → f' < hypotheses s → (1 ≤ s.factors.pass_in → f' ≡ 0) → AreCleared f' fs' → AreCleared f' ps' → (s.factors.pass_in ≡ 0 → counted ps' ≡ 0)
     → l' ≡ counted fs' + counted ps' → l' ≤ run_budget s
     → ((i : ℕ) → 1 ≤ i → i ≤ hypotheses s → at ss' i ≡ sum_to (weight_in (kept s f' l' fs' ps' ss')) i)
     → IsKept (kept s f' l' fs' ps' ss')
-remade s f l fs ps ss k f' l' fs' ps' ss' fails_long passes_long sums_long low missed fails_cleared passes_cleared load_is within sums_are = record {
+remade s f l fs ps ss k f' l' fs' ps' ss' fails_long passes_long sums_long low missed fails_cleared passes_cleared no_passes load_is within sums_are = record {
   some_suspect = k.some_suspect;
   few_suspects = k.few_suspects;
   some_calm = k.some_calm;
@@ -35,6 +35,7 @@ remade s f l fs ps ss k f' l' fs' ps' ss' fails_long passes_long sums_long low m
   floor_if_missed = missed;
   fails_cleared = fails_cleared;
   passes_cleared = passes_cleared;
+  no_passes = no_passes;
   load_is = load_is;
   within = within;
   sums_are = sums_are;

@@ -28,6 +28,7 @@ pub record IsKept (k : Kept) : Type 0 where
   pub floor_if_missed : 1 ≤ k.setup.factors.pass_in → k.floor ≡ 0
   pub fails_cleared : AreCleared k.floor k.fails
   pub passes_cleared : AreCleared k.floor k.passes
+  pub no_passes : k.setup.factors.pass_in ≡ 0 → counted k.passes ≡ 0
   pub load_is : k.load ≡ counted k.fails + counted k.passes
   pub within : k.load ≤ run_budget k.setup
   pub sums_are : (i : ℕ) → 1 ≤ i → i ≤ hypotheses k.setup → at k.sums i ≡ sum_to (weight_in k) i

@@ -4,3 +4,5 @@ pub mod Counted
 pub mod KeptWeight
 pub mod BeliefFacts
 pub mod BeliefInside
+pub mod Middle
+pub mod Walk

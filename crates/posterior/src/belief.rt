@@ -11,9 +11,11 @@ ghost use Rattle.weight_exact.specs.Share.{reached, basis_points as basis_points
 ghost use Rattle.weight_exact.specs.Load.{load as load_of};
 ghost use Rattle.weight_exact.specs.Budget.{run_budget};
 ghost use Rattle.weight_exact.specs.declared.run.Run.{Run};
+ghost use Rattle.posterior.specs.Counted.{AreCleared};
 ghost use Rattle.posterior.specs.Kept.{at};
 ghost use Rattle.posterior.specs.StandsFor.{StandsFor};
 
+use crate::middle::at_bar;
 use crate::tallies::Tallies;
 use crate::weigh::{weigh, weigh_uncounted};
 use flake_rate::{Bar, Miss, Rate};
@@ -144,6 +146,37 @@ impl Belief {
         }
     }
 
+    /// Takes in a run as [`note`](Belief::note) does, for a caller that counts no steps.
+    pub fn note_uncounted(&mut self, position: u16, verdict: Verdict) -> Noted
+        requires first { 1 ≤ position }
+        requires last { position < hypotheses self.old.setup }
+        ensures over { (runs : List Run) → StandsFor self.old runs → ((result ≡ Noted.Over) ↔ (run_budget self.old.setup
+            < load_of self.old.setup.factors (runs ++ record { position = position; verdict = verdict } ∷ []))) }
+        ensures unchanged { result ≡ Noted.Over → self.new ≡ self.old }
+        ensures counted { (runs : List Run) → StandsFor self.old runs → result ≡ Noted.Counted
+            → StandsFor self.new (runs ++ record { position = position; verdict = verdict } ∷ []) }
+        ensures setup { self.new.setup ≡ self.old.setup }
+    {
+        self.note_on::<Brand>(position, verdict, Blank::new(1))
+    }
+
+    /// The same on a counter of its own, that nobody reads.
+    fn note_on<L: Ledger>(&mut self, position: u16, verdict: Verdict, blank: Blank) -> Noted
+        requires name { blank.name ≡ L.name }
+        requires parts { blank.parts ≡ L.parts }
+        requires some { 1 ≤ L.parts }
+        requires first { 1 ≤ position }
+        requires last { position < hypotheses self.old.setup }
+        ensures over { (runs : List Run) → StandsFor self.old runs → ((result ≡ Noted.Over) ↔ (run_budget self.old.setup
+            < load_of self.old.setup.factors (runs ++ record { position = position; verdict = verdict } ∷ []))) }
+        ensures unchanged { result ≡ Noted.Over → self.new ≡ self.old }
+        ensures counted { (runs : List Run) → StandsFor self.old runs → result ≡ Noted.Counted
+            → StandsFor self.new (runs ++ record { position = position; verdict = verdict } ∷ []) }
+        ensures setup { self.new.setup ≡ self.old.setup }
+    {
+        self.note(position, verdict, &mut Steps::<L>::new(blank))
+    }
+
     /// Whether a run with this verdict clears suspects: a pass does, where a broken test never passes.
     fn clears(&self, verdict: Verdict) -> bool
         ensures clears { OnTrue result ((verdict ≡ Verdict.Pass) × (self.now.setup.factors.pass_in ≡ 0)) }
@@ -163,7 +196,54 @@ impl Belief {
         ensures counted { (runs : List Run) → StandsFor self.old runs
             → StandsFor self.new (runs ++ record { position = position; verdict = Verdict.Pass } ∷ []) }
         ensures setup { self.new.setup ≡ self.old.setup }
-        ensures cost { steps.new ≤ steps.old + hypotheses self.old.setup }
+        ensures cost { steps.new ≤ steps.old + 2 * hypotheses self.old.setup }
+    {
+        if self.keeps_factors(position) {
+            self.strike(position, steps);
+        } else {
+            self.drop_fails(position, steps);
+        }
+    }
+
+    /// Whether a pass at a position leaves the weights above it as they are: where no fail is counted up to there, and
+    /// where a fail has the number 1 with the culprit out.
+    fn keeps_factors(&self, position: u16) -> bool
+        requires above { self.now.floor ≤ position }
+        requires last { position < hypotheses self.now.setup }
+        ensures { OnTrue result ((self.now.setup.factors.fail_out ≡ 1) ⊎ AreCleared position self.now.fails) }
+    {
+        self.factors.fail_out == 1 || self.tallies.has_no_fail_to(position)
+    }
+
+    /// Takes in a pass that clears suspects and leaves the weights above it as they are: what was cleared is taken away
+    /// from the sums there.
+    fn strike<L: Ledger>(&mut self, position: u16, steps: &mut Steps<L>)
+        requires never { self.old.setup.factors.pass_in ≡ 0 }
+        requires above { self.old.floor < position }
+        requires last { position < hypotheses self.old.setup }
+        requires kept { (self.old.setup.factors.fail_out ≡ 1) ⊎ AreCleared position self.old.fails }
+        ensures counted { (runs : List Run) → StandsFor self.old runs
+            → StandsFor self.new (runs ++ record { position = position; verdict = Verdict.Pass } ∷ []) }
+        ensures setup { self.new.setup ≡ self.old.setup }
+        ensures cost { steps.new ≤ steps.old + 2 * hypotheses self.old.setup }
+    {
+        let floor = self.tallies.floor;
+        self.tallies.raise_floor(position);
+        self.sums
+            .multiply(floor as usize, position as usize, 0, 1, steps);
+        self.reached = at_bar(&self.sums, position, self.bar, steps);
+    }
+
+    /// Takes in a pass that clears suspects together with the fails up to its position. Each weight above it holds the
+    /// numbers of those fails, so the sums are made anew.
+    fn drop_fails<L: Ledger>(&mut self, position: u16, steps: &mut Steps<L>)
+        requires never { self.old.setup.factors.pass_in ≡ 0 }
+        requires above { self.old.floor < position }
+        requires last { position < hypotheses self.old.setup }
+        ensures counted { (runs : List Run) → StandsFor self.old runs
+            → StandsFor self.new (runs ++ record { position = position; verdict = Verdict.Pass } ∷ []) }
+        ensures setup { self.new.setup ≡ self.old.setup }
+        ensures cost { steps.new ≤ steps.old + 2 * hypotheses self.old.setup }
     {
         self.tallies.raise_floor(position);
         self.reached = weigh(
@@ -185,17 +265,19 @@ impl Belief {
         ensures counted { (runs : List Run) → StandsFor self.old runs
             → StandsFor self.new (runs ++ record { position = position; verdict = verdict } ∷ []) }
         ensures setup { self.new.setup ≡ self.old.setup }
-        ensures cost { steps.new ≤ steps.old + hypotheses self.old.setup }
+        ensures cost { steps.new ≤ steps.old + 2 * hypotheses self.old.setup }
     {
+        let floor = self.tallies.floor;
+        let (inside, outside) = self.factors.of_verdict(verdict);
         self.tallies.count(position, verdict);
-        self.reached = weigh(
-            &self.priors,
-            self.bar,
-            &self.powers,
-            &self.tallies,
-            &mut self.sums,
+        self.sums.multiply(
+            floor as usize,
+            position as usize,
+            inside,
+            outside,
             steps,
         );
+        self.reached = at_bar(&self.sums, floor, self.bar, steps);
     }
 
     /// The budget: how many runs the belief can hold that still tell hypotheses apart.

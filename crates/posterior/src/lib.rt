@@ -7,8 +7,10 @@
 #![tactic(auto)]
 
 mod belief;
+mod middle;
 mod tallies;
 mod weigh;
+mod weighed;
 
 pub use belief::{Belief, Noted};
 

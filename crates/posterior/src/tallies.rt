@@ -1,6 +1,7 @@
 //! The runs of a belief, counted by position.
 
-ghost use Rattle.std.specs.Prelude.{◌≡◌, ◌+◌, ◌-◌, ◌<◌, ◌≤◌, ◌^◌, ℕ, length, vec_len, slice_set, replicate, IfOk, if◌then◌else◌};
+ghost use Rattle.std.specs.Prelude.{◌≡◌, ◌+◌, ◌-◌, ◌<◌, ◌≤◌, ◌^◌, ◌↔◌, ℕ, length, vec_len, slice_index, slice_set, replicate, EachIndex, IfOk, IsTrue, if◌then◌else◌};
+ghost use Rattle.std.specs.Bool.{OnTrue};
 ghost use Rattle.weight_exact.specs.Load.{is_fail};
 ghost use Rattle.posterior.specs.Kept.{at};
 ghost use Rattle.posterior.specs.Counted.{AreCleared, counted};
@@ -61,6 +62,15 @@ impl Tallies {
         }
     }
 
+    /// Whether no fail is counted up to a position.
+    pub fn has_no_fail_to(&self, position: u16) -> bool
+        requires above { self.now.floor ≤ position }
+        requires last { position ≤ vec_len self.now.fails }
+        ensures { OnTrue result (AreCleared position self.now.fails.items) }
+    {
+        are_zeros(&self.fails[usize::from(self.floor)..usize::from(position)])
+    }
+
     /// Raises the floor to a position. The runs up to there are counted no more.
     pub fn raise_floor(&mut self, position: u16)
         requires above { self.old.floor ≤ position }
@@ -69,10 +79,12 @@ impl Tallies {
         ensures fails { (p : ℕ) → position < p → at self.new.fails.items p ≡ at self.old.fails.items p }
         ensures passes { (p : ℕ) → position < p → at self.new.passes.items p ≡ at self.old.passes.items p }
         ensures length { vec_len self.new.fails ≡ vec_len self.old.fails }
-        ensures fewer { self.new.failed + self.new.passed ≤ self.old.failed + self.old.passed }
+        ensures fewer_fails { self.new.failed ≤ self.old.failed }
+        ensures fewer_passes { self.new.passed ≤ self.old.passed }
     {
-        self.failed = clear_to(&mut self.fails, self.failed, position as usize);
-        self.passed = clear_to(&mut self.passes, self.passed, position as usize);
+        let (floor, end) = (usize::from(self.floor), usize::from(position));
+        self.failed = clear_between(&mut self.fails, self.failed, floor, end);
+        self.passed = clear_between(&mut self.passes, self.passed, floor, end);
         self.floor = position;
     }
 
@@ -84,9 +96,9 @@ impl Tallies {
         ensures length { vec_len self.new.fails ≡ vec_len self.old.fails }
         ensures none { self.new.failed + self.new.passed ≡ 0 }
     {
-        let n = self.fails.len();
-        self.failed = clear_to(&mut self.fails, self.failed, n);
-        self.passed = clear_to(&mut self.passes, self.passed, n);
+        let (floor, n) = (usize::from(self.floor), self.fails.len());
+        self.failed = clear_between(&mut self.fails, self.failed, floor, n);
+        self.passed = clear_between(&mut self.passes, self.passed, floor, n);
         self.floor = 0;
     }
 }
@@ -112,9 +124,19 @@ fn count_at(counts: &mut [u32], all: u32, position: u16) -> u32
     all + 1
 }
 
-/// Counts nothing any more at positions 1 to `end`, and gives the number of those that stay.
-fn clear_to(counts: &mut [u32], all: u32, end: usize) -> u32
+/// Whether nothing is counted.
+fn are_zeros(counts: &[u32]) -> bool
+    ensures { IsTrue result ↔ EachIndex counts.now (λ k. slice_index counts.now k ≡ 0) }
+{
+    counts.iter().all(|count| *count == 0)
+}
+
+/// Counts nothing any more at the positions above `start` and up to `end`, where nothing is counted below them, and
+/// gives the number of those that stay.
+fn clear_between(counts: &mut [u32], all: u32, start: usize, end: usize) -> u32
     requires all { all ≡ counted counts.old }
+    requires none { AreCleared start counts.old }
+    requires order { start ≤ end }
     requires end { end ≤ length counts.old }
     ensures cleared { AreCleared end counts.new }
     ensures above { (p : ℕ) → end < p → at counts.new p ≡ at counts.old p }
@@ -122,7 +144,7 @@ fn clear_to(counts: &mut [u32], all: u32, end: usize) -> u32
     ensures fewer { result ≤ all }
 {
     let mut left = all;
-    for place in 0..end {
+    for place in start..end {
         left -= counts[place];
         counts[place] = 0;
     }

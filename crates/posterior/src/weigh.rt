@@ -1,54 +1,17 @@
 //! The walk over all hypotheses that makes the sums anew from the counts.
 
 ghost use Rattle.std.specs.Prelude.{◌≡◌, ◌+◌, ◌-◌, ◌*◌, ◌<◌, ◌≤◌, ◌^◌, ℕ, Some, None, length, vec_len, sum, slice_index, if◌then◌else◌};
-ghost use Rattle.flake_rate.specs.Bar.{bar_numerator, bar_denominator};
-ghost use Rattle.weight_exact.specs.Weights.{sum_to};
-ghost use Rattle.weight_exact.specs.Share.{last_to, is_at_bar};
-ghost use Rattle.weight_exact.specs.Budget.{Fits};
+ghost use Rattle.weight_exact.specs.Cumulative.{AreSumsOf};
 ghost use Rattle.weight_exact.specs.Powers.{product, count_of};
-ghost use Rattle.posterior.specs.Kept.{at};
-ghost use Rattle.posterior.specs.KeptWeight.{kept_weight};
+ghost use Rattle.posterior.specs.Middle.{reaching};
+ghost use Rattle.posterior.specs.Walk.{CanWalk, tallied_weight};
 
 use crate::tallies::Tallies;
+use crate::weighed::Weighed;
 use flake_rate::Bar;
 use std::marker::Brand;
 use std::sync::ledger::{Blank, Ledger};
 use weight_exact::{Counts, Powers, Steps, Sums};
-
-/// The heaviest hypothesis so far, and its weight. At the start there is none.
-#[derive(Clone, Copy)]
-struct Leader {
-    hypothesis: u16,
-    weight: u128,
-}
-
-impl Leader {
-    /// The heavier of this one and another hypothesis; this one on a tie.
-    fn or(self, hypothesis: u16, weight: u128) -> Leader
-        ensures heavier { self.weight < weight → (result.hypothesis ≡ hypothesis) × (result.weight ≡ weight) }
-        ensures lighter { weight ≤ self.weight → (result.hypothesis ≡ self.hypothesis) × (result.weight ≡ self.weight) }
-    {
-        if self.weight < weight {
-            Leader { hypothesis, weight }
-        } else {
-            self
-        }
-    }
-
-    /// The hypothesis, where its share of the whole is at the bar.
-    fn at_bar(self, bar: Bar, whole: u128) -> Option<u16>
-        requires part { self.weight ≤ whole }
-        requires room { whole * 10_000 < 2 ^ 128 }
-        ensures { result ≡ (if is_at_bar (bar_numerator bar) (bar_denominator bar) whole self.weight
-            then Some self.hypothesis else None) }
-    {
-        if u128::from(bar.t()) * whole <= self.weight * u128::from(bar.u()) {
-            Some(self.hypothesis)
-        } else {
-            None
-        }
-    }
-}
 
 /// The weight of a hypothesis: nothing up to the floor, and above it the prior times the numbers of the counted runs.
 fn weight_of<L: Ledger>(
@@ -107,23 +70,11 @@ pub fn weigh<L: Ledger>(
     sums: &mut Sums,
     steps: &mut Steps<L>,
 ) -> Option<u16>
-    requires size { length priors.now ≡ vec_len tallies.now.fails + 1 }
-    requires few { length priors.now ≤ 1001 }
-    requires room { length sums.old ≡ length priors.now }
-    requires small { tallies.now.failed + tallies.now.passed < 2 ^ 32 }
-    requires together { tallies.now.failed + tallies.now.passed ≤ powers.now.budget }
-    requires fits { Fits (sum priors.now) powers.now.factors (tallies.now.failed + tallies.now.passed) }
-    requires calm { 1 ≤ at priors.now (length priors.now) }
-    requires some_fail { 1 ≤ powers.now.factors.fail_out }
-    requires some_pass { 1 ≤ powers.now.factors.pass_out }
+    requires walk { CanWalk priors.now powers.now tallies.now sums.old }
     ensures length { length sums.new ≡ length sums.old }
-    ensures sums { (i : ℕ) → 1 ≤ i → i ≤ length priors.now → at sums.new i
-        ≡ sum_to (kept_weight priors.now powers.now.factors tallies.now.floor tallies.now.fails.items tallies.now.passes.items) i }
-    ensures reached { result ≡ last_to
-        (λ i. is_at_bar (bar_numerator bar) (bar_denominator bar) (at sums.new (length priors.now))
-        (kept_weight priors.now powers.now.factors tallies.now.floor tallies.now.fails.items tallies.now.passes.items i))
-        (length priors.now) }
-    ensures cost { steps.new ≤ steps.old + length priors.now }
+    ensures sums { AreSumsOf (tallied_weight priors.now powers.now.factors tallies.now) sums.new }
+    ensures reached { result ≡ reaching bar (tallied_weight priors.now powers.now.factors tallies.now) sums.new }
+    ensures cost { steps.new ≤ steps.old + 2 * length priors.now }
 {
     let mut counts = Counts {
         fail_in: tallies.failed,
@@ -131,7 +82,7 @@ pub fn weigh<L: Ledger>(
         pass_in: tallies.passed,
         pass_out: 0,
     };
-    let mut leader = Leader {
+    let mut heaviest = Weighed {
         hypothesis: 0,
         weight: 0,
     };
@@ -140,15 +91,15 @@ pub fn weigh<L: Ledger>(
         let cleared = place + 1 <= tallies.floor as usize;
         let weight = weight_of(powers, priors[place], cleared, counts, steps);
         whole += weight;
-        sums.set(place + 1, whole);
-        leader = leader.or(place as u16 + 1, weight);
+        sums.set(place + 1, whole, steps);
+        heaviest = heaviest.or(place as u16 + 1, weight);
         counts = past(
             counts,
             count_in(&tallies.fails, place),
             count_in(&tallies.passes, place),
         );
     }
-    leader.at_bar(bar, whole)
+    heaviest.at_bar(bar, whole)
 }
 
 /// The same for a caller that counts no steps.
@@ -159,22 +110,10 @@ pub fn weigh_uncounted(
     tallies: &Tallies,
     sums: &mut Sums,
 ) -> Option<u16>
-    requires size { length priors.now ≡ vec_len tallies.now.fails + 1 }
-    requires few { length priors.now ≤ 1001 }
-    requires room { length sums.old ≡ length priors.now }
-    requires small { tallies.now.failed + tallies.now.passed < 2 ^ 32 }
-    requires together { tallies.now.failed + tallies.now.passed ≤ powers.now.budget }
-    requires fits { Fits (sum priors.now) powers.now.factors (tallies.now.failed + tallies.now.passed) }
-    requires calm { 1 ≤ at priors.now (length priors.now) }
-    requires some_fail { 1 ≤ powers.now.factors.fail_out }
-    requires some_pass { 1 ≤ powers.now.factors.pass_out }
+    requires walk { CanWalk priors.now powers.now tallies.now sums.old }
     ensures length { length sums.new ≡ length sums.old }
-    ensures sums { (i : ℕ) → 1 ≤ i → i ≤ length priors.now → at sums.new i
-        ≡ sum_to (kept_weight priors.now powers.now.factors tallies.now.floor tallies.now.fails.items tallies.now.passes.items) i }
-    ensures reached { result ≡ last_to
-        (λ i. is_at_bar (bar_numerator bar) (bar_denominator bar) (at sums.new (length priors.now))
-        (kept_weight priors.now powers.now.factors tallies.now.floor tallies.now.fails.items tallies.now.passes.items i))
-        (length priors.now) }
+    ensures sums { AreSumsOf (tallied_weight priors.now powers.now.factors tallies.now) sums.new }
+    ensures reached { result ≡ reaching bar (tallied_weight priors.now powers.now.factors tallies.now) sums.new }
 {
     weigh_on::<Brand>(priors, bar, powers, tallies, sums, Blank::new(1))
 }
@@ -191,22 +130,10 @@ fn weigh_on<L: Ledger>(
     requires name { blank.name ≡ L.name }
     requires parts { blank.parts ≡ L.parts }
     requires some { 1 ≤ L.parts }
-    requires size { length priors.now ≡ vec_len tallies.now.fails + 1 }
-    requires few { length priors.now ≤ 1001 }
-    requires room { length sums.old ≡ length priors.now }
-    requires small { tallies.now.failed + tallies.now.passed < 2 ^ 32 }
-    requires together { tallies.now.failed + tallies.now.passed ≤ powers.now.budget }
-    requires fits { Fits (sum priors.now) powers.now.factors (tallies.now.failed + tallies.now.passed) }
-    requires calm { 1 ≤ at priors.now (length priors.now) }
-    requires some_fail { 1 ≤ powers.now.factors.fail_out }
-    requires some_pass { 1 ≤ powers.now.factors.pass_out }
+    requires walk { CanWalk priors.now powers.now tallies.now sums.old }
     ensures length { length sums.new ≡ length sums.old }
-    ensures sums { (i : ℕ) → 1 ≤ i → i ≤ length priors.now → at sums.new i
-        ≡ sum_to (kept_weight priors.now powers.now.factors tallies.now.floor tallies.now.fails.items tallies.now.passes.items) i }
-    ensures reached { result ≡ last_to
-        (λ i. is_at_bar (bar_numerator bar) (bar_denominator bar) (at sums.new (length priors.now))
-        (kept_weight priors.now powers.now.factors tallies.now.floor tallies.now.fails.items tallies.now.passes.items i))
-        (length priors.now) }
+    ensures sums { AreSumsOf (tallied_weight priors.now powers.now.factors tallies.now) sums.new }
+    ensures reached { result ≡ reaching bar (tallied_weight priors.now powers.now.factors tallies.now) sums.new }
 {
     let mut steps = Steps::<L>::new(blank);
     weigh(priors, bar, powers, tallies, sums, &mut steps)

@@ -1,6 +1,7 @@
 pub mod Setups
 pub mod Likelihoods
 pub mod SumTo
+pub mod Reweighed
 pub mod Floors
 pub mod Cancels
 pub mod Shares

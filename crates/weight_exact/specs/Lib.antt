@@ -1,5 +1,6 @@
 pub mod Factors
 pub mod Weights
+pub mod Cumulative
 pub mod Limits
 pub mod Share
 pub mod Load

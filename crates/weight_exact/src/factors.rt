@@ -1,9 +1,10 @@
 //! The likelihood of one run, as four whole numbers.
 
-ghost use Rattle.std.specs.Prelude.{◌≡◌, ◌<◌, ◌≤◌, ◌↔◌};
+ghost use Rattle.std.specs.Prelude.{◌≡◌, ◌<◌, ◌≤◌, ◌↔◌, true, false};
 ghost use Rattle.flake_rate.specs.Miss.{miss_numerator};
-ghost use Rattle.weight_exact.specs.Factors.{factors_of, greatest_factor, in_lowest_terms};
+ghost use Rattle.weight_exact.specs.Factors.{factors_of, greatest_factor, in_lowest_terms, verdict_factor};
 
+use crate::run::Verdict;
 use flake_rate::{Miss, Rate, gcd};
 
 /// The greatest likelihood number that rates within their limits have.
@@ -43,6 +44,17 @@ impl Factors {
             fail_out,
             pass_in,
             pass_out,
+        }
+    }
+
+    /// The two numbers of a run with this verdict: where the culprit is in the tree, and where it is out.
+    pub fn of_verdict(self, verdict: Verdict) -> (u32, u32)
+        ensures inside { result.0 ≡ verdict_factor self verdict true }
+        ensures outside { result.1 ≡ verdict_factor self verdict false }
+    {
+        match verdict {
+            Verdict::Fail => (self.fail_in, self.fail_out),
+            Verdict::Pass => (self.pass_in, self.pass_out),
         }
     }
 

@@ -6,9 +6,10 @@ ghost use Rattle.weight_exact.specs.Steps.{CanCount};
 use std::marker::Model;
 use std::sync::ledger::{Blank, Book, Ledger, Share};
 
-/// How many steps were taken. A step is one product, [`Powers::times`](crate::Powers::times), or one sum read,
-/// [`Sums::at`](crate::Sums::at): what the time of an inference goes into. A contract sees the counter as its
-/// number, for any ledger. At run time it has no bytes, and counting costs nothing.
+/// How many steps were taken. A step is one product, [`Powers::times`](crate::Powers::times), or one sum that is read
+/// or changed, [`Sums::at`](crate::Sums::at), [`Sums::set`](crate::Sums::set) and
+/// [`Sums::multiply`](crate::Sums::multiply): what the time of an inference goes into. A contract sees the counter as
+/// its number, for any ledger. At run time it has no bytes, and counting costs nothing.
 #[derive(Drop)]
 pub struct Steps<L: Ledger> {
     book: Book<L>,
@@ -40,5 +41,12 @@ impl<L: Ledger> Steps<L> {
         ensures { self.new ≡ self.old + 1 }
     {
         self.book.add(&mut self.share, 1);
+    }
+
+    /// Counts one step for each of so many.
+    pub fn tick_each(&mut self, count: usize)
+        ensures { self.new ≡ self.old + count }
+    {
+        self.book.add(&mut self.share, count as u64);
     }
 }

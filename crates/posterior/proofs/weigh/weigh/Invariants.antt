@@ -1,14 +1,14 @@
-use Rattle.std.proofs.Common.{◌≡◌, ◌+◌, ◌≤◌, ℕ, length}
+use Rattle.std.proofs.Common.{◌≡◌, ◌+◌, ◌*◌, ◌≤◌, ℕ, length}
 use Rattle.weight_exact.specs.Weights.{sum_to}
 use Rattle.posterior.specs.Kept.{at}
 use Rattle.posterior.specs.Counted.{counted_to}
-use Rattle.posterior.specs.KeptWeight.{kept_weight}
+use Rattle.posterior.specs.Walk.{tallied_weight}
 use Rattle.posterior.proofs.weigh.weigh.Given as goal
 
 -- The hypotheses up to this place are weighed, and the counts are those of the next one
 abbrev pub invariant-loop-place : goal.invariant-loop-place
 invariant-loop-place g l =
-    let w : ℕ → ℕ = kept_weight l.priors l.powers.factors l.tallies.floor l.tallies.fails.items l.tallies.passes.items in
+    let w : ℕ → ℕ = tallied_weight l.priors l.powers.factors l.tallies in
     record {
       size : length l.sums ≡ length l.priors;
       sums : (i : ℕ) → 1 ≤ i → i ≤ l.place → at l.sums i ≡ sum_to w i;
@@ -17,7 +17,7 @@ invariant-loop-place g l =
       fail_in : l.counts.fail_in + l.counts.fail_out ≡ l.tallies.failed;
       pass_out : l.counts.pass_out ≡ counted_to l.tallies.passes.items l.place;
       pass_in : l.counts.pass_in + l.counts.pass_out ≡ l.tallies.passed;
-      most : (i : ℕ) → 1 ≤ i → i ≤ l.place → w i ≤ l.leader.weight;
-      leads : 1 ≤ l.leader.weight → (1 ≤ l.leader.hypothesis) × (l.leader.hypothesis ≤ l.place) × (w l.leader.hypothesis ≡ l.leader.weight);
-      cost : l.steps ≤ l.fn.steps + l.place;
+      most : (i : ℕ) → 1 ≤ i → i ≤ l.place → w i ≤ l.heaviest.weight;
+      leads : 1 ≤ l.heaviest.weight → (1 ≤ l.heaviest.hypothesis) × (l.heaviest.hypothesis ≤ l.place) × (w l.heaviest.hypothesis ≡ l.heaviest.weight);
+      cost : l.steps ≤ l.fn.steps + 2 * l.place;
     }

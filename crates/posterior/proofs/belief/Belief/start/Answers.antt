@@ -8,7 +8,7 @@ use Rattle.posterior.specs.Kept.{at}
 use Rattle.posterior.specs.BeliefInside.{kept_of, IsBelief}
 use Rattle.posterior.specs.declared.belief.Belief.TheInside.{Inside}
 use Rattle.posterior.proofs.Counting.{at-zeros}
-use Rattle.posterior.proofs.Begun.{priors_total, begun_fits, begun}
+use Rattle.posterior.proofs.Begun.{priors_total, begun_walk, begun}
 use Rattle.posterior.proofs.Matching.{stands_empty}
 use Rattle.posterior.proofs.belief.Belief.start.Goals as goal
 
@@ -18,15 +18,20 @@ budget-budget-requires-clause-at_most c =
     let items : c.prior_total.result ≡ sum (c.args.weights.now ++ c.args.calm ∷ []) = c.prior_total.ensures ∙ ap sum (c.deref.ensures.value ∙ c.in_ok-priors.ensures) in
     omega (arith, total.0, total.1)
 
-pub weigh_uncounted-reached-requires-clause-fits : goal.weigh_uncounted-reached-requires-clause-fits
-weigh_uncounted-reached-requires-clause-fits c =
-    let load : ℕ = c.in_ok-tallies.tallies.failed + c.in_ok-tallies.tallies.passed in
+pub weigh_uncounted-reached-requires : goal.weigh_uncounted-reached-requires
+weigh_uncounted-reached-requires c =
+    let f = factors_of c.args.rate c.args.miss in
     let total : c.prior_total.result ≡ sum c.deref-2.result.now = c.prior_total.ensures ∙ ap sum (c.deref.ensures.value ∙ sym c.deref-2.ensures.value) in
-    let here : Fits c.prior_total.result (factors_of c.args.rate c.args.miss) load =
-    begun_fits c.args.rate c.args.miss c.prior_total.result c.budget-budget.result load c.budget-budget.ensures.fits (omega (arith, c.in_ok-tallies.ensures.none)) in
-    let N : ℕ → Type 0 = λ n. Fits n (factors_of c.args.rate c.args.miss) load in
-    let F : Factors → Type 0 = λ f. Fits (sum c.deref-2.result.now) f load in
-    subst F (sym (ap (λ (p : PowersOf). p.factors) c.in_ok-powers.ensures)) (subst N total here)
+    let N : ℕ → Type 0 = λ n. Fits n f c.budget-budget.result in
+    let B : ℕ → Type 0 = λ n. Fits (sum c.deref-2.result.now) f n in
+    let budget : c.in_ok-powers.powers.budget ≡ c.budget-budget.result = ap (λ (p : PowersOf). p.budget) c.in_ok-powers.ensures in
+    record {
+      walk = begun_walk c.args.weights.now c.args.calm c.args.rate c.args.miss c.deref-2.result.now c.in_ok-powers.powers c.in_ok-tallies.tallies c.in_ok-sums.sums
+          c.requires.priors (c.deref-2.ensures.value ∙ c.in_ok-priors.ensures) (ap (λ (p : PowersOf). p.factors) c.in_ok-powers.ensures)
+          (subst B (sym budget) (subst N total c.budget-budget.ensures.fits))
+          (ap length c.in_ok-tallies.ensures.fails ∙ length-replicate (length c.args.weights.now) (let z : ℕ = 0 in z)) c.in_ok-tallies.ensures.none
+          (ap length c.in_ok-sums.ensures ∙ length-replicate (length c.args.weights.now + 1) (let z : ℕ = 0 in z));
+    }
 
 -- the belief that `start` makes
 made : (c : goal.After-of-2) → IsBelief (record {

@@ -1,7 +1,7 @@
 use Rattle.std.proofs.Common.{◌≡◌, ◌<◌, ◌≤◌, ℕ}
 use Rattle.posterior.specs.Kept.{at}
 use Rattle.posterior.specs.Counted.{AreCleared, counted}
-use Rattle.posterior.proofs.tallies.clear_to.Given as goal
+use Rattle.posterior.proofs.tallies.clear_between.Given as goal
 
 -- what stood up to this place is cleared, and what is left is counted
 abbrev pub invariant-loop-place : goal.invariant-loop-place

@@ -1,7 +1,7 @@
 use Rattle.std.proofs.Common.{◌≡◌, ◌+◌, ◌<◌, ◌≤◌, length, arith, ◌∙◌, ⊎_elim}
 use Rattle.std.proofs.lemmas.Bool.{cases_lt}
 use Rattle.posterior.proofs.Counting.{counted-write, at-write_other, at-write_same, get_or-le-counted}
-use Rattle.posterior.proofs.tallies.clear_to.Goals as goal
+use Rattle.posterior.proofs.tallies.clear_between.Goals as goal
 
 pub overflow_sub-left : goal.overflow_sub-left
 overflow_sub-left c =
