@@ -2,6 +2,7 @@
 use Rattle.std.specs.Prelude.{◌≡◌, ℕ, ◌+◌, ◌*◌, ◌<◌, ◌≤◌, length, sum}
 use Rattle.weight_exact.specs.Weights.{hypotheses, sum_to}
 use Rattle.weight_exact.specs.Budget.{Fits, run_budget}
+use Rattle.weight_exact.specs.declared.limits.TheConstants.{MAX_SUSPECTS}
 use Rattle.posterior.specs.Kept.{Kept, at}
 use Rattle.posterior.specs.Counted.{AreCleared, counted}
 use Rattle.posterior.specs.KeptWeight.{kept_weight}
@@ -13,7 +14,7 @@ weight_in k i = kept_weight k.setup.priors k.setup.factors k.floor k.fails k.pas
 -- The counts fit the setup and the budget, and the sums are those of the weights that the counts make
 pub record IsKept (k : Kept) : Type 0 where
   pub some_suspect : 2 ≤ hypotheses k.setup
-  pub few_suspects : hypotheses k.setup ≤ 1001
+  pub few_suspects : hypotheses k.setup ≤ MAX_SUSPECTS + 1
   pub some_calm : 1 ≤ at k.setup.priors (hypotheses k.setup)
   pub some_fail : 1 ≤ k.setup.factors.fail_out
   pub some_pass : 1 ≤ k.setup.factors.pass_out

@@ -4,7 +4,7 @@ use Rattle.flake_rate.specs.Bar.{bar_numerator, bar_denominator}
 use Rattle.flake_rate.specs.declared.bar.Bar.{Bar}
 use Rattle.weight_exact.specs.Cumulative.{AreRising}
 use Rattle.weight_exact.specs.Share.{last_to, is_at_bar}
-use Rattle.weight_exact.specs.declared.limits.TheConstants.{MAX_SUSPECTS}
+use Rattle.weight_exact.specs.declared.limits.TheConstants.{BASIS_POINTS, MAX_SUSPECTS}
 use Rattle.posterior.specs.Kept.{at}
 
 -- the last of the sums, the total
@@ -22,4 +22,4 @@ pub record HasMiddle (floor : ℕ) (sums : List ℕ) : Type 0 where
   pub none : (i : ℕ) → 1 ≤ i → i ≤ floor → at sums i ≡ 0
   pub rising : AreRising sums
   pub some : 1 ≤ last_of sums
-  pub room : last_of sums * 10000 < 2 ^ 128
+  pub room : last_of sums * BASIS_POINTS < 2 ^ 128

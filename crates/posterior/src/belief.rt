@@ -22,7 +22,9 @@ use flake_rate::{Bar, Miss, Rate};
 use std::alloc::{AllocError, Global};
 use std::marker::{Brand, Model};
 use std::sync::ledger::{Blank, Ledger};
-use weight_exact::{Factors, Memory, Powers, Steps, Sums, Verdict, budget};
+use weight_exact::{
+    BASIS_POINTS, Factors, MAX_SUSPECTS, Memory, Powers, Steps, Sums, Verdict, budget,
+};
 
 /// What [`Belief::note`] made of a run.
 #[derive(Clone, Copy, Debug, PartialEq, Eq)]
@@ -270,13 +272,8 @@ impl Belief {
         let floor = self.tallies.floor;
         let (inside, outside) = self.factors.of_verdict(verdict);
         self.tallies.count(position, verdict);
-        self.sums.multiply(
-            floor as usize,
-            position as usize,
-            inside,
-            outside,
-            steps,
-        );
+        self.sums
+            .multiply(floor as usize, position as usize, inside, outside, steps);
         self.reached = at_bar(&self.sums, floor, self.bar, steps);
     }
 
@@ -322,7 +319,7 @@ impl Belief {
         ensures { (runs : List Run) → StandsFor self.now runs → result ≡ basis_points_of self.now.setup runs i }
     {
         let weight = weight_at(&self.sums, i as usize);
-        (weight * 10_000 / self.sums.total()) as u32
+        (weight * BASIS_POINTS / self.sums.total()) as u32
     }
 }
 
@@ -337,7 +334,7 @@ fn priors_of(alloc: Global, weights: &[u32], calm: u32) -> Result<Vec<u32>, Allo
 
 /// The sum of the prior weights.
 fn prior_total(priors: &[u32]) -> u64
-    requires { length priors.now ≤ 1001 }
+    requires { length priors.now ≤ MAX_SUSPECTS + 1 }
     ensures { result ≡ sum priors.now }
 {
     priors.iter().map(|weight| u64::from(*weight)).sum()

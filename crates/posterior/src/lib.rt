@@ -13,6 +13,3 @@ mod weigh;
 mod weighed;
 
 pub use belief::{Belief, Noted};
-
-#[cfg(test)]
-mod tests;

@@ -5,6 +5,7 @@ ghost use Rattle.flake_rate.specs.Bar.{bar_numerator, bar_denominator};
 ghost use Rattle.weight_exact.specs.Share.{is_at_bar};
 
 use flake_rate::Bar;
+use weight_exact::BASIS_POINTS;
 
 /// A hypothesis, and what it weighs.
 #[derive(Clone, Copy)]
@@ -29,7 +30,7 @@ impl Weighed {
     /// The hypothesis, where its share of the whole is at the bar.
     pub fn at_bar(self, bar: Bar, whole: u128) -> Option<u16>
         requires part { self.weight ≤ whole }
-        requires room { whole * 10_000 < 2 ^ 128 }
+        requires room { whole * BASIS_POINTS < 2 ^ 128 }
         ensures { result ≡ (if is_at_bar (bar_numerator bar) (bar_denominator bar) whole self.weight
             then Some self.hypothesis else None) }
     {

@@ -13,7 +13,7 @@ use std::marker::Brand;
 use std::process::Abort;
 use std::sync::ledger::{Blank, Ledger};
 use std::test::Fail;
-use weight_exact::{MAX_CALM, MAX_SUSPECTS, MAX_WEIGHT, Run, Steps, Verdict};
+use weight_exact::{BASIS_POINTS, MAX_CALM, MAX_SUSPECTS, MAX_WEIGHT, Run, Steps, Verdict};
 
 /// What a search is started with, and its likelihood numbers and its budget, worked out by hand.
 #[derive(Clone, Copy)]
@@ -77,7 +77,7 @@ fn are_priors(weights: &[u32], calm: u32) -> bool
 /// The belief of a search before any run.
 fn started(rt: &impl Abort, alloc: Global, search: &Search) -> Result<Belief, Fail>
     ensures many { IfOk result (λ belief. hypotheses belief.setup ≡ length search.now.weights.now + 1) }
-    ensures few { IfOk result (λ belief. hypotheses belief.setup ≤ 1001) }
+    ensures few { IfOk result (λ belief. hypotheses belief.setup ≤ MAX_SUSPECTS + 1) }
 {
     let rate = Rate::of(search.rate.0, search.rate.1)?;
     let miss = Miss::of(search.miss.0, search.miss.1)?;
@@ -149,7 +149,7 @@ impl Search {
 /// Compares what a belief says with what Bayes' rule says of a list of runs.
 fn compare(rt: &impl Abort, belief: &Belief, search: &Search, runs: &[Run]) -> Result<(), Fail>
     requires many { hypotheses belief.now.setup ≡ length search.now.weights.now + 1 }
-    requires few { hypotheses belief.now.setup ≤ 1001 }
+    requires few { hypotheses belief.now.setup ≤ MAX_SUSPECTS + 1 }
 {
     let after = runs.len();
     assert_eq!(rt; belief.sums().suspects(), search.weights.len());
@@ -161,7 +161,7 @@ fn compare(rt: &impl Abort, belief: &Belief, search: &Search, runs: &[Run]) -> R
         let weight = search.weight(i, runs).ok_or("a weight past 128 bits")?;
         upto = upto.checked_add(weight).ok_or("a sum past 128 bits")?;
         let share = weight
-            .checked_mul(10_000)
+            .checked_mul(BASIS_POINTS)
             .and_then(|parts| parts.checked_div(total));
         assert_eq!(rt;
             Some(u128::from(belief.basis_points(i as u16))),

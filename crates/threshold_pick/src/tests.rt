@@ -14,12 +14,14 @@ use std::test::Fail;
 use weight_exact::{MAX_SUSPECTS, MAX_WIDTH, Memory, Steps, Sums};
 
 /// Sums, one for each number.
-fn sums_of(alloc: Global, numbers: &[u32]) -> Result<Sums, Memory>
-    requires { 0 < length numbers.now }
+fn sums_of<L: Ledger>(alloc: Global, numbers: &[u32], blank: Blank) -> Result<Sums, Memory>
+    requires blank { CanCount blank L.name L.parts }
+    requires numbers { 0 < length numbers.now }
 {
+    let mut steps = Steps::<L>::new(blank);
     let mut sums = Sums::room(alloc, numbers.len() - 1)?;
     for (index, number) in numbers.iter().enumerate() {
-        sums.set(index + 1, u128::from(*number));
+        sums.set(index + 1, u128::from(*number), &mut steps);
     }
     Ok(sums)
 }
@@ -113,7 +115,7 @@ fn plans_are_those_worked_out_by_hand(rt: HostRuntime) -> Result<(), Fail> {
     ];
     for (numbers, floor, expected) in worked {
         assert!(rt; 0 < numbers.len());
-        let sums = sums_of(rt.alloc(), numbers)?;
+        let sums = sums_of::<Brand>(rt.alloc(), numbers, Blank::new(1))?;
         let mut positions = [0; 8];
         let width = expected.len();
         assert!(rt; width <= 8);
@@ -164,7 +166,7 @@ fn a_search_of_120_suspects_closes_in_on_its_culprit(rt: HostRuntime) -> Result<
     for (bands, floor, expected) in rounds {
         let numbers = banded(rt.alloc(), bands, 60)?;
         assert!(rt; 0 < numbers.len());
-        let sums = sums_of(rt.alloc(), &numbers)?;
+        let sums = sums_of::<Brand>(rt.alloc(), &numbers, Blank::new(1))?;
         let mut positions = [0; 4];
         plan::<Brand>(&rt, &sums, floor, &mut positions, Blank::new(1));
         assert_eq!(rt; positions, expected, "above {floor}");
@@ -204,7 +206,7 @@ fn picks_by_halves_are_those_by_comparing_all(rt: HostRuntime) -> Result<(), Fai
     ];
     for (numbers, floor) in odd {
         assert!(rt; 0 < numbers.len());
-        let sums = sums_of(rt.alloc(), numbers)?;
+        let sums = sums_of::<Brand>(rt.alloc(), numbers, Blank::new(1))?;
         compare::<Brand>(&rt, &sums, numbers, floor, Blank::new(1));
     }
     Ok(())

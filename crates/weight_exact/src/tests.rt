@@ -4,6 +4,7 @@ ghost use Rattle.weight_exact.specs.Powers.{count_of, product};
 use crate::{Counts, MAX_PRIOR_TOTAL, MIN_PRIOR_TOTAL, Memory, Powers, Steps, Sums, budget};
 use flake_rate::{Miss, Rate};
 use std::marker::Brand;
+use std::process::Abort;
 use std::sync::ledger::{Blank, Ledger};
 use std::test::Fail;
 
@@ -18,15 +19,18 @@ fn product_of<L: Ledger>(powers: &Powers, x: u128, counts: Counts, blank: Blank)
     powers.times(x, counts, &mut Steps::<L>::new(blank))
 }
 
-/// The number of hypothesis `i`, for a test that counts nothing.
-fn number_at<L: Ledger>(sums: &Sums, i: usize, blank: Blank) -> u128
+/// Writes two of four numbers and reads them, for a test that counts nothing.
+fn write_and_read<L: Ledger>(rt: &impl Abort, sums: &mut Sums, blank: Blank)
     requires name { blank.name ≡ L.name }
     requires parts { blank.parts ≡ L.parts }
     requires some { 1 ≤ L.parts }
-    requires first { 1 ≤ i }
-    requires last { i ≤ length sums.now }
+    requires four { length sums.old ≡ 4 }
 {
-    sums.at(i, &mut Steps::<L>::new(blank))
+    let mut steps = Steps::<L>::new(blank);
+    sums.set(2, 7, &mut steps);
+    sums.set(4, 9, &mut steps);
+    assert_eq!(rt; sums.at(1, &mut steps), 0);
+    assert_eq!(rt; sums.at(2, &mut steps), 7);
 }
 
 #[test]
@@ -72,12 +76,8 @@ fn times_multiplies_by_each_number_to_its_power(rt: HostRuntime) -> Result<(), F
 #[test]
 fn sums_are_read_as_they_were_set(rt: HostRuntime) -> Result<(), Fail> {
     let mut sums = Sums::room(rt.alloc(), 3)?;
-    sums.set(2, 7);
-    sums.set(4, 9);
+    write_and_read::<Brand>(&rt, &mut sums, Blank::new(1));
     assert_eq!(rt; sums.suspects(), 3);
-    assert_eq!(rt; number_at::<Brand>(&sums, 1, Blank::new(1)), 0);
-    assert_eq!(rt; number_at::<Brand>(&sums, 2, Blank::new(1)), 7);
-    assert_eq!(rt; sums.total(), 9);
     Ok(())
 }
 
