@@ -10,6 +10,7 @@ ghost use Rattle.weight_exact.specs.Limits.{ArePriors};
 ghost use Rattle.weight_exact.specs.Share.{reached, basis_points as basis_points_of};
 ghost use Rattle.weight_exact.specs.Load.{load as load_of};
 ghost use Rattle.weight_exact.specs.Budget.{run_budget};
+ghost use Rattle.weight_exact.specs.Steps.{CanCount};
 ghost use Rattle.weight_exact.specs.declared.run.Run.{Run};
 ghost use Rattle.posterior.specs.Counted.{AreCleared};
 ghost use Rattle.posterior.specs.Kept.{at};
@@ -164,9 +165,7 @@ impl Belief {
 
     /// The same on a counter of its own, that nobody reads.
     fn note_on<L: Ledger>(&mut self, position: u16, verdict: Verdict, blank: Blank) -> Noted
-        requires name { blank.name ≡ L.name }
-        requires parts { blank.parts ≡ L.parts }
-        requires some { 1 ≤ L.parts }
+        requires blank { CanCount blank L.name L.parts }
         requires first { 1 ≤ position }
         requires last { position < hypotheses self.old.setup }
         ensures over { (runs : List Run) → StandsFor self.old runs → ((result ≡ Noted.Over) ↔ (run_budget self.old.setup
@@ -353,9 +352,7 @@ fn weight_at(sums: &Sums, i: usize) -> u128
 
 /// The same, on a counter of its own that nobody reads.
 fn weight_at_counted<L: Ledger>(sums: &Sums, i: usize, blank: Blank) -> u128
-    requires name { blank.name ≡ L.name }
-    requires parts { blank.parts ≡ L.parts }
-    requires some { 1 ≤ L.parts }
+    requires blank { CanCount blank L.name L.parts }
     requires first { 1 ≤ i }
     requires last { i ≤ length sums.now }
     requires rises { at sums.now (i - 1) ≤ at sums.now i }

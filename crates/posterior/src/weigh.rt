@@ -3,6 +3,7 @@
 ghost use Rattle.std.specs.Prelude.{◌≡◌, ◌+◌, ◌-◌, ◌*◌, ◌<◌, ◌≤◌, ◌^◌, ℕ, Some, None, length, vec_len, sum, slice_index, if◌then◌else◌};
 ghost use Rattle.weight_exact.specs.Cumulative.{AreSumsOf};
 ghost use Rattle.weight_exact.specs.Powers.{product, count_of};
+ghost use Rattle.weight_exact.specs.Steps.{CanCount};
 ghost use Rattle.posterior.specs.Middle.{reaching};
 ghost use Rattle.posterior.specs.Walk.{CanWalk, tallied_weight};
 
@@ -127,9 +128,7 @@ fn weigh_on<L: Ledger>(
     sums: &mut Sums,
     blank: Blank,
 ) -> Option<u16>
-    requires name { blank.name ≡ L.name }
-    requires parts { blank.parts ≡ L.parts }
-    requires some { 1 ≤ L.parts }
+    requires blank { CanCount blank L.name L.parts }
     requires walk { CanWalk priors.now powers.now tallies.now sums.old }
     ensures length { length sums.new ≡ length sums.old }
     ensures sums { AreSumsOf (tallied_weight priors.now powers.now.factors tallies.now) sums.new }

@@ -5,6 +5,7 @@ ghost use Rattle.std.specs.Prelude.{◌≡◌, ◌+◌, ◌<◌, ◌≤◌, leng
 ghost use Rattle.std.specs.Bool.{OnTrue};
 ghost use Rattle.weight_exact.specs.Weights.{hypotheses};
 ghost use Rattle.weight_exact.specs.Limits.{ArePriors};
+ghost use Rattle.weight_exact.specs.Steps.{CanCount};
 
 use flake_rate::{Bar, Miss, Rate};
 use posterior::{Belief, Noted};
@@ -91,9 +92,7 @@ fn started(rt: &impl Abort, alloc: Global, search: &Search) -> Result<Belief, Fa
 
 /// The kept sum of hypotheses 1 to `i`, on a counter that nobody reads.
 fn sum_at<L: Ledger>(belief: &Belief, i: usize, blank: Blank) -> u128
-    requires name { blank.name ≡ L.name }
-    requires parts { blank.parts ≡ L.parts }
-    requires some { 1 ≤ L.parts }
+    requires blank { CanCount blank L.name L.parts }
     requires first { 1 ≤ i }
     requires last { i ≤ length belief.now.sums }
 {

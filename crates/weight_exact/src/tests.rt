@@ -1,5 +1,6 @@
 ghost use Rattle.std.specs.Prelude.{◌≡◌, ◌+◌, ◌-◌, ◌*◌, ◌^◌, ◌<◌, ◌≤◌, length, slice_index};
 ghost use Rattle.weight_exact.specs.Powers.{count_of, product};
+ghost use Rattle.weight_exact.specs.Steps.{CanCount};
 
 use crate::{Counts, MAX_PRIOR_TOTAL, MIN_PRIOR_TOTAL, Memory, Powers, Steps, Sums, budget};
 use flake_rate::{Miss, Rate};
@@ -10,9 +11,7 @@ use std::test::Fail;
 
 /// The product, for a test that counts nothing.
 fn product_of<L: Ledger>(powers: &Powers, x: u128, counts: Counts, blank: Blank) -> u128
-    requires name { blank.name ≡ L.name }
-    requires parts { blank.parts ≡ L.parts }
-    requires some { 1 ≤ L.parts }
+    requires blank { CanCount blank L.name L.parts }
     requires together { count_of counts ≤ powers.now.budget }
     requires fits { product powers.now.factors x counts < 2 ^ 128 }
 {
@@ -21,9 +20,7 @@ fn product_of<L: Ledger>(powers: &Powers, x: u128, counts: Counts, blank: Blank)
 
 /// Writes two of four numbers and reads them, for a test that counts nothing.
 fn write_and_read<L: Ledger>(rt: &impl Abort, sums: &mut Sums, blank: Blank)
-    requires name { blank.name ≡ L.name }
-    requires parts { blank.parts ≡ L.parts }
-    requires some { 1 ≤ L.parts }
+    requires blank { CanCount blank L.name L.parts }
     requires four { length sums.old ≡ 4 }
 {
     let mut steps = Steps::<L>::new(blank);
