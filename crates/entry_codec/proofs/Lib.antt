@@ -1,0 +1,11 @@
+pub mod Made
+pub mod FieldLaws
+pub mod PartLaws
+pub mod Suspects
+pub mod RangeLaws
+pub mod OpeningLaws
+pub mod EntryLaws
+pub mod ListLaws
+pub mod Told
+pub mod Openings
+pub mod Sizes

@@ -1,0 +1,33 @@
+-- Entries can be written where the openings among them can.
+use Rattle.std.proofs.Common.{List, [], ◌∷◌, All, Contains}
+use Rattle.std.specs.List.{AllByRecursion, cons_option}
+use Rattle.std.proofs.lemmas.List.Elements.{All-from_recursion, Contains-get_or, recursion_from_All}
+use Rattle.farm_entry.specs.History.{opening_in, openings}
+use Rattle.farm_entry.specs.declared.entry.Entry.{Entry}
+use Rattle.farm_entry.specs.declared.entry.What.{What}
+use Rattle.farm_entry.specs.declared.entry.What.TheVariants.{Founded, Opened, Leased, Reported, Cancelled, Ordered}
+use Rattle.farm_entry.specs.declared.opening.Opening.{Opening}
+use Rattle.entry_codec.specs.Grammar.{IsOpenedWithin, IsWithinLimits}
+
+-- an entry, in front of the openings of those after it
+split : (what : What) (others : List Opening) → AllByRecursion IsOpenedWithin (cons_option (opening_in what) others) →
+    IsWithinLimits what × AllByRecursion IsOpenedWithin others
+split (Founded settings) others h = (tt, h)
+split (Opened o) others h = (h.0, h.1)
+split (Leased key worker run search stage position deadline) others h = (tt, h)
+split (Reported run verdict _) others h = (tt, h)
+split (Cancelled key search) others h = (tt, h)
+split (Ordered key agent order commit search day) others h = (tt, h)
+
+tell : (entries : List Entry) → AllByRecursion IsOpenedWithin (openings entries) →
+    AllByRecursion (λ (entry : Entry). IsWithinLimits entry.what) entries
+tell [] h = tt
+tell (e ∷ entries) h = let p = split e.what (openings entries) h in (p.0, tell entries p.1)
+
+pub within-from_openings : (entries : List Entry) → ((o : Opening) → Contains (openings entries) o → IsOpenedWithin o) →
+    All (λ (entry : Entry). IsWithinLimits entry.what) entries
+within-from_openings entries each =
+    let all : All IsOpenedWithin (openings entries) =
+    λ k d within. each _ (Contains-get_or (openings entries) k d within) in
+    All-from_recursion (λ (entry : Entry). IsWithinLimits entry.what) entries
+    (tell entries (recursion_from_All IsOpenedWithin (openings entries) all))

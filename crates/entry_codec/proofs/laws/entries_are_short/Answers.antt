@@ -1,0 +1,8 @@
+use Rattle.entry_codec.proofs.Sizes.{entry-long, entry-short, spelling-short}
+use Rattle.entry_codec.proofs.laws.entries_are_short.Goals as goal
+
+pub returns-clause-entry : goal.returns-clause-entry
+returns-clause-entry c = λ entry spelled. (entry-long entry, entry-short entry spelled)
+
+pub returns-clause-entries : goal.returns-clause-entries
+returns-clause-entries c = spelling-short

@@ -1,0 +1,5 @@
+pub mod Spelling
+pub mod Values
+pub mod Reading
+pub mod Grammar
+pub mod Gives
