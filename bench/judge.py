@@ -1,5 +1,6 @@
 #!/usr/bin/env python3
-"""Times `judge` on large searches, and prints seconds and peak memory.
+"""Times `judge` on large searches, and prints seconds and peak memory. Where runs are counted it times a plain judge in
+C beside it (plain_judge.c, built here by `cc`), and prints the ratio of the two.
 
 Run it after `./finder build`. Each input is made here by rule, so two runs measure the same work.
 """
@@ -12,6 +13,7 @@ import time
 
 ROOT = os.path.dirname(os.path.dirname(os.path.abspath(__file__)))
 PROGRAM = os.path.join(ROOT, "crates", "culprit_finder", "out", "culprit_finder")
+JUDGE = [PROGRAM, "judge"]
 
 
 def search(suspects, miss=None):
@@ -25,20 +27,20 @@ def run_lines(runs):
     return "".join(f"run {number} {at} {verdict}\n" for number, (at, verdict) in enumerate(runs, 1))
 
 
-def run_judge(path, output):
+def run(command, path, output):
     with open(path) as source:
-        return subprocess.Popen([PROGRAM, "judge"], stdin=source, stdout=output)
+        return subprocess.Popen(command, stdin=source, stdout=output)
 
 
-def seconds_of(path):
+def seconds_of(command, path):
     """The least seconds of three runs."""
     best = None
     for _ in range(3):
         began = time.perf_counter()
-        status = run_judge(path, subprocess.DEVNULL).wait()
+        status = run(command, path, subprocess.DEVNULL).wait()
         seconds = time.perf_counter() - began
         if status != 0:
-            sys.exit(f"the program ended with {status}")
+            sys.exit(f"{command[0]} ended with {status}")
         best = seconds if best is None else min(best, seconds)
     return best
 
@@ -46,7 +48,7 @@ def seconds_of(path):
 def peak_of(path):
     """The peak memory in MiB, read while the program waits for its answer to be taken; None for a short answer,
     which doesn't wait."""
-    child = run_judge(path, subprocess.PIPE)
+    child = run(JUDGE, path, subprocess.PIPE)
     select.select([child.stdout], [], [])
     try:
         with open(f"/proc/{child.pid}/status") as status:
@@ -61,7 +63,7 @@ def measure(text):
     with tempfile.NamedTemporaryFile("w") as file:
         file.write(text)
         file.flush()
-        return seconds_of(file.name), peak_of(file.name)
+        return seconds_of(JUDGE, file.name), peak_of(file.name)
 
 
 def show(name, text):
@@ -69,6 +71,43 @@ def show(name, text):
     memory = "" if peak is None else f"{peak:8.1f} MiB"
     print(f"{name:58} {seconds * 1000:9.1f} ms {memory}")
     return seconds
+
+
+def processor_seconds(command, path):
+    """The processor time of one run, which other work on the machine changes less than the time of a clock."""
+    child = run(command, path, subprocess.DEVNULL)
+    _, status, used = os.wait4(child.pid, 0)
+    if status != 0:
+        sys.exit(f"{command[0]} ended with {status}")
+    return used.ru_utime + used.ru_stime
+
+
+def beside_plain(text, nothing):
+    """The processor seconds that judge and the plain judge in C take for an input more than for one without runs: the
+    least of many runs in turn."""
+    with tempfile.TemporaryDirectory() as folder:
+        plain = [os.path.join(folder, "plain_judge")]
+        subprocess.run(["cc", "-O2", "-o", plain[0], os.path.join(ROOT, "bench", "plain_judge.c")], check=True)
+        paths = []
+        for name, content in (("runs", text), ("none", nothing)):
+            paths.append(os.path.join(folder, name))
+            with open(paths[-1], "w") as file:
+                file.write(content)
+        answers = [run(command, paths[0], subprocess.PIPE).communicate()[0] for command in (JUDGE, plain)]
+        if answers[0] != answers[1]:
+            sys.exit("the plain judge answers otherwise")
+        turns = [[[processor_seconds(command, path) for path in paths] for command in (JUDGE, plain)] for _ in range(200)]
+        return [min(t[i][0] for t in turns) - min(t[i][1] for t in turns) for i in range(2)]
+
+
+def show_counted():
+    """Runs that are counted: a fail at the last suspect, and then a pass and a fail at each next position."""
+    print("\nCounted runs over 1,000 suspects: one fail, then passes and fails that rise; beside a plain loop in C")
+    runs = [(1000, "fail")]
+    for position in range(1, 979):
+        runs += [(position, "pass"), (position + 1, "fail")]
+    ours, plain = beside_plain(search(1000) + run_lines(runs), search(1000))
+    print(f"{'  judge, and the plain loop':58} {ours * 1000:9.2f} ms {plain * 1000:9.2f} ms   ratio {ours / plain:.2f}")
 
 
 def main():
@@ -93,6 +132,8 @@ def main():
         base = measure(search(suspects))[0]
         seconds = show(f"  n = {suspects}", search(suspects) + run_lines(runs))
         print(f"{'':60} {(seconds - base) / len(runs) * 1e6:9.1f} us a run")
+
+    show_counted()
 
 
 if __name__ == "__main__":

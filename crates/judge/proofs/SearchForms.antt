@@ -6,7 +6,9 @@ use Rattle.flake_rate.specs.Divisor.{gcd}
 use Rattle.flake_rate.specs.Limits.{IsRate, IsBar, IsTold}
 use Rattle.weight_exact.specs.Factors.{factors}
 use Rattle.weight_exact.specs.Weights.{Setup, setup}
-use Rattle.judge.specs.Form.{is_rate, is_bar, is_calm, is_told, are_weights, search_of}
+use Rattle.flake_rate.specs.Tests.{is_rate, is_bar, is_told}
+use Rattle.weight_exact.specs.Limits.{is_calm, are_weights}
+use Rattle.judge.specs.Form.{search_of}
 use Rattle.judge.specs.Words.{ReadsNumber, LacksNumber}
 use Rattle.judge.proofs.Numbers.{formed, following, formed-reads, formed-lacks, formed_none, formed_same}
 

@@ -1,10 +1,11 @@
 -- The form of a judge's input: which lines it may have, and what they ask.
-use Rattle.std.specs.Prelude.{ℕ, ◌+◌, ◌*◌, ◌^◌, List, [], ◌∷◌, length, max, Bool, ◌&&◌, nat_le, nat_lt, if◌then◌else◌, Option, Some, None, option_and_then, Result, Ok, Err, codes}
+use Rattle.std.specs.Prelude.{ℕ, ◌+◌, ◌^◌, List, [], ◌∷◌, max, Bool, ◌&&◌, nat_le, nat_lt, if◌then◌else◌, Option, Some, None, option_and_then, Result, Ok, Err, codes}
 use Rattle.std.specs.Str.{bytes_eq}
-use Rattle.std.specs.List.{list_all}
+use Rattle.flake_rate.specs.Tests.{is_rate, is_miss, is_bar, is_told}
 use Rattle.judge.specs.Text.{words, number, numbers}
 use Rattle.judge.specs.declared.run_line.RunLine.{RunLine}
 use Rattle.weight_exact.specs.Factors.{factors, in_lowest_terms}
+use Rattle.weight_exact.specs.Limits.{is_calm, are_weights}
 use Rattle.weight_exact.specs.Weights.{Setup, setup, suspects}
 use Rattle.weight_exact.specs.declared.run.Verdict.{Verdict}
 use Rattle.weight_exact.specs.declared.run.Verdict.TheVariants.{Pass, Fail}
@@ -19,9 +20,6 @@ abbrev pub keyword_numbers : List ℕ → List ℕ → Option (List ℕ)
 keyword_numbers keyword line = option_and_then numbers (after_keyword keyword (words line))
 
 -- `miss C D`: with the culprit in, a run passes with probability c/d, from here on in lowest terms
-abbrev pub is_miss : ℕ → ℕ → Bool
-is_miss c d = nat_lt c d && nat_le d 100
-
 abbrev pub miss_of : List ℕ → Option (ℕ × ℕ)
 miss_of (c ∷ d ∷ []) = if is_miss c d then Some (in_lowest_terms c d) else None
 miss_of _ = None
@@ -29,26 +27,8 @@ miss_of _ = None
 abbrev pub miss_line : List ℕ → Option (ℕ × ℕ)
 miss_line line = option_and_then miss_of (keyword_numbers (codes "miss") line)
 
--- `search A B T U CALM WEIGHT ..`: the flake rate a/b, the bar t/u, and the prior weights
-abbrev pub is_rate : ℕ → ℕ → Bool
-is_rate a b = nat_le 1 a && nat_lt a b && nat_le b 1000
-
-abbrev pub is_bar : ℕ → ℕ → Bool
-is_bar t u = nat_le u 10000 && nat_lt u (2 * t) && nat_lt t u
-
-abbrev pub is_calm : ℕ → Bool
-is_calm calm = nat_le 1 calm && nat_le calm 1000000
-
-abbrev pub is_weight : ℕ → Bool
-is_weight w = nat_le 1 w && nat_le w 65535
-
-abbrev pub are_weights : List ℕ → Bool
-are_weights ws = nat_le 1 (length ws) && nat_le (length ws) 1000 && list_all is_weight ws
-
--- a broken test fails more often than a sound one
-abbrev pub is_told : (c d a b : ℕ) → Bool
-is_told c d a b = nat_lt (c * b + a * d) (b * d)
-
+-- `search A B T U CALM WEIGHT ..`: the flake rate a/b, the bar t/u, and the prior weights, each within its limits as it
+-- is given, where the rates in lowest terms go together
 abbrev pub search_of : (c d : ℕ) → List ℕ → Option Setup
 search_of c d (a ∷ b ∷ t ∷ u ∷ calm ∷ ws) =
     let rate = in_lowest_terms a b in

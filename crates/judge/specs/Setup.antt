@@ -1,10 +1,10 @@
 -- What a search line asks, as the code holds it.
 use Rattle.std.specs.Prelude.{ℕ, List, Option, Some, None, if◌then◌else◌}
 use Rattle.flake_rate.specs.Bar.{bar_numerator, bar_denominator}
-use Rattle.judge.specs.Form.{are_weights}
 use Rattle.judge.specs.declared.search.Search.{Search}
 use Rattle.judge.specs.declared.search.Terms.{Terms}
 use Rattle.weight_exact.specs.Factors.{factors_of}
+use Rattle.weight_exact.specs.Limits.{are_weights}
 use Rattle.weight_exact.specs.Weights.{Setup, setup}
 
 -- the setup of a search on these terms, with these weights

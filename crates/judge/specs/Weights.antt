@@ -1,6 +1,6 @@
 -- Weights that are within their limits.
 use Rattle.std.specs.Prelude.{ℕ, List, Option, Some, None, if◌then◌else◌}
-use Rattle.judge.specs.Form.{is_weight, are_weights}
+use Rattle.weight_exact.specs.Limits.{is_weight, are_weights}
 
 -- a number that is a weight
 abbrev pub as_weight : ℕ → Option ℕ

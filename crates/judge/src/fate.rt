@@ -11,7 +11,7 @@ pub enum Fate {
     Counted,
     /// The search had ended before.
     Late,
-    /// Its numbers would not fit the budget, so the search ends here.
+    /// With it the load would pass the budget, so the search ends here.
     Over,
     /// A run with this number stood before.
     Repeat,

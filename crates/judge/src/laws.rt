@@ -33,7 +33,7 @@ pub fn an_ended_search_stays()
         standing s (after_all s p later) ≡ standing s p }
 {}
 
-/// The counted runs always fit the budget.
+/// The load of the counted runs never passes the budget.
 pub fn counted_runs_fit_the_budget()
     ensures { (s : Setup) (all : List RunLine) → load s.factors (after_all s at_start all).counted ≤ run_budget s }
 {}

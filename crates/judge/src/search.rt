@@ -1,11 +1,12 @@
 //! The search line of an input.
 
-ghost use Rattle.std.specs.Prelude.{◌≡◌, ◌≤◌, IsTrue, Some, None, IfOk, IfSome, IfNone, option_map, option_and_then};
+ghost use Rattle.std.specs.Prelude.{◌≡◌, IsTrue, Some, None, IfOk, IfSome, IfNone, option_map, option_and_then};
 ghost use Rattle.flake_rate.specs.Miss.{miss_numerator, miss_denominator, FitsRate};
-ghost use Rattle.judge.specs.Form.{are_weights, search_line, search_of};
+ghost use Rattle.judge.specs.Form.{search_line, search_of};
 ghost use Rattle.judge.specs.Text.{number, numbers};
 ghost use Rattle.judge.specs.Weights.{as_weight, as_weights};
 ghost use Rattle.judge.specs.Words.{words_left};
+ghost use Rattle.weight_exact.specs.Limits.{are_weights, IsCalm};
 
 use crate::numeral::number;
 use crate::words::Words;
@@ -30,7 +31,7 @@ pub struct Terms {
     pub bar: Bar,
     /// The prior weight of "no culprit".
     pub calm: u32,
-    ghost calm_in_limits: { (1 ≤ calm) × (calm ≤ 1000000) },
+    ghost calm_in_limits: { IsCalm calm },
     ghost told: { FitsRate miss rate },
 }
 

@@ -13,7 +13,7 @@ pub enum Standing {
     Named(u16),
     /// The hypothesis that there is no culprit reaches the bar.
     NoCulprit,
-    /// A run would not fit the budget while the search went on.
+    /// With a run the load would have passed the budget, while the search went on.
     Inconclusive,
 }
 

@@ -1,12 +1,10 @@
 //! A search that is judged run line by run line.
 
-ghost use Rattle.std.specs.Prelude.{◌≡◌, ◌+◌, ◌≤◌, ◌<◌, ◌++◌, ◌∷◌, ◌↔◌, [], ℕ, List, IfOk, OnOk, length, string_bytes};
+ghost use Rattle.std.specs.Prelude.{◌≡◌, ◌+◌, ◌≤◌, ◌<◌, ◌++◌, ℕ, List, IfOk, OnOk, string_bytes};
 ghost use Rattle.judge.specs.Answer.{budget_text, ending};
 ghost use Rattle.judge.specs.Fates.{Progress, standing_by, at_start, fate, after};
 ghost use Rattle.judge.specs.Setup.{setup_of};
 ghost use Rattle.posterior.specs.StandsFor.{StandsFor};
-ghost use Rattle.weight_exact.specs.Budget.{run_budget};
-ghost use Rattle.weight_exact.specs.Load.{load};
 ghost use Rattle.weight_exact.specs.Share.{reached};
 ghost use Rattle.weight_exact.specs.Weights.{hypotheses as hypotheses_of};
 ghost use Rattle.weight_exact.specs.declared.run.Run.{Run};
@@ -18,9 +16,7 @@ use crate::search::{Search, Terms};
 use crate::standing::Standing;
 use posterior::{Belief, Noted};
 use std::alloc::{AllocError, Global};
-use std::marker::Brand;
-use std::sync::ledger::{Blank, Ledger};
-use weight_exact::{Memory, Run, Steps};
+use weight_exact::Memory;
 
 /// How far a search has come: what it believes, and what decides the fate of the next run line.
 #[derive(Drop)]
@@ -92,7 +88,10 @@ impl Trial {
         if !self.standing.is_searching() {
             return Fate::Late;
         }
-        match note::<Brand>(&mut self.belief, line.run, Blank::new(1)) {
+        match self
+            .belief
+            .note_uncounted(line.run.position, line.run.verdict)
+        {
             Noted::Counted => {
                 self.standing = standing(&self.belief, self.hypotheses);
                 Fate::Counted
@@ -132,22 +131,4 @@ fn standing(belief: &Belief, hypotheses: u16) -> Standing
         Some(hypothesis) if hypothesis == hypotheses => Standing::NoCulprit,
         Some(position) => Standing::Named(position),
     }
-}
-
-/// Notes a run, on a counter of steps that nobody reads.
-fn note<L: Ledger>(belief: &mut Belief, run: Run, blank: Blank) -> Noted
-    requires name { blank.name ≡ L.name }
-    requires parts { blank.parts ≡ L.parts }
-    requires some { 1 ≤ L.parts }
-    requires first { 1 ≤ run.position }
-    requires last { run.position < hypotheses_of belief.old.setup }
-    ensures setup { belief.new.setup ≡ belief.old.setup }
-    ensures over { (runs : List Run) → StandsFor belief.old runs → (result ≡ Noted.Over
-        ↔ (run_budget belief.old.setup < load belief.old.setup.factors (runs ++ run ∷ []))) }
-    ensures counted { result ≡ Noted.Counted → (runs : List Run) → StandsFor belief.old runs →
-        StandsFor belief.new (runs ++ run ∷ []) }
-    ensures unchanged { result ≡ Noted.Over → belief.new ≡ belief.old }
-{
-    let mut steps = Steps::<L>::new(blank);
-    belief.note(run.position, run.verdict, &mut steps)
 }

@@ -32,7 +32,7 @@ use weight_exact::{
 pub enum Noted {
     /// The belief stands for its runs with this one at their end.
     Counted,
-    /// The run's numbers would not fit the budget. Nothing changed.
+    /// With the run the load would pass the budget. Nothing changed.
     Over,
 }
 
@@ -257,7 +257,7 @@ impl Belief {
         );
     }
 
-    /// Takes in a run above the floor that clears nobody, while the budget has room for it.
+    /// Takes in a run above the floor that clears nobody, while the load is below the budget: it multiplies the weights.
     fn count<L: Ledger>(&mut self, position: u16, verdict: Verdict, steps: &mut Steps<L>)
         requires live { (1 ≤ self.old.setup.factors.pass_in) ⊎ (verdict ≡ Verdict.Fail) }
         requires above { self.old.floor < position }
@@ -276,7 +276,8 @@ impl Belief {
         self.reached = at_bar(&self.sums, floor, self.bar, steps);
     }
 
-    /// The budget: how many runs the belief can hold that still tell hypotheses apart.
+    /// The budget, which bounds the load: the greatest number of runs that tell hypotheses apart which the exact
+    /// numbers can hold.
     pub fn budget(&self) -> u32
         ensures { result ≡ run_budget self.now.setup }
     {
@@ -297,7 +298,7 @@ impl Belief {
         self.tallies.floor
     }
 
-    /// How many of the runs still tell hypotheses apart, at most the budget.
+    /// The load: how many of the runs still tell hypotheses apart, at most the budget.
     pub fn load(&self) -> u32
         ensures { result ≡ self.now.load }
     {

@@ -2,7 +2,8 @@ use Rattle.std.proofs.Common.{◌≡◌, ◌^◌, ◌≤◌, ℕ, List, [], ◌�
 use Rattle.std.proofs.lemmas.Bool.Decides.{nat_tests}
 use Rattle.std.proofs.lemmas.Bool.{cond-false}
 use Rattle.weight_exact.specs.Factors.{in_lowest_terms}
-use Rattle.judge.specs.Form.{is_miss, miss_of}
+use Rattle.flake_rate.specs.Tests.{is_miss}
+use Rattle.judge.specs.Form.{miss_of}
 use Rattle.judge.proofs.Numbers.{formed-lacks}
 use Rattle.judge.proofs.miss.miss_line.Goals as goal
 

@@ -1,7 +1,8 @@
 use Rattle.std.proofs.Common.{◌≡◌, ◌≤◌, true, List, ℕ, ◌++◌, Option}
 use Rattle.std.specs.Prelude.{option_map, option_and_then, vec_len}
 use Rattle.std.specs.List.{list_all}
-use Rattle.judge.specs.Form.{is_weight}
+use Rattle.weight_exact.specs.Limits.{is_weight}
+use Rattle.weight_exact.specs.declared.limits.TheConstants.{MAX_SUSPECTS}
 use Rattle.judge.specs.Weights.{as_weights}
 use Rattle.judge.specs.Text.{numbers}
 use Rattle.judge.specs.Words.{words_left}
@@ -15,5 +16,5 @@ abbrev pub invariant-loop-word : goal.invariant-loop-word
 invariant-loop-word l = record {
   same : option_and_then as_weights (numbers (words_left l.fn.words)) ≡ weights_after l.weights.items (numbers (words_left l.word-iterator));
   each : list_all is_weight l.weights.items ≡ true;
-  few : vec_len l.weights ≤ 1000;
+  few : vec_len l.weights ≤ MAX_SUSPECTS;
 }

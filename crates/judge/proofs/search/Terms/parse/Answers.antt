@@ -6,7 +6,7 @@ use Rattle.flake_rate.specs.Divisor.{gcd}
 use Rattle.flake_rate.specs.declared.bar.Bar.{Bar}
 use Rattle.flake_rate.specs.Limits.{IsRate, IsBar}
 use Rattle.flake_rate.specs.Rate.{rate_numerator, rate_denominator}
-use Rattle.judge.specs.Form.{is_calm}
+use Rattle.weight_exact.specs.Limits.{is_calm}
 use Rattle.judge.specs.Words.{words_left}
 use Rattle.judge.proofs.Oks.{no_value, was_ok, value_of_ok}
 use Rattle.judge.proofs.SearchForms.{lacks_a, lacks_t, lacks_u, lacks_calm, outside_rate, outside_bar, outside_terms, inside_terms, are_terms-true, is_rate-false, is_bar-false, no_calm_in, not_told_in, is_told-false, formed_weights_same}
