@@ -1,2 +1,5 @@
 pub mod Calendar
+pub mod Faults
+pub mod JsonObjects
+pub mod MadeValues
 pub mod Objects

@@ -1,11 +1,11 @@
 -- Objects that members are put into.
-use Rattle.std.proofs.Common.{◌≡◌, ℕ, ◌+◌, ◌<◌, ◌≤◌, List, [], ◌∷◌, ◌++◌, length, map, drop, get_or, Bool, true, false, ◌||◌, refl, sym, ap, ◌∙◌, add-one, append_assoc, drop-cons}
+use Rattle.std.proofs.Common.{◌≡◌, Option, Some, None, ℕ, ◌+◌, ◌<◌, ◌≤◌, List, [], ◌∷◌, ◌++◌, length, map, drop, get_or, Bool, true, false, ◌||◌, refl, sym, ap, ◌∙◌, add-one, append_assoc, drop-cons}
 use Rattle.std.proofs.lemmas.List.{append-nil, drop_all, map-append}
 use Rattle.std.specs.declared.cmp.Ordering.{Ordering}
 use Rattle.std.specs.declared.cmp.Ordering.TheVariants.{Less, Equal, Greater}
 use Rattle.std.specs.Ordering.{match_ordering, nat_cmp}
 use Rattle.std.specs.Cmp.Lexicographic.{slice_cmp}
-use Rattle.serde_json.specs.Data.{Data, Items, Members, item, member, no_items, no_members, put}
+use Rattle.serde_json.specs.Data.{Data, Members, member, no_members, put}
 use Rattle.serde_json.specs.Written.{has_float, items_have_float, members_have_float}
 use Rattle.serde_json.specs.View.{items_of}
 use Rattle.farm_wire.specs.Members.{Named, put_all, with_member}
@@ -68,3 +68,8 @@ all_moved f g done xs i ended before =
 pub onto : (k : List ℕ) (d : Data) {made old known : Members} → made ≡ with_member k d old → old ≡ known
     → made ≡ with_member k d known
 onto k d put_in is = put_in ∙ ap (with_member k d) is
+
+-- what was found so far, before what is found in the rest, if all of that is found
+abbrev pub after : {X : Type 0} → List X → Option (List X) → Option (List X)
+after front None = None
+after front (Some rest) = Some (front ++ rest)

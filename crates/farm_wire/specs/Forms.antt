@@ -1,5 +1,5 @@
 -- The forms that the values of a command's members have in JSON, with what each value is read as.
-use Rattle.std.specs.Prelude.{ℕ, ◌^◌, ◌==◌, nat_le, nat_lt, Bool, if◌then◌else◌, List, [], ◌∷◌, is_none, Option, Some, None, option_and_then, option_map, codes}
+use Rattle.std.specs.Prelude.{ℕ, ◌^◌, nat_le, nat_lt, Bool, if◌then◌else◌, List, [], ◌∷◌, is_none, Option, Some, None, option_and_then, option_map, codes}
 use Rattle.std.specs.Int.{from_be_bytes, w128}
 use Rattle.std.specs.Str.{bytes_eq}
 use Rattle.serde_json.specs.Data.{Data, Items, no_items, item}
@@ -81,19 +81,20 @@ verb d = option_and_then verb_named (as_str d)
 
 -- Arrays.
 
--- two values, each in its form
-abbrev pub both_of : {X Y : Type 0} → Option X → Option Y → Option (X × Y)
-both_of x y = option_and_then (λ a. option_map (λ b. (a, b)) y) x
+-- two items
+abbrev pub two_of : Items → Option (Data × Data)
+two_of no_items = None
+two_of (item a no_items) = None
+two_of (item a (item b no_items)) = Some (a, b)
+two_of (item a (item b (item c more))) = None
 
-abbrev pub two_of : {X Y : Type 0} → (Data → Option X) → (Data → Option Y) → Items → Option (X × Y)
-two_of f g no_items = None
-two_of f g (item a no_items) = None
-two_of f g (item a (item b no_items)) = both_of (f a) (g b)
-two_of f g (item a (item b (item c more))) = None
+-- the items of an array of two
+unfoldable pub two_in : Data → Option (Data × Data)
+two_in d = option_and_then two_of (as_array d)
 
 -- an array of two values, each in its form
 abbrev pub pair : {X Y : Type 0} → (Data → Option X) → (Data → Option Y) → Data → Option (X × Y)
-pair f g d = option_and_then (two_of f g) (as_array d)
+pair f g d = option_and_then (λ p. option_and_then (λ a. option_map (λ b. (a, b)) (g p.1)) (f p.0)) (two_in d)
 
 -- a fraction, as its numerator and its denominator
 unfoldable pub fraction : Data → Option (ℕ × ℕ)

@@ -1,9 +1,20 @@
-//! The farm's commands as they are sent, and its answers as they are sent back, in JSON.
+//! The farm's commands as they are sent, and its answers as they are sent back, in JSON: script lines and the bodies of
+//! requests are read as commands, and replies, refusals and faults are written as texts.
+//!
+//! The crate stands on `farm_entry` for commands, replies and refusals, on `farm_types`, `suspect_range`, `flake_rate`
+//! and `weight_exact` for the values in them, on `revert_orders` and `jiff` for dates, on `serde_json` for JSON, on
+//! `uuid` for keys, on `hex` for ids, and on `thiserror` for the texts of its faults. The layers above may use every name
+//! below. What a text says is defined by `line_reading` and `body_reading` of `specs/`, over the value that `serde_json`
+//! reads; what is written is `serde_json`'s text of `reply_data`, `refusal_data` and `fault_data`.
 #![tactic(auto)]
 
+mod command;
 mod date;
 mod fault;
 mod field;
+mod fields;
+mod forms;
+pub mod laws;
 mod limits;
 mod object;
 mod page;
@@ -11,8 +22,10 @@ mod refusal;
 mod reply;
 mod route;
 mod standing;
+mod texts;
 mod verb;
 
+pub use command::{command_of, line_of};
 pub use fault::WireFault;
 pub use field::Field;
 pub use limits::MAX_COMMAND_BYTES;

@@ -1,0 +1,185 @@
+//! Commands, read from the text of a line or of a body.
+
+ghost use Rattle.std.specs.Prelude.{◌≡◌, ◌≢◌, Err, IfErr, IfOk, Ok};
+ghost use Rattle.serde_json.specs.View.{view};
+ghost use Rattle.farm_wire.specs.Reading.{body_reading, cancel_in, cancel_line_in, command_in, lease_in, line_reading, object_of, open_in, report_in, report_line_in, revert_in, search_in};
+
+use crate::fields::{
+    base_in, fraction_in, key_in, miss_in, moment_in, name_in, ordinal_in, small_in, suspects_in,
+    verb_in, verdict_in,
+};
+use crate::limits::MAX_COMMAND_BYTES;
+use crate::verb::Verb;
+use crate::{Field, Route, WireFault};
+use farm_entry::{Command, OpenAsk};
+use farm_types::Moment;
+use serde_json::Value;
+use std::alloc::Global;
+
+/// What a script line asks for, and when: the line is one JSON object of at most [`MAX_COMMAND_BYTES`], without its line
+/// feed. Else the first fault of the line is answered.
+#[tactic(auto, unfolding(crate::specs::Reading::line_reading))]
+pub fn line_of(alloc: Global, line: &[u8]) -> Result<(Moment, Command), WireFault>
+    ensures read { IfOk result (λ asked. line_reading line.now ≡ Ok asked) }
+    ensures refused { IfErr result (λ fault. fault ≢ WireFault.Memory → line_reading line.now ≡ Err fault) }
+{
+    let object = object_of(alloc, line)?;
+    let at = moment_in(&object)?;
+    let verb = verb_in(&object)?;
+    let command = command_in(alloc, verb, &object)?;
+    Ok((at, command))
+}
+
+/// What a request on a route asks for by its body: one JSON object, as in a script line but without the moment, what is
+/// asked for, and the number that the path gives. Where the route shows something the body isn't looked at. Else the first
+/// fault of the body is answered.
+#[tactic(auto, unfolding(crate::specs::Reading::body_reading))]
+pub fn command_of(alloc: Global, route: &Route, body: &[u8]) -> Result<Command, WireFault>
+    ensures read { IfOk result (λ command. body_reading route.now body.now ≡ Ok command) }
+    ensures refused { IfErr result (λ fault. fault ≢ WireFault.Memory → body_reading route.now body.now ≡ Err fault) }
+{
+    match route {
+        Route::Open => open_in(alloc, &object_of(alloc, body)?),
+        Route::Lease => lease_in(alloc, &object_of(alloc, body)?),
+        Route::Report(run) => report_in(*run, &object_of(alloc, body)?),
+        Route::Cancel(search) => cancel_in(*search, &object_of(alloc, body)?),
+        Route::Revert => revert_in(alloc, &object_of(alloc, body)?),
+        Route::Search(search) => Ok(Command::ShowSearch { search: *search }),
+        Route::Farm => Ok(Command::ShowFarm),
+        Route::Orders => Ok(Command::ShowOrders),
+    }
+}
+
+/// The JSON object that a text is.
+#[tactic(auto, unfolding(crate::specs::Reading::object_of, crate::specs::Reading::object_in))]
+fn object_of(alloc: Global, text: &[u8]) -> Result<Value, WireFault>
+    ensures read { IfOk result (λ value. object_of text.now ≡ Ok (view value)) }
+    ensures refused { IfErr result (λ fault. fault ≢ WireFault.Memory → object_of text.now ≡ Err fault) }
+{
+    if text.len() > MAX_COMMAND_BYTES {
+        return Err(WireFault::TooLong);
+    }
+    match Value::from_slice(alloc, text) {
+        Ok(value) => {
+            if value.is_object() {
+                Ok(value)
+            } else {
+                Err(WireFault::BadJson)
+            }
+        }
+        Err(error) => {
+            if error.is_memory() {
+                Err(WireFault::Memory)
+            } else {
+                Err(WireFault::BadJson)
+            }
+        }
+    }
+}
+
+/// The command that a line's object asks for.
+fn command_in(alloc: Global, verb: Verb, object: &Value) -> Result<Command, WireFault>
+    ensures read { IfOk result (λ command. command_in verb (view object.now) ≡ Ok command) }
+    ensures refused { IfErr result (λ fault. fault ≢ WireFault.Memory → command_in verb (view object.now) ≡ Err fault) }
+{
+    match verb {
+        Verb::Open => open_in(alloc, object),
+        Verb::Lease => lease_in(alloc, object),
+        Verb::Report => report_line_in(object),
+        Verb::Cancel => cancel_line_in(object),
+        Verb::Revert => revert_in(alloc, object),
+        Verb::Search => search_in(object),
+        Verb::Farm => Ok(Command::ShowFarm),
+        Verb::Orders => Ok(Command::ShowOrders),
+    }
+}
+
+#[tactic(auto, unfolding(crate::specs::Reading::open_in))]
+fn open_in(alloc: Global, object: &Value) -> Result<Command, WireFault>
+    ensures read { IfOk result (λ command. open_in (view object.now) ≡ Ok command) }
+    ensures refused { IfErr result (λ fault. fault ≢ WireFault.Memory → open_in (view object.now) ≡ Err fault) }
+{
+    let key = key_in(object)?;
+    let test = name_in(alloc, object, Field::Test)?;
+    let base = base_in(object)?;
+    let suspects = suspects_in(alloc, object)?;
+    let calm = small_in(object, Field::Calm)?;
+    let rate = fraction_in(object, Field::Rate)?;
+    let miss = miss_in(object)?;
+    let bar = fraction_in(object, Field::Bar)?;
+    let width = small_in(object, Field::Width)?;
+    let reruns = small_in(object, Field::Reruns)?;
+    Ok(Command::Open(OpenAsk {
+        key,
+        test,
+        base,
+        suspects,
+        calm,
+        rate,
+        miss,
+        bar,
+        width,
+        reruns,
+    }))
+}
+
+#[tactic(auto, unfolding(crate::specs::Reading::lease_in))]
+fn lease_in(alloc: Global, object: &Value) -> Result<Command, WireFault>
+    ensures read { IfOk result (λ command. lease_in (view object.now) ≡ Ok command) }
+    ensures refused { IfErr result (λ fault. fault ≢ WireFault.Memory → lease_in (view object.now) ≡ Err fault) }
+{
+    let key = key_in(object)?;
+    let worker = name_in(alloc, object, Field::Worker)?;
+    Ok(Command::Lease { key, worker })
+}
+
+#[tactic(auto, unfolding(crate::specs::Reading::report_in))]
+fn report_in(run: u32, object: &Value) -> Result<Command, WireFault>
+    ensures { result ≡ report_in run (view object.now) }
+{
+    let verdict = verdict_in(object)?;
+    Ok(Command::Report { run, verdict })
+}
+
+#[tactic(auto, unfolding(crate::specs::Reading::report_line_in))]
+fn report_line_in(object: &Value) -> Result<Command, WireFault>
+    ensures { result ≡ report_line_in (view object.now) }
+{
+    let run = ordinal_in(object, Field::Run)?;
+    report_in(run, object)
+}
+
+#[tactic(auto, unfolding(crate::specs::Reading::cancel_in))]
+fn cancel_in(search: u32, object: &Value) -> Result<Command, WireFault>
+    ensures { result ≡ cancel_in search (view object.now) }
+{
+    let key = key_in(object)?;
+    Ok(Command::Cancel { key, search })
+}
+
+#[tactic(auto, unfolding(crate::specs::Reading::cancel_line_in))]
+fn cancel_line_in(object: &Value) -> Result<Command, WireFault>
+    ensures { result ≡ cancel_line_in (view object.now) }
+{
+    let key = key_in(object)?;
+    let search = ordinal_in(object, Field::Search)?;
+    Ok(Command::Cancel { key, search })
+}
+
+#[tactic(auto, unfolding(crate::specs::Reading::revert_in))]
+fn revert_in(alloc: Global, object: &Value) -> Result<Command, WireFault>
+    ensures read { IfOk result (λ command. revert_in (view object.now) ≡ Ok command) }
+    ensures refused { IfErr result (λ fault. fault ≢ WireFault.Memory → revert_in (view object.now) ≡ Err fault) }
+{
+    let key = key_in(object)?;
+    let agent = name_in(alloc, object, Field::Agent)?;
+    Ok(Command::TakeRevert { key, agent })
+}
+
+#[tactic(auto, unfolding(crate::specs::Reading::search_in))]
+fn search_in(object: &Value) -> Result<Command, WireFault>
+    ensures { result ≡ search_in (view object.now) }
+{
+    let search = ordinal_in(object, Field::Search)?;
+    Ok(Command::ShowSearch { search })
+}

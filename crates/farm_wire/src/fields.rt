@@ -1,0 +1,148 @@
+//! The members of a command's object, each read in its form.
+
+ghost use Rattle.std.specs.Prelude.{◌≡◌, ◌≢◌, Err, IfErr, IfOk, Ok};
+ghost use Rattle.serde_json.specs.View.{view};
+ghost use Rattle.farm_wire.specs.Forms as form;
+ghost use Rattle.farm_wire.specs.Reading.{field_in, miss_in};
+
+use crate::forms::{commit, fraction, key, moment, ordinal, small, verb, verdict};
+use crate::texts::{name, suspects};
+use crate::verb::Verb;
+use crate::{Field, WireFault};
+use farm_entry::Suspects;
+use farm_types::{CommitId, Key, Moment, Name};
+use serde_json::Value;
+use std::alloc::Global;
+use weight_exact::Verdict;
+
+#[tactic(auto, unfolding(crate::specs::Reading::field_in))]
+pub(crate) fn moment_in(object: &Value) -> Result<Moment, WireFault>
+    ensures { result ≡ field_in Field.At form.moment (view object.now) }
+{
+    let field = Field::At;
+    object
+        .get(field.name())
+        .and_then(moment)
+        .ok_or(WireFault::BadField(field))
+}
+
+#[tactic(auto, unfolding(crate::specs::Reading::field_in))]
+pub(crate) fn verb_in(object: &Value) -> Result<Verb, WireFault>
+    ensures { result ≡ field_in Field.Do form.verb (view object.now) }
+{
+    let field = Field::Do;
+    object
+        .get(field.name())
+        .and_then(verb)
+        .ok_or(WireFault::BadField(field))
+}
+
+#[tactic(auto, unfolding(crate::specs::Reading::field_in))]
+pub(crate) fn key_in(object: &Value) -> Result<Key, WireFault>
+    ensures { result ≡ field_in Field.Key form.key (view object.now) }
+{
+    let field = Field::Key;
+    object
+        .get(field.name())
+        .and_then(key)
+        .ok_or(WireFault::BadField(field))
+}
+
+#[tactic(auto, unfolding(crate::specs::Reading::field_in))]
+pub(crate) fn base_in(object: &Value) -> Result<CommitId, WireFault>
+    ensures { result ≡ field_in Field.Base form.commit (view object.now) }
+{
+    let field = Field::Base;
+    object
+        .get(field.name())
+        .and_then(commit)
+        .ok_or(WireFault::BadField(field))
+}
+
+#[tactic(auto, unfolding(crate::specs::Reading::field_in))]
+pub(crate) fn verdict_in(object: &Value) -> Result<Verdict, WireFault>
+    ensures { result ≡ field_in Field.Verdict form.verdict (view object.now) }
+{
+    let field = Field::Verdict;
+    object
+        .get(field.name())
+        .and_then(verdict)
+        .ok_or(WireFault::BadField(field))
+}
+
+/// A whole number below 2^32.
+#[tactic(auto, unfolding(crate::specs::Reading::field_in))]
+pub(crate) fn small_in(object: &Value, field: Field) -> Result<u32, WireFault>
+    ensures { result ≡ field_in field form.small (view object.now) }
+{
+    object
+        .get(field.name())
+        .and_then(small)
+        .ok_or(WireFault::BadField(field))
+}
+
+/// The number of a run or a search.
+#[tactic(auto, unfolding(crate::specs::Reading::field_in))]
+pub(crate) fn ordinal_in(object: &Value, field: Field) -> Result<u32, WireFault>
+    ensures { result ≡ field_in field form.ordinal (view object.now) }
+{
+    object
+        .get(field.name())
+        .and_then(ordinal)
+        .ok_or(WireFault::BadField(field))
+}
+
+#[tactic(auto, unfolding(crate::specs::Reading::field_in))]
+pub(crate) fn fraction_in(object: &Value, field: Field) -> Result<(u32, u32), WireFault>
+    ensures { result ≡ field_in field form.fraction (view object.now) }
+{
+    object
+        .get(field.name())
+        .and_then(fraction)
+        .ok_or(WireFault::BadField(field))
+}
+
+/// The miss rate, which may be left out.
+#[tactic(auto, unfolding(crate::specs::Reading::miss_in))]
+pub(crate) fn miss_in(object: &Value) -> Result<(u32, u32), WireFault>
+    ensures { result ≡ miss_in (view object.now) }
+{
+    let field = Field::Miss;
+    match object.get(field.name()) {
+        Some(value) => fraction(value).ok_or(WireFault::BadField(field)),
+        None => Ok((0, 1)),
+    }
+}
+
+#[tactic(auto, unfolding(crate::specs::Reading::field_in))]
+pub(crate) fn name_in(alloc: Global, object: &Value, field: Field) -> Result<Name, WireFault>
+    ensures read { IfOk result (λ name. field_in field form.name (view object.now) ≡ Ok name) }
+    ensures refused { IfErr result (λ fault. fault ≢ WireFault.Memory
+        → field_in field form.name (view object.now) ≡ Err fault) }
+{
+    let Some(value) = object.get(field.name()) else {
+        return Err(WireFault::BadField(field));
+    };
+    match name(alloc, value) {
+        Ok(Some(name)) => Ok(name),
+        Ok(None) => Err(WireFault::BadField(field)),
+        Err(_) => Err(WireFault::Memory),
+    }
+}
+
+#[tactic(auto, unfolding(crate::specs::Reading::field_in))]
+pub(crate) fn suspects_in(alloc: Global, object: &Value) -> Result<Suspects, WireFault>
+    ensures read { IfOk result (λ found. field_in Field.Suspects form.suspects (view object.now) ≡ Ok found) }
+    ensures refused { IfErr result (λ fault. fault ≢ WireFault.Memory
+        → field_in Field.Suspects form.suspects (view object.now) ≡ Err fault) }
+{
+    let field = Field::Suspects;
+    let Some(value) = object.get(field.name()) else {
+        return Err(WireFault::BadField(field));
+    };
+    match suspects(alloc, value) {
+        Ok(Some(found)) => Ok(found),
+        Ok(None) => Err(WireFault::BadField(field)),
+        Err(_) => Err(WireFault::Memory),
+    }
+}
