@@ -2,7 +2,8 @@
 use Rattle.std.proofs.Common.{◌≡◌, ℕ, ◌≤◌, Bool, not, nat_eq, List, ◌++◌, Some, refl, ap, subst, ◌∙◌, append_assoc, arith}
 use Rattle.hex.specs.Hex.{IsBytes}
 use Rattle.flake_rate.specs.Miss.{miss_numerator}
-use Rattle.farm_entry.specs.declared.limits.TheConstants.{MAX_RERUNS, MAX_WIDTH}
+use Rattle.weight_exact.specs.declared.limits.TheConstants.{MAX_WIDTH}
+use Rattle.farm_entry.specs.declared.limits.TheConstants.{MAX_RERUNS}
 use Rattle.farm_entry.specs.declared.opening.Opening.{Opening}
 use Rattle.entry_codec.specs.Grammar.{IsOpening}
 use Rattle.entry_codec.specs.Spelling.{bar_bytes, miss_bytes, name_bytes, number_bytes, opening_bytes, range_bytes, rate_bytes}

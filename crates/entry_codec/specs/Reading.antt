@@ -18,7 +18,8 @@ use Rattle.farm_entry.specs.declared.entry.Entry.{Entry}
 use Rattle.farm_entry.specs.declared.entry.Fate.{Fate}
 use Rattle.farm_entry.specs.declared.entry.What.{What}
 use Rattle.farm_entry.specs.declared.entry.What.TheVariants.{Founded, Opened, Leased, Reported, Cancelled, Ordered}
-use Rattle.farm_entry.specs.declared.limits.TheConstants.{MAX_RERUNS, MAX_WIDTH}
+use Rattle.weight_exact.specs.declared.limits.TheConstants.{MAX_WIDTH}
+use Rattle.farm_entry.specs.declared.limits.TheConstants.{MAX_RERUNS}
 use Rattle.farm_entry.specs.declared.opening.Opening.{Opening}
 use Rattle.farm_entry.specs.declared.settings.Settings.{Settings}
 use Rattle.entry_codec.specs.Values.{fate_of, fitting_miss, id_of, lowest_miss, lowest_rate, moment_of, name_of, range_of, settings_of, stage_of, up_to, verdict_of}

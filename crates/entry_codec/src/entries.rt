@@ -14,8 +14,9 @@ use crate::parts::{
     bar_at, fate_at, id_at, key_at, miss_at, moment_at, name_at, range_at, rate_at, settings_at,
     stage_at, up_to_at, verdict_at,
 };
-use farm_entry::{BoxedOpening, Entry, MAX_RERUNS, MAX_WIDTH, Opening, What};
+use farm_entry::{BoxedOpening, Entry, MAX_RERUNS, Opening, What};
 use std::alloc::Global;
+use weight_exact::MAX_WIDTH;
 
 #[tactic(auto, unfolding(crate::specs::Reading::opening_at))]
 fn opening_at(alloc: Global, above_zero: bool, bytes: &[u8]) -> Result<(Opening, &[u8]), Unread>
@@ -28,7 +29,7 @@ fn opening_at(alloc: Global, above_zero: bool, bytes: &[u8]) -> Result<(Opening,
     let (rate, rest) = rate_at(rest)?;
     let (miss, rest) = miss_at(above_zero, rate, rest)?;
     let (bar, rest) = bar_at(rest)?;
-    let (width, rest) = up_to_at(MAX_WIDTH, rest)?;
+    let (width, rest) = up_to_at(u32::from(MAX_WIDTH), rest)?;
     let (reruns, rest) = up_to_at(MAX_RERUNS, rest)?;
     let opening = Opening {
         key,

@@ -1,7 +1,9 @@
 -- What a history holds after one entry more.
-use Rattle.std.proofs.Common.{◌≡◌, List, [], ◌∷◌, ◌++◌, Option}
+use Rattle.std.proofs.Common.{◌≡◌, ℕ, zero, suc, ◌+◌, List, [], ◌∷◌, ◌++◌, length, get_or, Option, arith, refl}
 use Rattle.std.specs.List.{cons_option, filter_map}
 use Rattle.std.proofs.lemmas.List.Elements.{filter_map-append}
+use Rattle.farm_types.specs.declared.moment.Moment.{Moment}
+use Rattle.farm_entry.specs.Decision.{last_moment}
 use Rattle.farm_entry.specs.History.{all_leases, cancellations, cancelled_in, lease_in, opening_in, openings, order_in, order_lines, report_in, reports}
 use Rattle.farm_entry.specs.declared.entry.Entry.{Entry}
 use Rattle.farm_entry.specs.declared.entry.What.{What}
@@ -26,3 +28,15 @@ cancellations-grow H e = parts-grow cancelled_in H e
 
 pub order_lines-grow : (H : List Entry) (e : Entry) → order_lines (H ++ e ∷ []) ≡ order_lines H ++ cons_option (order_in e.what) []
 order_lines-grow H e = parts-grow order_in H e
+
+pub last_moment-push : (m : Moment) (H : List Entry) (e : Entry) → last_moment m (H ++ e ∷ []) ≡ e.at
+last_moment-push m [] e = refl
+last_moment-push m (first ∷ H) e = last_moment-push first.at H e
+
+-- the last moment is that of the entry at the last place
+pub last_moment-last : (m : Moment) (H : List Entry) (place : ℕ) (e : Entry) → place + 1 ≡ length H → last_moment m H ≡ (get_or H place e).at
+last_moment-last m [] place e h = absurd (omega arith)
+last_moment-last m (x ∷ []) zero e h = refl
+last_moment-last m (x ∷ []) (suc place) e h = absurd (omega arith)
+last_moment-last m (x ∷ y ∷ H) zero e h = absurd (omega arith)
+last_moment-last m (x ∷ y ∷ H) (suc place) e h = last_moment-last x.at (y ∷ H) place e (omega arith)

@@ -12,7 +12,8 @@ use Rattle.suspect_range.specs.Faults.{range_fault}
 use Rattle.suspect_range.specs.Range.{RangeView}
 use Rattle.suspect_range.specs.declared.fault.RangeFault.{RangeFault}
 use Rattle.farm_entry.specs.declared.command.OpenAsk.{OpenAsk}
-use Rattle.farm_entry.specs.declared.limits.TheConstants.{MAX_RERUNS, MAX_WIDTH}
+use Rattle.weight_exact.specs.declared.limits.TheConstants.{MAX_WIDTH}
+use Rattle.farm_entry.specs.declared.limits.TheConstants.{MAX_RERUNS}
 use Rattle.farm_entry.specs.declared.opening.Opening.{Opening}
 use Rattle.farm_entry.specs.declared.refusal.OpenFault.{OpenFault}
 use Rattle.farm_entry.specs.declared.refusal.OpenFault.TheVariants as fault

@@ -1,5 +1,6 @@
-use crate::Suspects;
 use farm_types::{CommitId, Key, Name};
+use item_list::ItemList;
+use suspect_range::Suspect;
 use weight_exact::Verdict;
 
 /// What a farm is asked to do, or to show. The commands with a key are done once: sent again with the same contents,
@@ -46,6 +47,9 @@ pub enum Command {
     /// To show all orders.
     ShowOrders,
 }
+
+/// Suspects as a request lists them, in commit order, and not tested yet: any number of them, with any weights.
+pub type Suspects = ItemList<Suspect>;
 
 /// A search as it is asked for. Its numbers are those that were sent, and may lie outside their limits, for which the
 /// farm refuses the search.

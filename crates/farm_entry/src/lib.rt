@@ -16,32 +16,35 @@
 //! more.
 #![tactic(auto)]
 
+mod ask;
 mod command;
 mod decision;
 mod entry;
+mod holding;
+mod inference;
 mod lease;
 mod limits;
+mod moments;
+mod naming;
 mod opening;
 mod order_page;
 mod refusal;
 mod reply;
 mod settings;
-mod shares;
 mod standing;
-mod suspects;
+mod states;
 #[cfg(test)]
 mod tests;
 
-pub use command::{Command, OpenAsk};
+pub use command::{Command, OpenAsk, Suspects};
 pub use decision::Decision;
 pub use entry::{Entry, Fate, What};
 pub use lease::{DueRun, LeasedRun, ReportedRun};
-pub use limits::{MAX_ENTRIES, MAX_RERUNS, MAX_SEARCHES, MAX_WIDTH};
+pub use limits::{MAX_ENTRIES, MAX_RERUNS, MAX_SEARCHES};
+pub use moments::{last_moment, later, moment_used};
 pub use opening::{BoxedOpening, Opening};
 pub use order_page::{OrderLine, OrderPage};
 pub use refusal::{OpenFault, Refusal};
-pub use reply::{Reply, SearchPage, Totals};
+pub use reply::{Reply, SearchPage, Shares, Totals};
 pub use settings::{LEASE_MAX_MS, LEASE_MIN_MS, MAX_DAILY, Settings, SettingsFault};
-pub use shares::Shares;
 pub use standing::Standing;
-pub use suspects::Suspects;

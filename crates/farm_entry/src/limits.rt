@@ -4,8 +4,5 @@ pub const MAX_ENTRIES: usize = 1_000_000;
 /// The most searches of a farm, ended ones among them.
 pub const MAX_SEARCHES: u32 = 2_000;
 
-/// The greatest width of a search, which is how many of its runs may be out at once; the least is 1.
-pub const MAX_WIDTH: u32 = 8;
-
 /// The greatest number of reruns with which a search is verified; the least is 1.
 pub const MAX_RERUNS: u32 = 8;

@@ -24,7 +24,7 @@ pub struct Opening {
     pub miss: Miss,
     /// The share of the belief at which the search acts on a hypothesis.
     pub bar: Bar,
-    /// How many runs of the search may be out at once; 1 to [`MAX_WIDTH`](crate::MAX_WIDTH) in a history.
+    /// How many runs of the search may be out at once; 1 to [`MAX_WIDTH`](weight_exact::MAX_WIDTH) in a history.
     pub width: u8,
     /// How many reruns have to fail at the culprit, and how many to pass just below it, before the culprit is
     /// confirmed; 1 to [`MAX_RERUNS`](crate::MAX_RERUNS) in a history.

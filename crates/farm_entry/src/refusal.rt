@@ -1,8 +1,9 @@
 use crate::Standing;
-use crate::limits::{MAX_ENTRIES, MAX_RERUNS, MAX_SEARCHES, MAX_WIDTH};
+use crate::limits::{MAX_ENTRIES, MAX_RERUNS, MAX_SEARCHES};
 use flake_rate::{BarFault, MissFault, RateFault};
 use suspect_range::RangeFault;
 use thiserror::Error;
+use weight_exact::MAX_WIDTH;
 
 /// Why a farm refuses a command. A refused command changes nothing, and its key stays unused.
 #[derive(Clone, Copy, Debug, PartialEq, Eq, Error)]

@@ -1,5 +1,6 @@
-use crate::{Fate, OrderPage, Shares, Standing};
+use crate::{Fate, OrderPage, Standing};
 use farm_types::{CommitId, Name, Stage};
+use item_list::ItemList;
 use weight_exact::Verdict;
 
 /// What a farm answers to a command that it doesn't refuse. Where an entry answers the command, a standing is the one
@@ -68,6 +69,10 @@ pub enum Reply {
     /// All orders are shown.
     Orders(OrderPage),
 }
+
+/// How the belief of a search is shared out, in basis points, each rounded down: one number for each suspect, in commit
+/// order, and last that of "there is no culprit".
+pub type Shares = ItemList<u32>;
 
 /// What is shown of a search.
 #[derive(Debug, PartialEq, Eq, Drop)]

@@ -19,7 +19,8 @@ use Rattle.farm_types.specs.declared.key.Key.{Key}
 use Rattle.farm_entry.specs.Ask.{and_then, asked_bar, asked_miss, asked_range, asked_rate, asked_reruns, asked_width, bar_of, fitting, miss_of, opening_of, rate_of, unless_fault, when_passed}
 use Rattle.farm_entry.specs.Legal.{ask_of}
 use Rattle.farm_entry.specs.declared.command.OpenAsk.{OpenAsk}
-use Rattle.farm_entry.specs.declared.limits.TheConstants.{MAX_RERUNS, MAX_WIDTH}
+use Rattle.weight_exact.specs.declared.limits.TheConstants.{MAX_WIDTH}
+use Rattle.farm_entry.specs.declared.limits.TheConstants.{MAX_RERUNS}
 use Rattle.farm_entry.specs.declared.opening.Opening.{Opening}
 use Rattle.farm_entry.specs.declared.refusal.OpenFault.{OpenFault}
 use Rattle.farm_entry.specs.declared.refusal.OpenFault.TheVariants as fault

@@ -12,7 +12,8 @@ use Rattle.farm_entry.specs.History.{opening_in, openings}
 use Rattle.farm_entry.specs.Legal.{IsLegal, ask_of}
 use Rattle.farm_entry.specs.Setup.{setup_of}
 use Rattle.farm_entry.specs.declared.entry.Entry.{Entry}
-use Rattle.farm_entry.specs.declared.limits.TheConstants.{MAX_RERUNS, MAX_WIDTH}
+use Rattle.weight_exact.specs.declared.limits.TheConstants.{MAX_WIDTH}
+use Rattle.farm_entry.specs.declared.limits.TheConstants.{MAX_RERUNS}
 use Rattle.farm_entry.specs.declared.opening.Opening.{Opening}
 use Rattle.farm_laws.proofs.EntryParts.{each_part, opened-facts}
 use Rattle.farm_laws.proofs.Made.{fits_of, is_made, range_of, within_of}

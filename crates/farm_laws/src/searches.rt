@@ -13,7 +13,8 @@ ghost use Rattle.farm_laws.specs.Laws.{IsNotBefore, culprit_of};
 ghost use Rattle.farm_entry.specs.Legal.{IsLegal};
 ghost use Rattle.farm_entry.specs.Setup.{budget_of_search, setup_of};
 ghost use Rattle.farm_entry.specs.Standing.{is_active, at_bar, standing};
-ghost use Rattle.farm_entry.specs.declared.limits.TheConstants.{MAX_RERUNS, MAX_WIDTH};
+ghost use Rattle.farm_entry.specs.declared.limits.TheConstants.{MAX_RERUNS};
+ghost use Rattle.weight_exact.specs.declared.limits.TheConstants.{MAX_WIDTH};
 ghost use Rattle.farm_entry.specs.declared.standing.Standing.TheVariants.{Searching, Verifying, Confirmed, NoCulprit};
 
 use farm_entry::{Entry, LeasedRun, Opening};

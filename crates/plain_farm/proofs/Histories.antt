@@ -17,7 +17,8 @@ use Rattle.farm_entry.specs.Legal.{IsLegal}
 use Rattle.farm_entry.specs.Setup.{setup_of}
 use Rattle.farm_entry.specs.Standing.{is_searching, standing}
 use Rattle.farm_entry.specs.declared.entry.Entry.{Entry}
-use Rattle.farm_entry.specs.declared.limits.TheConstants.{MAX_ENTRIES, MAX_WIDTH}
+use Rattle.weight_exact.specs.declared.limits.TheConstants.{MAX_WIDTH}
+use Rattle.farm_entry.specs.declared.limits.TheConstants.{MAX_ENTRIES}
 use Rattle.farm_entry.specs.declared.opening.Opening.{Opening}
 use Rattle.farm_entry.specs.declared.standing.Standing.TheVariants.{Searching, Verifying}
 use Rattle.farm_laws.proofs.Bounds.{entries-bounded}

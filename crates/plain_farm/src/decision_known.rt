@@ -1,60 +1,13 @@
 //! The decision on a command that was done before: its first reply again, or that its key was used for another.
 
 ghost use Rattle.std.specs.Prelude.{◌≡◌, ◌<◌, length, IfOk};
-ghost use Rattle.farm_entry.specs.Decision.{asks_for, key_of, known_decision, makes_opening, repeat_or_clash};
-ghost use Rattle.farm_entry.specs.Ask.{opening_of};
+ghost use Rattle.farm_entry.specs.Decision.{known_decision, repeat_or_clash};
 ghost use Rattle.farm_entry.specs.Legal.{IsLegal};
 
-use farm_entry::{Decision, Command, Entry, OpenAsk, Opening, Refusal, What};
-use farm_types::{Key, Memory};
-use plain_history::{opening_of, place_of_key, place_of_report};
+use farm_entry::{Command, Decision, Entry, Refusal};
+use farm_types::Memory;
+use plain_history::{place_of_key, place_of_report};
 use std::alloc::Global;
-use std::ops::Deref;
-
-/// The key of a command, by which it is known again.
-fn key_of(command: &Command) -> Option<Key>
-    ensures { result ≡ key_of command.now }
-{
-    match command {
-        Command::Open(ask) => Some(ask.key),
-        Command::Lease { key, .. }
-        | Command::Cancel { key, .. }
-        | Command::TakeRevert { key, .. } => Some(*key),
-        Command::Report { .. }
-        | Command::ShowSearch { .. }
-        | Command::ShowFarm
-        | Command::ShowOrders => None,
-    }
-}
-
-/// Whether an open makes this very opening, its rates being compared in lowest terms and its bar as given.
-fn makes_opening(alloc: Global, opening: &Opening, ask: &OpenAsk) -> Result<bool, Memory>
-    ensures { IfOk result (λ same. same ≡ makes_opening opening.now (opening_of ask.now opening.now.search)) }
-{
-    match opening_of(alloc, ask, opening.search)? {
-        Ok(made) => Ok(made == *opening),
-        Err(_) => Ok(false),
-    }
-}
-
-/// Whether what an entry records is what a command asks for, the key left out.
-fn asks_for(alloc: Global, what: &What, command: &Command) -> Result<bool, Memory>
-    ensures { IfOk result (λ same. same ≡ asks_for what.now command.now) }
-{
-    match (what, command) {
-        (What::Opened(opening), Command::Open(ask)) => {
-            makes_opening(alloc, opening.deref(), ask)
-        }
-        (What::Leased { worker, .. }, Command::Lease { worker: asked, .. }) => Ok(worker == asked),
-        (What::Cancelled { search, .. }, Command::Cancel { search: asked, .. }) => {
-            Ok(search == asked)
-        }
-        (What::Ordered { agent, .. }, Command::TakeRevert { agent: asked, .. }) => {
-            Ok(agent == asked)
-        }
-        _ => Ok(false),
-    }
-}
 
 /// The decision on a command whose key stands at a place.
 fn repeat_or_clash(
@@ -67,7 +20,7 @@ fn repeat_or_clash(
     requires within { place < length history.now }
     ensures { IfOk result (λ found. found ≡ repeat_or_clash history.now command.now place) }
 {
-    if asks_for(alloc, &history[place].what, command)? {
+    if history[place].what.is_asked_by(alloc, command)? {
         Ok(Decision::Repeat(place as u32))
     } else {
         Ok(Decision::Refuse(Refusal::KeyClash(place as u32)))
@@ -89,7 +42,7 @@ pub(crate) fn known_decision(
             Some(place) => Ok(Some(Decision::Repeat(place as u32))),
         };
     }
-    let Some(key) = key_of(command) else {
+    let Some(key) = command.key() else {
         return Ok(None);
     };
     match place_of_key(history, key) {

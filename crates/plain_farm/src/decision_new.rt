@@ -1,24 +1,22 @@
 //! What each command that may add an entry is for.
 
-ghost use Rattle.std.specs.Prelude.{◌≡◌, ◌++◌, ◌∷◌, [], count_by, Contains, IfOk};
+ghost use Rattle.std.specs.Prelude.{◌≡◌, count_by, Contains, IfOk};
 ghost use Rattle.weight_exact.specs.Load.{is_fail_above, last_pass, load, passed_at};
-ghost use Rattle.farm_entry.specs.Decision.{cancel_decision, fate_at, fate_of, is_past_budget, lease_decision, open_decision, report_decision, revert_decision, run_with};
+ghost use Rattle.farm_entry.specs.Decision.{cancel_decision, fate_at, fate_of, is_past_budget, lease_decision, open_decision, report_decision, revert_decision};
 ghost use Rattle.farm_entry.specs.History.{opening_numbered, openings};
 ghost use Rattle.farm_entry.specs.Legal.{IsLegal};
 ghost use Rattle.plain_farm.specs.Next.{next_as};
 
 use crate::due_run::reruns_at;
 use crate::orders::{Next, day_in};
-use crate::pages::budget_of_search;
-use crate::standings::{is_active, is_fail, standing};
+use crate::standings::standing;
 use farm_entry::{
     Decision, BoxedOpening, DueRun, Entry, Fate, LeasedRun, MAX_SEARCHES, OpenAsk, Opening, Refusal,
     Standing, What,
 };
 use farm_types::{Key, Memory, Moment, Name, Stage};
 use plain_history::{
-    all_leases_count, lease_ms, opening_numbered, opening_of, openings_count, orders_count, reruns,
-    runs, same_stage,
+    all_leases_count, lease_ms, opening_numbered, openings_count, orders_count, reruns, runs,
 };
 use std::alloc::Global;
 use weight_exact::{Factors, Run, Verdict};
@@ -37,7 +35,7 @@ pub(crate) fn open_decision(
     if MAX_SEARCHES as usize <= count {
         return Ok(Decision::Refuse(Refusal::TooManySearches));
     }
-    match opening_of(alloc, ask, count as u32 + 1)? {
+    match ask.opening(alloc, count as u32 + 1)? {
         Ok(opening) => Ok(Decision::New(Entry {
             at,
             what: What::Opened(BoxedOpening::of(alloc, opening)?),
@@ -112,7 +110,7 @@ fn fails_above(position: u16, runs: &[Run]) -> usize
 {
     let fails = runs
         .iter()
-        .filter(|run| is_fail(run.verdict) && position < run.position);
+        .filter(|run| run.verdict.is_fail() && position < run.position);
     fails.count()
 }
 
@@ -130,8 +128,7 @@ fn is_past_budget(
     let mut told = runs(alloc, history, opening.search)?;
     told.push(run)?;
     let factors = Factors::of(opening.rate, opening.miss);
-    let budget = budget_of_search(alloc, opening)?;
-    Ok((budget as usize) < load(&factors, &told))
+    Ok((opening.budget() as usize) < load(&factors, &told))
 }
 
 /// What becomes of the first report of a run, by where its search stands: late, unless it is of the stage at which the
@@ -147,19 +144,16 @@ fn fate_at(
     requires opened { Contains (openings history.now) opening.now }
     ensures { IfOk result (λ fate. fate ≡ fate_of history.now lease verdict (Some opening.now)) }
 {
-    let run = Run {
-        position: lease.position,
-        verdict,
-    };
+    let run = lease.run_with(verdict);
     match standing(alloc, history, opening)? {
-        Standing::Searching if same_stage(lease.stage, Stage::Search) => {
+        Standing::Searching if lease.is_at(Stage::Search) => {
             if is_past_budget(alloc, history, opening, run)? {
                 Ok(Fate::Over)
             } else {
                 Ok(Fate::Counted)
             }
         }
-        Standing::Verifying(_) if same_stage(lease.stage, Stage::Verify) => {
+        Standing::Verifying(_) if lease.is_at(Stage::Verify) => {
             let again = reruns(alloc, history, opening.search)?;
             if reruns_at(lease.position, &again) < usize::from(opening.reruns) {
                 Ok(Fate::Counted)
@@ -221,7 +215,7 @@ pub(crate) fn cancel_decision(
         return Ok(Decision::Refuse(Refusal::UnknownSearch(search)));
     };
     let standing = standing(alloc, history, opening)?;
-    if is_active(standing) {
+    if standing.is_active() {
         let what = What::Cancelled { key, search };
         Ok(Decision::New(Entry { at, what }))
     } else {

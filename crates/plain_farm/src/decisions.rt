@@ -2,7 +2,7 @@
 
 ghost use Rattle.std.specs.Prelude.{◌≡◌, IfOk};
 ghost use Rattle.farm_entry.specs.History.{opening_numbered};
-ghost use Rattle.farm_entry.specs.Decision.{decide, full_decision, is_show, known_decision, last_moment, later, moment_used, own_decision, page_decision, shape_decision};
+ghost use Rattle.farm_entry.specs.Decision.{decide, full_decision, known_decision, own_decision, page_decision, shape_decision};
 ghost use Rattle.farm_entry.specs.Legal.{IsLegal};
 
 use crate::decision_known::known_decision;
@@ -10,42 +10,17 @@ use crate::decision_new::{cancel_decision, lease_decision, open_decision, report
 use crate::due_run::next_run;
 use crate::orders::next_order_at;
 use crate::pages::{order_page, page_of, totals};
-use farm_entry::{Decision, Command, Entry, MAX_ENTRIES, Refusal, Reply};
+use farm_entry::{Command, Decision, Entry, MAX_ENTRIES, Refusal, Reply, moment_used};
 use farm_types::{Memory, Moment};
-use plain_history::{lease_of, opening_numbered, opening_of};
+use plain_history::{lease_of, opening_numbered};
 use std::alloc::Global;
-
-/// The later of two moments.
-fn later(a: Moment, b: Moment) -> Moment
-    ensures { result ≡ later a b }
-{
-    if a.ms() <= b.ms() { b } else { a }
-}
-
-/// The moment of the last entry, or this one where there is none.
-fn last_moment(at: Moment, history: &[Entry]) -> Moment
-    ensures { result ≡ last_moment at history.now }
-{
-    let mut last = at;
-    for entry in history {
-        last = entry.at;
-    }
-    last
-}
-
-/// The moment at which a command is decided: moments never fall.
-pub fn moment_used(history: &[Entry], at: Moment) -> Moment
-    ensures { result ≡ moment_used history.now at }
-{
-    later(last_moment(at, history), at)
-}
 
 /// First the shape of an open, which needs no history.
 fn shape_decision(alloc: Global, command: &Command) -> Result<Option<Decision>, Memory>
     ensures { IfOk result (λ found. found ≡ shape_decision command.now) }
 {
     match command {
-        Command::Open(ask) => match opening_of(alloc, ask, 0)? {
+        Command::Open(ask) => match ask.opening(alloc, 0)? {
             Ok(_) => Ok(None),
             Err(fault) => Ok(Some(Decision::Refuse(Refusal::BadOpen(fault)))),
         },
@@ -53,21 +28,11 @@ fn shape_decision(alloc: Global, command: &Command) -> Result<Option<Decision>, 
     }
 }
 
-/// Whether a command only shows something.
-fn is_show(command: &Command) -> bool
-    ensures { result ≡ is_show command.now }
-{
-    match command {
-        Command::ShowSearch { .. } | Command::ShowFarm | Command::ShowOrders => true,
-        _ => false,
-    }
-}
-
 /// Then a full history, which still shows.
 fn full_decision(history: &[Entry], command: &Command) -> Option<Decision>
     ensures { result ≡ full_decision history.now command.now }
 {
-    if MAX_ENTRIES <= history.len() && !is_show(command) {
+    if MAX_ENTRIES <= history.len() && !command.is_show() {
         Some(Decision::Refuse(Refusal::Full))
     } else {
         None
@@ -101,7 +66,7 @@ fn own_decision(
     match command {
         Command::Open(ask) => open_decision(alloc, history, ask, at),
         Command::Lease { key, worker } => {
-            let run = next_run(alloc, history, at.ms())?;
+            let run = next_run(alloc, history, at)?;
             lease_decision(history, *key, worker, at, run)
         }
         Command::Report { run, verdict } => {

@@ -1,12 +1,13 @@
-//! Which runs are out at a moment, and which run is due. A moment is in milliseconds since 1970-01-01 in UTC.
+//! Which runs are out at a moment, and which run is due.
 
 ghost use Rattle.std.specs.Prelude.{◌≡◌, ◌≤◌, length, vec_len, Contains, IfOk};
 ghost use Rattle.std.specs.Option.{option_and_then};
 ghost use Rattle.farm_rules.specs.Reruns.{reruns_at};
+ghost use Rattle.farm_types.specs.Moment.{moment_ms};
 ghost use Rattle.farm_types.specs.declared.stage.Stage.TheVariants.{Search, Verify};
 ghost use Rattle.weight_exact.specs.Plan.{plan};
 ghost use Rattle.posterior.specs.StandsFor.{StandsFor};
-ghost use Rattle.farm_entry.specs.Due.{due, due_at, due_runs, due_searching, due_verifying, is_open, next_run, open_leases, open_positions, sooner, soonest};
+ghost use Rattle.farm_entry.specs.Due.{due, due_runs, due_searching, due_verifying, is_open, next_run, open_leases, open_positions, sooner, soonest};
 ghost use Rattle.farm_entry.specs.History.{opening_in, openings, runs};
 ghost use Rattle.farm_entry.specs.Legal.{IsLegal};
 ghost use Rattle.farm_entry.specs.Setup.{setup_of};
@@ -16,8 +17,8 @@ ghost use Rattle.farm_entry.specs.declared.standing.Standing.TheVariants.{Search
 
 use crate::standings::{belief, standing};
 use farm_entry::{DueRun, Entry, LeasedRun, Opening, Standing, What};
-use farm_types::{Memory, Stage};
-use plain_history::{is_reported, last_lease, leases, opening_in, push_some, reruns, same_stage};
+use farm_types::{Memory, Moment, Stage};
+use plain_history::{is_reported, last_lease, leases, push_some, reruns};
 use posterior::Belief;
 use run_plan::{due_search, due_verify};
 use std::alloc::Global;
@@ -25,10 +26,10 @@ use threshold_pick::plan_uncounted;
 use weight_exact::Run;
 
 /// Whether a lease is open at a moment: its run has no report, and its deadline lies later.
-pub fn is_open(history: &[Entry], moment: u64, lease: LeasedRun) -> bool
-    ensures { result ≡ is_open history.now moment lease }
+pub fn is_open(history: &[Entry], moment: Moment, lease: LeasedRun) -> bool
+    ensures { result ≡ is_open history.now (moment_ms moment) lease }
 {
-    !is_reported(history, lease.run) && moment < lease.deadline
+    !is_reported(history, lease.run) && moment.ms() < lease.deadline
 }
 
 /// The open leases of a search at a stage.
@@ -37,13 +38,13 @@ pub fn open_leases(
     history: &[Entry],
     search: u32,
     stage: Stage,
-    moment: u64,
+    moment: Moment,
 ) -> Result<Vec<LeasedRun>, Memory>
-    ensures { IfOk result (λ found. found.items ≡ open_leases history.now search stage moment) }
+    ensures { IfOk result (λ found. found.items ≡ open_leases history.now search stage (moment_ms moment)) }
 {
     let all = leases(alloc, history, search)?;
     let open = all.iter().copied().filter(|lease| {
-        same_stage(lease.stage, stage) && is_open(history, moment, *lease)
+        lease.is_at(stage) && is_open(history, moment, *lease)
     });
     Ok(open.collect(alloc)?)
 }
@@ -54,9 +55,9 @@ pub fn open_positions(
     history: &[Entry],
     search: u32,
     stage: Stage,
-    moment: u64,
+    moment: Moment,
 ) -> Result<Vec<u16>, Memory>
-    ensures { IfOk result (λ found. found.items ≡ open_positions history.now search stage moment) }
+    ensures { IfOk result (λ found. found.items ≡ open_positions history.now search stage (moment_ms moment)) }
 {
     let open = open_leases(alloc, history, search, stage, moment)?;
     Ok(open.iter().map(|lease| lease.position).collect(alloc)?)
@@ -104,12 +105,12 @@ fn due_searching(
     alloc: Global,
     history: &[Entry],
     opening: &Opening,
-    moment: u64,
+    moment: Moment,
 ) -> Result<Option<u16>, Memory>
     requires legal { IsLegal history.now }
     requires opened { Contains (openings history.now) opening.now }
     requires searching { standing history.now opening.now ≡ Searching }
-    ensures { IfOk result (λ position. position ≡ due_searching history.now opening.now moment) }
+    ensures { IfOk result (λ position. position ≡ due_searching history.now opening.now (moment_ms moment)) }
 {
     let plan = plan(alloc, history, opening)?;
     let open = open_positions(alloc, history, opening.search, Stage::Search, moment)?;
@@ -129,10 +130,10 @@ fn due_verifying(
     history: &[Entry],
     opening: &Opening,
     culprit: u16,
-    moment: u64,
+    moment: Moment,
 ) -> Result<Option<u16>, Memory>
     requires { 1 ≤ culprit }
-    ensures { IfOk result (λ position. position ≡ due_verifying history.now opening.now culprit moment) }
+    ensures { IfOk result (λ position. position ≡ due_verifying history.now opening.now culprit (moment_ms moment)) }
 {
     let again = reruns(alloc, history, opening.search)?;
     let open = open_positions(alloc, history, opening.search, Stage::Verify, moment)?;
@@ -148,11 +149,11 @@ pub fn due(
     alloc: Global,
     history: &[Entry],
     opening: &Opening,
-    moment: u64,
+    moment: Moment,
 ) -> Result<Option<DueRun>, Memory>
     requires legal { IsLegal history.now }
     requires opened { Contains (openings history.now) opening.now }
-    ensures { IfOk result (λ run. run ≡ due history.now opening.now moment) }
+    ensures { IfOk result (λ run. run ≡ due history.now opening.now (moment_ms moment)) }
 {
     let (stage, position) = match standing(alloc, history, opening)? {
         Standing::Searching => {
@@ -178,22 +179,22 @@ fn due_in(
     alloc: Global,
     history: &[Entry],
     what: &What,
-    moment: u64,
+    moment: Moment,
 ) -> Result<Option<DueRun>, Memory>
     requires legal { IsLegal history.now }
     requires held { IsHeld history.now what.now }
-    ensures { IfOk result (λ run. run ≡ option_and_then (λ o. due history.now o moment) (opening_in what.now)) }
+    ensures { IfOk result (λ run. run ≡ option_and_then (λ o. due history.now o (moment_ms moment)) (opening_in what.now)) }
 {
-    match opening_in(what) {
+    match what.opening() {
         None => Ok(None),
         Some(opening) => due(alloc, history, opening, moment),
     }
 }
 
 /// The due runs of all searches, by the numbers of the searches.
-pub fn due_runs(alloc: Global, history: &[Entry], moment: u64) -> Result<Vec<DueRun>, Memory>
+pub fn due_runs(alloc: Global, history: &[Entry], moment: Moment) -> Result<Vec<DueRun>, Memory>
     requires { IsLegal history.now }
-    ensures { IfOk result (λ found. found.items ≡ due_runs history.now moment) }
+    ensures { IfOk result (λ found. found.items ≡ due_runs history.now (moment_ms moment)) }
 {
     let mut found = Vec::new(alloc);
     for entry in history {
@@ -224,9 +225,9 @@ fn soonest(history: &[Entry], runs: &[DueRun]) -> Option<DueRun>
 
 /// The run that is handed out next, over all searches. A search that was never leased comes before all others, and of
 /// two such searches the smaller number.
-pub fn next_run(alloc: Global, history: &[Entry], moment: u64) -> Result<Option<DueRun>, Memory>
+pub fn next_run(alloc: Global, history: &[Entry], moment: Moment) -> Result<Option<DueRun>, Memory>
     requires { IsLegal history.now }
-    ensures { IfOk result (λ run. run ≡ next_run history.now moment) }
+    ensures { IfOk result (λ run. run ≡ next_run history.now (moment_ms moment)) }
 {
     let runs = due_runs(alloc, history, moment)?;
     Ok(soonest(history, &runs))

@@ -11,7 +11,7 @@
 //! It stands on `plain_history` for what a history holds, on `farm_entry` for the types and the definitions, on
 //! `posterior`, `threshold_pick` and `run_plan` for the belief of a search and the position to run next, on
 //! `revert_orders` for the day of a moment, and on the crates below them for values. The layer above may use every name
-//! below. Its tests stand in `finder_tests`.
+//! below. Its tests stand in `farm_tests`.
 #![tactic(auto)]
 
 mod decision_known;
@@ -24,10 +24,10 @@ mod pages;
 mod reply;
 mod standings;
 
-pub use decisions::{decide, moment_used};
+pub use decisions::decide;
 pub use due_run::{due, due_runs, is_open, next_run, open_leases, open_positions, plan};
-pub use legal::{command_of, first_illegal, is_next};
+pub use legal::{first_illegal, is_next};
 pub use orders::{Confirmed, Next, confirmed_searches, day_in, next_order_at};
-pub use pages::{budget_of_search, order_page, page_of, shares_of, totals};
+pub use pages::{order_page, page_of, shares_of, totals};
 pub use reply::{reply_at, reply_to};
-pub use standings::{belief, first_belief, named_commit, standing};
+pub use standings::{belief, first_belief, standing};

@@ -2,7 +2,7 @@
 
 ghost use Rattle.std.specs.Prelude.{◌≡◌, map, IfOk};
 ghost use Rattle.std.specs.Option.{option_and_then, option_map};
-ghost use Rattle.farm_rules.specs.Orders.{candidates, earlier, earliest, has_order, next_order, orders_of};
+ghost use Rattle.farm_rules.specs.Orders.{candidates, earlier, earliest, has_order, orders_of};
 ghost use Rattle.farm_types.specs.CommitId.{same_id};
 ghost use Rattle.farm_types.specs.Moment.{moment_ms};
 ghost use Rattle.farm_entry.specs.History.{opening_in};
@@ -12,10 +12,10 @@ ghost use Rattle.farm_entry.specs.Standing.{standing};
 ghost use Rattle.plain_history.specs.Held.{IsHeld};
 ghost use Rattle.plain_farm.specs.Next.{confirmed_as, next_as, searches_as};
 
-use crate::standings::{commit_of, standing};
+use crate::standings::standing;
 use farm_entry::{Entry, Opening, OrderLine, Standing, What};
 use farm_types::{CommitId, Memory, Moment};
-use plain_history::{daily_limit, opening_in, order_lines, push_some, zone_minutes};
+use plain_history::{daily_limit, order_lines, push_some, zone_minutes};
 use revert_orders::day_of;
 use std::alloc::Global;
 
@@ -55,7 +55,7 @@ fn confirmed_at(standing: Standing, opening: &Opening) -> Option<Confirmed>
     match standing {
         Standing::Confirmed(culprit) => Some(Confirmed {
             search: opening.search,
-            commit: commit_of(opening, culprit),
+            commit: opening.commit(culprit),
         }),
         _ => None,
     }
@@ -68,7 +68,7 @@ fn confirmed_in(alloc: Global, history: &[Entry], what: &What) -> Result<Option<
     ensures { IfOk result (λ found. option_map confirmed_as found
         ≡ option_and_then (λ o. confirmed_at (standing history.now o) o) (opening_in what.now)) }
 {
-    match opening_in(what) {
+    match what.opening() {
         None => Ok(None),
         Some(opening) => {
             let standing = standing(alloc, history, opening)?;

@@ -4,32 +4,18 @@ ghost use Rattle.std.specs.Prelude.{◌≡◌, map, count_by, Contains, IfOk};
 ghost use Rattle.std.specs.Option.{option_map};
 ghost use Rattle.plain_history.specs.Held.{IsHeld};
 ghost use Rattle.plain_history.specs.Tests.{is_some_and};
-ghost use Rattle.flake_rate.specs.Miss.{FitsRate};
 ghost use Rattle.farm_entry.specs.History.{is_counted, opening_in, openings, order_lines, report_in, reports};
 ghost use Rattle.farm_entry.specs.Legal.{IsLegal};
 ghost use Rattle.farm_entry.specs.Pages.{is_ended_otherwise, page_of, shares_of, totals};
-ghost use Rattle.farm_entry.specs.Setup.{budget_of_search};
 ghost use Rattle.farm_entry.specs.Standing.{is_confirmed, is_searching, is_verifying, standing};
 
-use crate::standings::{
-    belief, first_belief, is_active, is_confirmed, is_searching, is_verifying, named_commit,
-    standing,
-};
+use crate::standings::{belief, standing};
 use farm_entry::{Entry, Opening, OrderPage, SearchPage, Shares, Standing, Totals, What};
 use farm_types::Memory;
 use plain_history::{
-    is_counted, leases, opening_in, openings_count, order_lines, orders_count, push_some,
-    report_in, reruns, runs,
+    leases, openings_count, order_lines, orders_count, push_some, reruns, runs,
 };
 use std::alloc::Global;
-
-/// How many runs the exact arithmetic of a search has room for.
-pub fn budget_of_search(alloc: Global, opening: &Opening) -> Result<u32, Memory>
-    requires told { FitsRate opening.now.miss opening.now.rate }
-    ensures { IfOk result (λ budget. budget ≡ budget_of_search opening.now) }
-{
-    Ok(first_belief(alloc, opening)?.budget())
-}
 
 /// The shares of all hypotheses of a search in basis points, that of "no culprit" last.
 pub fn shares_of(alloc: Global, history: &[Entry], opening: &Opening) -> Result<Shares, Memory>
@@ -55,12 +41,12 @@ pub fn page_of(alloc: Global, history: &[Entry], opening: &Opening) -> Result<Se
     Ok(SearchPage {
         search: opening.search,
         test: opening.test.copy()?,
-        budget: budget_of_search(alloc, opening)?,
+        budget: opening.budget(),
         leases: leases(alloc, history, opening.search)?.len() as u32,
         counted: runs(alloc, history, opening.search)?.len() as u32,
         verified: reruns(alloc, history, opening.search)?.len() as u32,
         standing,
-        commit: named_commit(opening, standing),
+        commit: opening.named_commit(standing),
         shares: shares_of(alloc, history, opening)?,
     })
 }
@@ -71,7 +57,7 @@ fn standing_in(alloc: Global, history: &[Entry], what: &What) -> Result<Option<S
     requires held { IsHeld history.now what.now }
     ensures { IfOk result (λ found. found ≡ option_map (standing history.now) (opening_in what.now)) }
 {
-    match opening_in(what) {
+    match what.opening() {
         None => Ok(None),
         Some(opening) => Ok(Some(standing(alloc, history, opening)?)),
     }
@@ -89,39 +75,32 @@ fn standings(alloc: Global, history: &[Entry]) -> Result<Vec<Standing>, Memory>
     Ok(found)
 }
 
-/// Whether a search has ended in another way than with a confirmed culprit.
-fn is_ended_otherwise(standing: Standing) -> bool
-    ensures { result ≡ is_ended_otherwise standing }
-{
-    !is_active(standing) && !is_confirmed(standing)
-}
-
 /// How many searches are looking for their culprit.
 fn count_searching(found: &[Standing]) -> usize
     ensures { result ≡ count_by is_searching found.now }
 {
-    found.iter().filter(|one| is_searching(**one)).count()
+    found.iter().filter(|one| one.is_searching()).count()
 }
 
 /// How many searches verify their culprit.
 fn count_verifying(found: &[Standing]) -> usize
     ensures { result ≡ count_by is_verifying found.now }
 {
-    found.iter().filter(|one| is_verifying(**one)).count()
+    found.iter().filter(|one| one.is_verifying()).count()
 }
 
 /// How many searches have a confirmed culprit.
 fn count_confirmed(found: &[Standing]) -> usize
     ensures { result ≡ count_by is_confirmed found.now }
 {
-    found.iter().filter(|one| is_confirmed(**one)).count()
+    found.iter().filter(|one| one.is_confirmed()).count()
 }
 
 /// How many searches have ended in another way than with a confirmed culprit.
 fn count_ended(found: &[Standing]) -> usize
     ensures { result ≡ count_by is_ended_otherwise found.now }
 {
-    found.iter().filter(|one| is_ended_otherwise(**one)).count()
+    found.iter().filter(|one| one.is_ended_otherwise()).count()
 }
 
 /// How many reports counted, at both stages.
@@ -138,9 +117,9 @@ fn counted_reports(history: &[Entry]) -> usize
 fn is_counted_report(what: &What) -> bool
     ensures { result ≡ is_some_and (λ r. is_counted r.fate) (report_in what.now) }
 {
-    match report_in(what) {
+    match what.report() {
         None => false,
-        Some(report) => is_counted(report.fate),
+        Some(report) => report.fate.is_counted(),
     }
 }
 

@@ -8,8 +8,7 @@ ghost use Rattle.farm_entry.specs.Legal.{IsLegal};
 ghost use Rattle.plain_history.specs.Held.{IsHeld};
 ghost use Rattle.farm_entry.specs.Reply.{reply_at, reply_to, reply_to_report};
 
-use crate::pages::budget_of_search;
-use crate::standings::{commit_of, standing};
+use crate::standings::standing;
 use farm_entry::{Entry, Fate, LeasedRun, Opening, Reply, What};
 use farm_types::Memory;
 use plain_history::{lease_of, opening_numbered};
@@ -25,7 +24,7 @@ fn reply_to_opening(alloc: Global, history: &[Entry], opening: &Opening) -> Resu
 {
     Ok(Reply::Opened {
         search: opening.search,
-        budget: budget_of_search(alloc, opening)?,
+        budget: opening.budget(),
         standing: standing(alloc, history, opening)?,
     })
 }
@@ -44,7 +43,7 @@ fn reply_to_lease(history: &[Entry], lease: LeasedRun) -> Result<Option<Reply>, 
         search: lease.search,
         stage: lease.stage,
         position: lease.position,
-        commit: commit_of(opening, lease.position),
+        commit: opening.commit(lease.position),
         test: opening.test.copy()?,
         deadline: lease.deadline,
     }))

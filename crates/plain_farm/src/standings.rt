@@ -4,24 +4,23 @@ ghost use Rattle.std.specs.Prelude.{◌≡◌, ◌≤◌, [], map, count_by, Con
 ghost use Rattle.flake_rate.specs.Miss.{FitsRate};
 ghost use Rattle.farm_rules.specs.Reruns.{enough, is_against, outcome, vindicated};
 ghost use Rattle.weight_exact.specs.Counts.{is_fail_at, is_pass_at};
-ghost use Rattle.weight_exact.specs.Load.{is_fail};
 ghost use Rattle.weight_exact.specs.Weights.{AreInRange};
 ghost use Rattle.posterior.specs.StandsFor.{StandsFor};
 ghost use Rattle.farm_entry.specs.History.{openings, runs};
 ghost use Rattle.farm_entry.specs.Legal.{IsLegal};
-ghost use Rattle.farm_entry.specs.Setup.{commit_of, setup_of};
-ghost use Rattle.farm_entry.specs.Standing.{is_active, is_confirmed, is_searching, is_verifying, named_commit, standing, standing_of_outcome, standing_of_reached};
+ghost use Rattle.farm_entry.specs.Setup.{setup_of};
+ghost use Rattle.farm_entry.specs.Standing.{standing, standing_of_outcome, standing_of_reached};
 ghost use Rattle.plain_farm.specs.Loads.{LoadsFit};
 
 use farm_entry::{Entry, Opening, Standing};
-use farm_types::{CommitId, Memory};
+use farm_types::Memory;
 use plain_history::{reruns, runs, was_cancelled, went_over};
 use posterior::Belief;
 use std::alloc::Global;
 use std::marker::Brand;
 use std::sync::ledger::{Blank, Ledger};
 use suspect_range::Suspect;
-use weight_exact::{Run, Steps, Verdict};
+use weight_exact::{Run, Steps};
 
 // What the runs say.
 
@@ -91,28 +90,18 @@ fn tell<L: Ledger>(belief: &mut Belief, told: &[Run], blank: Blank)
 
 // What the reruns say.
 
-/// Whether a verdict is a fail.
-pub(crate) fn is_fail(verdict: Verdict) -> bool
-    ensures { result ≡ is_fail verdict }
-{
-    match verdict {
-        Verdict::Fail => true,
-        Verdict::Pass => false,
-    }
-}
-
 /// Whether a run failed at a position.
 fn is_fail_at(position: u16, run: Run) -> bool
     ensures { result ≡ is_fail_at position run }
 {
-    is_fail(run.verdict) && run.position == position
+    run.verdict.is_fail() && run.position == position
 }
 
 /// Whether a run passed at a position.
 fn is_pass_at(position: u16, run: Run) -> bool
     ensures { result ≡ is_pass_at position run }
 {
-    !is_fail(run.verdict) && run.position == position
+    !run.verdict.is_fail() && run.position == position
 }
 
 /// Whether a rerun speaks against the culprit: it passed with the culprit in its tree, or failed with it out.
@@ -203,65 +192,3 @@ pub fn standing(alloc: Global, history: &[Entry], opening: &Opening) -> Result<S
     Ok(standing_of_reached(opening, &again, belief.reached()))
 }
 
-/// Whether a search is looking for its culprit.
-pub(crate) fn is_searching(standing: Standing) -> bool
-    ensures { result ≡ is_searching standing }
-{
-    match standing {
-        Standing::Searching => true,
-        _ => false,
-    }
-}
-
-/// Whether a search verifies its culprit.
-pub(crate) fn is_verifying(standing: Standing) -> bool
-    ensures { result ≡ is_verifying standing }
-{
-    match standing {
-        Standing::Verifying(_) => true,
-        _ => false,
-    }
-}
-
-/// Whether the culprit of a search is confirmed.
-pub(crate) fn is_confirmed(standing: Standing) -> bool
-    ensures { result ≡ is_confirmed standing }
-{
-    match standing {
-        Standing::Confirmed(_) => true,
-        _ => false,
-    }
-}
-
-/// Whether a search goes on.
-pub(crate) fn is_active(standing: Standing) -> bool
-    ensures { result ≡ is_active standing }
-{
-    match standing {
-        Standing::Searching | Standing::Verifying(_) => true,
-        _ => false,
-    }
-}
-
-/// The commit at a position of a search's range.
-pub(crate) fn commit_of(opening: &Opening, position: u16) -> CommitId
-    ensures { result ≡ commit_of opening.now position }
-{
-    if usize::from(position) <= opening.range.len() {
-        opening.range.commit(usize::from(position))
-    } else {
-        opening.range.commit(0)
-    }
-}
-
-/// The commit of the suspect that a standing names, if it names one.
-pub fn named_commit(opening: &Opening, standing: Standing) -> Option<CommitId>
-    ensures { result ≡ named_commit opening.now standing }
-{
-    match standing {
-        Standing::Verifying(culprit)
-        | Standing::Confirmed(culprit)
-        | Standing::Vindicated(culprit) => Some(commit_of(opening, culprit)),
-        _ => None,
-    }
-}

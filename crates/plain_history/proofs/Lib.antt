@@ -1,4 +1,3 @@
-pub mod Asked
 pub mod Holding
 pub mod Items
 pub mod Passes

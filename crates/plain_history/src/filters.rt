@@ -3,13 +3,10 @@
 
 ghost use Rattle.std.specs.Prelude.{◌≡◌, ◌<◌, length, Contains, IfSome, IfOk};
 ghost use Rattle.std.specs.Option.{option_copied};
-ghost use Rattle.farm_entry.specs.History.{all_leases, counted, counted_run, has_key, is_counted, is_lease_for, is_of_search, is_over, is_report_of, is_reported, last_lease, lease_of, leases, opening_numbered, openings, order_lines, place_of_key, place_of_report, reruns, run_of, runs, same_stage, was_cancelled, went_over};
+ghost use Rattle.farm_entry.specs.History.{all_leases, counted, counted_run, has_key, is_lease_for, is_of_search, is_report_of, is_reported, last_lease, lease_of, leases, opening_numbered, openings, order_lines, place_of_key, place_of_report, reruns, run_of, runs, was_cancelled, went_over};
 
-use crate::entries::{
-    cancelled_in, is_opening, is_order, key_in, lease_in, opening_in, order_in, report_in,
-};
 use crate::lists::push_some;
-use farm_entry::{Entry, Fate, LeasedRun, Opening, OrderLine, ReportedRun};
+use farm_entry::{Entry, LeasedRun, Opening, OrderLine, ReportedRun};
 use farm_types::{Key, Memory, Stage};
 use std::alloc::Global;
 use weight_exact::{Run, Verdict};
@@ -18,7 +15,7 @@ use weight_exact::{Run, Verdict};
 pub fn openings_count(history: &[Entry]) -> usize
     ensures { result ≡ length (openings history.now) }
 {
-    let openings = history.iter().filter(|entry| is_opening(&entry.what));
+    let openings = history.iter().filter(|entry| entry.what.is_opening());
     openings.count()
 }
 
@@ -26,7 +23,7 @@ pub fn openings_count(history: &[Entry]) -> usize
 pub fn all_leases_count(history: &[Entry]) -> usize
     ensures { result ≡ length (all_leases history.now) }
 {
-    let leases = history.iter().filter_map(|entry| lease_in(&entry.what));
+    let leases = history.iter().filter_map(|entry| entry.what.lease());
     leases.count()
 }
 
@@ -34,7 +31,7 @@ pub fn all_leases_count(history: &[Entry]) -> usize
 pub fn orders_count(history: &[Entry]) -> usize
     ensures { result ≡ length (order_lines history.now) }
 {
-    let orders = history.iter().filter(|entry| is_order(&entry.what));
+    let orders = history.iter().filter(|entry| entry.what.is_order());
     orders.count()
 }
 
@@ -44,7 +41,7 @@ pub fn opening_numbered(history: &[Entry], search: u32) -> Option<&Opening>
     ensures held { IfSome result (λ opening. Contains (openings history.now) opening.now) }
 {
     for entry in history {
-        if let Some(opening) = opening_in(&entry.what)
+        if let Some(opening) = entry.what.opening()
             && opening.search == search
         {
             return Some(opening);
@@ -57,7 +54,7 @@ pub fn opening_numbered(history: &[Entry], search: u32) -> Option<&Opening>
 pub fn lease_of(history: &[Entry], run: u32) -> Option<LeasedRun>
     ensures { result ≡ lease_of history.now run }
 {
-    let mut leases = history.iter().filter_map(|entry| lease_in(&entry.what));
+    let mut leases = history.iter().filter_map(|entry| entry.what.lease());
     leases.find(|lease| lease.run == run)
 }
 
@@ -65,7 +62,7 @@ pub fn lease_of(history: &[Entry], run: u32) -> Option<LeasedRun>
 pub fn leases(alloc: Global, history: &[Entry], search: u32) -> Result<Vec<LeasedRun>, Memory>
     ensures { IfOk result (λ found. found.items ≡ leases history.now search) }
 {
-    let leases = history.iter().filter_map(|entry| lease_in(&entry.what));
+    let leases = history.iter().filter_map(|entry| entry.what.lease());
     Ok(
         leases
             .filter(|lease| lease.search == search)
@@ -77,49 +74,16 @@ pub fn leases(alloc: Global, history: &[Entry], search: u32) -> Result<Vec<Lease
 pub fn is_reported(history: &[Entry], run: u32) -> bool
     ensures { result ≡ is_reported history.now run }
 {
-    let mut reports = history.iter().filter_map(|entry| report_in(&entry.what));
+    let mut reports = history.iter().filter_map(|entry| entry.what.report());
     reports.any(|report| report.run == run)
-}
-
-/// Whether two stages are the same.
-pub fn same_stage(a: Stage, b: Stage) -> bool
-    ensures { result ≡ same_stage a b }
-{
-    match (a, b) {
-        (Stage::Search, Stage::Search) | (Stage::Verify, Stage::Verify) => true,
-        _ => false,
-    }
-}
-
-/// Whether a report counts.
-pub fn is_counted(fate: Fate) -> bool
-    ensures { result ≡ is_counted fate }
-{
-    match fate {
-        Fate::Counted => true,
-        _ => false,
-    }
-}
-
-/// Whether a report took its search past its budget.
-fn is_over(fate: Fate) -> bool
-    ensures { result ≡ is_over fate }
-{
-    match fate {
-        Fate::Over => true,
-        _ => false,
-    }
 }
 
 /// A lease's run with its verdict, where the lease is of a search at a stage.
 fn run_of(search: u32, stage: Stage, verdict: Verdict, lease: LeasedRun) -> Option<Run>
     ensures { result ≡ run_of search stage verdict lease }
 {
-    if lease.search == search && same_stage(lease.stage, stage) {
-        Some(Run {
-            position: lease.position,
-            verdict,
-        })
+    if lease.search == search && lease.is_at(stage) {
+        Some(lease.run_with(verdict))
     } else {
         None
     }
@@ -129,7 +93,7 @@ fn run_of(search: u32, stage: Stage, verdict: Verdict, lease: LeasedRun) -> Opti
 fn counted_run(history: &[Entry], search: u32, stage: Stage, report: ReportedRun) -> Option<Run>
     ensures { result ≡ counted_run history.now search stage report }
 {
-    if !is_counted(report.fate) {
+    if !report.fate.is_counted() {
         return None;
     }
     match lease_of(history, report.run) {
@@ -147,7 +111,7 @@ pub fn counted(
 ) -> Result<Vec<Run>, Memory>
     ensures { IfOk result (λ found. found.items ≡ counted history.now search stage) }
 {
-    let reports = history.iter().filter_map(|entry| report_in(&entry.what));
+    let reports = history.iter().filter_map(|entry| entry.what.report());
     Ok(
         reports
             .filter_map(|report| counted_run(history, search, stage, report))
@@ -183,9 +147,9 @@ fn is_of_search(search: u32, lease: Option<LeasedRun>) -> bool
 pub fn went_over(history: &[Entry], search: u32) -> bool
     ensures { result ≡ went_over history.now search }
 {
-    let mut reports = history.iter().filter_map(|entry| report_in(&entry.what));
+    let mut reports = history.iter().filter_map(|entry| entry.what.report());
     reports.any(|report| {
-        is_over(report.fate) && is_of_search(search, lease_of(history, report.run))
+        report.fate.is_over() && is_of_search(search, lease_of(history, report.run))
     })
 }
 
@@ -193,7 +157,7 @@ pub fn went_over(history: &[Entry], search: u32) -> bool
 pub fn was_cancelled(history: &[Entry], search: u32) -> bool
     ensures { result ≡ was_cancelled history.now search }
 {
-    let mut cancellations = history.iter().filter_map(|entry| cancelled_in(&entry.what));
+    let mut cancellations = history.iter().filter_map(|entry| entry.what.cancelled());
     cancellations.any(|cancelled| cancelled == search)
 }
 
@@ -201,7 +165,7 @@ pub fn was_cancelled(history: &[Entry], search: u32) -> bool
 fn is_lease_for(search: u32, entry: &Entry) -> bool
     ensures { result ≡ is_lease_for search entry.now }
 {
-    is_of_search(search, lease_in(&entry.what))
+    is_of_search(search, entry.what.lease())
 }
 
 /// The place of a search's last lease, or 0, where no lease can stand, if it was never leased.
@@ -221,7 +185,7 @@ pub fn last_lease(history: &[Entry], search: u32) -> usize
 fn has_key(key: Key, entry: &Entry) -> bool
     ensures { result ≡ has_key key entry.now }
 {
-    match key_in(&entry.what) {
+    match entry.what.key() {
         None => false,
         Some(other) => other.0 == key.0,
     }
@@ -239,7 +203,7 @@ pub fn place_of_key(history: &[Entry], key: Key) -> Option<usize>
 fn is_report_of(run: u32, entry: &Entry) -> bool
     ensures { result ≡ is_report_of run entry.now }
 {
-    match report_in(&entry.what) {
+    match entry.what.report() {
         None => false,
         Some(report) => report.run == run,
     }
@@ -259,7 +223,7 @@ pub fn order_lines(alloc: Global, history: &[Entry]) -> Result<Vec<OrderLine>, M
 {
     let mut lines = Vec::new(alloc);
     for entry in history {
-        push_some(&mut lines, order_in(&entry.what)?)?;
+        push_some(&mut lines, entry.what.order()?)?;
     }
     Ok(lines)
 }

@@ -4,7 +4,6 @@ ghost use Rattle.std.specs.Prelude.{◌≡◌};
 ghost use Rattle.farm_entry.specs.History.{daily_limit, lease_ms, settings_of, zone_minutes};
 ghost use Rattle.farm_entry.specs.Limits.{IsZone};
 
-use crate::entries::settings_in;
 use farm_entry::{Entry, Settings};
 
 /// What the farm was founded with, which its first entry says.
@@ -13,7 +12,7 @@ pub fn settings_of(history: &[Entry]) -> Option<Settings>
 {
     match history {
         [] => None,
-        [first, ..] => settings_in(&first.what),
+        [first, ..] => first.what.settings(),
     }
 }
 

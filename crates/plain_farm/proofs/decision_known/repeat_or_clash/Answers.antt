@@ -15,11 +15,11 @@ overflow_cast-result-else-branch c = omega (arith, c.requires.within, few_entrie
 pub returns-then-branch : goal.returns-then-branch
 returns-then-branch c =
     let there = slice_get_read c.args.history.now _ c.args.place c.index-history-place.result refl c.requires.within c.index-history-place.is in
-    sym (repeats_or_clashes c.args.history.now c.args.command.now c.args.place c.index-history-place.result c.in_ok-asks_for.field-0 true there
-    (c.in_ok-asks_for.ensures ∙ ap (λ (e : Entry). asks_for e.what c.args.command.now) (sym c.index-history-place.is)) c.if-branch.true)
+    sym (repeats_or_clashes c.args.history.now c.args.command.now c.args.place c.index-history-place.result c.in_ok-is_asked_by.field-0 true there
+    (c.in_ok-is_asked_by.ensures ∙ ap (λ (e : Entry). asks_for e.what c.args.command.now) (sym c.index-history-place.is)) c.if-branch.true)
 
 pub returns-else-branch : goal.returns-else-branch
 returns-else-branch c =
     let there = slice_get_read c.args.history.now _ c.args.place c.index-history-place.result refl c.requires.within c.index-history-place.is in
-    sym (repeats_or_clashes c.args.history.now c.args.command.now c.args.place c.index-history-place.result c.in_ok-asks_for.field-0 false there
-    (c.in_ok-asks_for.ensures ∙ ap (λ (e : Entry). asks_for e.what c.args.command.now) (sym c.index-history-place.is)) c.if-branch.false)
+    sym (repeats_or_clashes c.args.history.now c.args.command.now c.args.place c.index-history-place.result c.in_ok-is_asked_by.field-0 false there
+    (c.in_ok-is_asked_by.ensures ∙ ap (λ (e : Entry). asks_for e.what c.args.command.now) (sym c.index-history-place.is)) c.if-branch.false)

@@ -1,5 +1,6 @@
 use Rattle.std.proofs.Common.{◌<◌, ◌++◌, [], length, take, List, Option, sym, ap, ◌∙◌, arith}
 use Rattle.std.specs.List.{cons_option, filter_map}
+use Rattle.farm_types.specs.Moment.{moment_ms}
 use Rattle.farm_entry.specs.Due.{due}
 use Rattle.farm_entry.specs.History.{openings}
 use Rattle.farm_entry.specs.declared.lease.DueRun.{DueRun}
@@ -18,8 +19,8 @@ loop-entry-preserved c =
     let H = c.args.history.now in
     let i = c.loop-entry.entry-index in
     let below : i < length H = omega arith in
-    let run_of = λ (o : Opening). due H o c.args.moment in
-    c.in_ok-push_some.ensures
+    let run_of = λ (o : Opening). due H o (moment_ms c.args.moment) in
+    c.in_ok-push_some.ensures.added
     ∙ ap (λ (xs : List DueRun). xs ++ cons_option c.in_ok-due_in.field-0 []) c.loop-entry.invariant
     ∙ ap (λ (d : Option DueRun). filter_map run_of (openings (take i H)) ++ cons_option d []) c.in_ok-due_in.ensures
     ∙ sym (made-upto run_of H i c.entry-item.result below c.entry-item.is)

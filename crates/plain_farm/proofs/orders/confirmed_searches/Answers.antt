@@ -24,7 +24,7 @@ loop-entry-preserved c =
     let below : i < length H = omega arith in
     let one = λ (o : Opening). confirmed_at (standing H o) o in
     let added = c.in_ok-confirmed_in.field-0 in
-    ap searches_as c.in_ok-push_some.ensures
+    ap searches_as c.in_ok-push_some.ensures.added
     ∙ map-append confirmed_as c.loop-entry.found.items (cons_option added [])
     ∙ ap (λ (xs : List rules.Confirmed). searches_as c.loop-entry.found.items ++ xs) (option-mapped confirmed_as added)
     ∙ ap (λ (xs : List rules.Confirmed). xs ++ cons_option (option_map confirmed_as added) []) c.loop-entry.invariant

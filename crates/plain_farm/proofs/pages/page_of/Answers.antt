@@ -4,8 +4,8 @@ use Rattle.plain_farm.proofs.Few.{few_counted, few_of_search}
 use Rattle.plain_farm.proofs.Histories.{opened_miss}
 use Rattle.plain_farm.proofs.pages.page_of.Goals as goal
 
-pub budget_of_search-requires : goal.budget_of_search-requires
-budget_of_search-requires c = record { told = opened_miss c.args.history.now c.args.opening.now c.requires.legal c.requires.opened }
+pub budget-requires : goal.budget-requires
+budget-requires c = record { told = opened_miss c.args.history.now c.args.opening.now c.requires.legal c.requires.opened }
 
 pub overflow_cast-result : goal.overflow_cast-result
 overflow_cast-result c =

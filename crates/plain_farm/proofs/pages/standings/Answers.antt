@@ -17,7 +17,7 @@ loop-entry-preserved c =
     let H = c.args.history.now in
     let i = c.loop-entry.entry-index in
     let below : i < length H = omega arith in
-    c.in_ok-push_some.ensures
+    c.in_ok-push_some.ensures.added
     ∙ ap (λ (xs : List Standing). xs ++ cons_option c.in_ok-standing_in.field-0 []) c.loop-entry.invariant
     ∙ ap (λ (d : Option Standing). map (standing H) (openings (take i H)) ++ cons_option d []) c.in_ok-standing_in.ensures
     ∙ sym (mapped-upto (standing H) H i c.entry-item.result below c.entry-item.is)

@@ -7,4 +7,4 @@ pub returns-in-loop-entry-clause-held : goal.returns-in-loop-entry-clause-held
 returns-in-loop-entry-clause-held c =
     let below : c.loop-entry.entry-index < length c.args.history.now = omega arith in
     held_as c.args.history.now c.loop-entry.entry-index c.entry-item.result (Some c.in-Some.opening.now) below c.entry-item.is
-    (sym c.opening_in.ensures ∙ ap option_copied c.in-Some.is)
+    (sym c.opening.ensures ∙ ap option_copied c.in-Some.is)

@@ -11,7 +11,7 @@ loop-entry-preserved c =
     let i = c.loop-entry.entry-index in
     let e = c.entry-item.result in
     let below : i < length H = omega arith in
-    c.in_ok-push_some.ensures
-    ∙ ap (λ (xs : List OrderLine). xs ++ cons_option c.in_ok-order_in.field-0 []) c.loop-entry.invariant
-    ∙ ap (λ (o : Option OrderLine). order_lines (take i H) ++ cons_option o []) c.in_ok-order_in.ensures
+    c.in_ok-push_some.ensures.added
+    ∙ ap (λ (xs : List OrderLine). xs ++ cons_option c.in_ok-order.field-0 []) c.loop-entry.invariant
+    ∙ ap (λ (o : Option OrderLine). order_lines (take i H) ++ cons_option o []) c.in_ok-order.ensures
     ∙ sym (order_lines-upto H i e (order_in e.what) below c.entry-item.is refl)
