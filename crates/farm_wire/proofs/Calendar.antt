@@ -31,16 +31,27 @@ next-is_day n c h =
       month_high = h.month_high;
       day_low = omega arith;
       day_high = omega (arith, ltb-true _ _ within);
-      counted = omega (arith, signed_arith, h.counted, h.day_low, days_from_civil-day (pos c.year) c.month c.day (c.day + 1) h.day_low (omega arith));
+      counted = omega (
+        arith,
+        signed_arith,
+        h.counted,
+        h.day_low,
+        days_from_civil-day (pos c.year) c.month c.day (c.day + 1) h.day_low (omega arith),
+      );
     })
-    (λ at_end. let last : c.day ≡ days_in_month (pos c.year) c.month = omega (arith, ltb-false _ _ at_end, h.day_high) in
+    (λ at_end. let last : c.day ≡ days_in_month (pos c.year) c.month = omega (
+      arith,
+      ltb-false _ _ at_end,
+      h.day_high,
+    ) in
     cond_both (nat_lt c.month 12) _ _ (IsDay (suc n))
     (λ within. record {
       month_low = omega arith;
       month_high = omega (arith, ltb-true _ _ within);
       day_low = omega arith;
       day_high = omega (arith, (long (c.month + 1)).1);
-      counted = omega (arith, signed_arith, h.counted, days_from_civil-next_month (pos c.year) c.month c.day h.month_low last);
+      counted =
+          omega (arith, signed_arith, h.counted, days_from_civil-next_month (pos c.year) c.month c.day h.month_low last);
     })
     (λ at_year_end. let december : c.month ≡ 12 = omega (arith, ltb-false _ _ at_year_end, h.month_high) in
     let ends : c.day ≡ 31 = last ∙ rw december refl in
@@ -50,7 +61,16 @@ next-is_day n c h =
       month_high = omega arith;
       day_low = omega arith;
       day_high = omega (arith, (long 1).1);
-      counted = omega (arith, signed_arith, counted, days_from_civil-next_year (pos c.year) (pos (c.year + 1)) (omega (arith, signed_arith)) (omega (arith, signed_arith)));
+      counted =
+          omega (
+            arith,
+            signed_arith,
+            counted,
+            days_from_civil-next_year (pos c.year) (pos (c.year + 1)) (omega (
+              arith,
+              signed_arith,
+            )) (omega (arith, signed_arith)),
+          );
     }))
 
 date_of-is_day : (n : ℕ) → IsDay n (date_of n)

@@ -29,11 +29,15 @@ record IsSaid {X : Type 0} (r : Result X WireFault) : Type 0 where
 ok-said : {X : Type 0} (x : X) → IsSaid {X = X} (Ok x)
 ok-said x = record { said = λ e. cc }
 
-and_then-said : {X Y : Type 0} (r : Result X WireFault) (make : X → Result Y WireFault) → IsSaid r → ((x : X) → IsSaid (make x))
+and_then-said : {X Y : Type 0} (r : Result X WireFault) (make : X → Result Y WireFault) → IsSaid r → ((x : X) →
+    IsSaid (make x))
     → IsSaid (and_then r make)
 and_then-said (Ok x) make first rest = rest x
 and_then-said {X} {Y} (Err f) make first rest =
-    record { said = λ e. first.said (let same : f ≡ Memory = cc in let as_err : WireFault → Result X WireFault = λ g. Err g in ap as_err same) }
+    record {
+      said = λ e. first.said (let same : f ≡ Memory = cc in let as_err : WireFault →
+          Result X WireFault = λ g. Err g in ap as_err same);
+    }
 
 ok_or-said : {X : Type 0} (o : Option X) (f : WireFault) → f ≢ Memory → IsSaid (ok_or o f)
 ok_or-said (Some x) f other = ok-said x
@@ -49,9 +53,11 @@ miss-said json = ok_or-said (miss_of (get (field_name Miss) json)) (BadField Mis
 
 object-said_at : (text : List ℕ) (long : Bool) → nat_lt MAX_COMMAND_BYTES (length text) ≡ long → IsSaid (object_of text)
 unfolding object_of
-object-said_at text true is = subst (λ (r : Result Data WireFault). IsSaid r) (sym (let e : object_of text ≡ Err TooLong = rw is refl in e)) (record { said = λ e. cc })
+object-said_at text true is = subst (λ (r : Result Data WireFault).
+    IsSaid r) (sym (let e : object_of text ≡ Err TooLong = rw is refl in e)) (record { said = λ e. cc })
 object-said_at text false is =
-    subst (λ (r : Result Data WireFault). IsSaid r) (sym (let e : object_of text ≡ ok_or (object_in text) BadJson = rw is refl in e))
+    subst (λ (r : Result Data WireFault). IsSaid r) (sym (let e : object_of text ≡ ok_or (object_in text) BadJson =
+    rw is refl in e))
     (ok_or-said (object_in text) BadJson (λ e. cc))
 
 object-said : (text : List ℕ) → IsSaid (object_of text)
@@ -115,7 +121,8 @@ unfolding line_reading
 line_reading-said line =
     let whole : IsSaid (line_reading line) =
     and_then-said _ _ (object-said line) (λ json. and_then-said _ _ (field-said _ _ json) (λ at.
-    and_then-said _ _ (field-said _ _ json) (λ asked. and_then-said _ _ (command-said asked json) (λ what. ok-said _)))) in
+    and_then-said _ _ (field-said _ _ json) (λ asked. and_then-said _ _ (command-said asked json) (λ what.
+    ok-said _)))) in
     whole.said
 
 body-said : (r : Route) (body : List ℕ) → IsSaid (body_reading r body)

@@ -11,15 +11,18 @@ use Rattle.farm_wire.specs.Reading.{object_in, object_of}
 use Rattle.farm_wire.specs.declared.fault.WireFault.TheVariants.{BadJson}
 use Rattle.farm_wire.specs.declared.limits.TheConstants.{MAX_COMMAND_BYTES}
 
-pub object_in-some : (text : List ℕ) (d : Data) → IsUtf8 text → read text ≡ Some d → is_some (as_object d) ≡ true → object_in text ≡ Some d
+pub object_in-some : (text : List ℕ) (d : Data) → IsUtf8 text → read text ≡ Some d → is_some (as_object d) ≡ true →
+    object_in text ≡ Some d
 unfolding object_in
 object_in-some text d utf8 is object =
     let valid : is_utf8 text ≡ true = is_utf8-from_IsUtf8 text utf8 in
     rw (valid, is, object) refl
 
-object_in-none_at : (text : List ℕ) (valid : Bool) → is_utf8 text ≡ valid → (IsUtf8 text → read text ≡ None) → object_in text ≡ None
+object_in-none_at : (text : List ℕ) (valid : Bool) → is_utf8 text ≡ valid → (IsUtf8 text → read text ≡ None) →
+    object_in text ≡ None
 unfolding object_in
-object_in-none_at text true is nothing = let unread : read text ≡ None = nothing (IsUtf8-from_is_utf8 text is) in rw (is, unread) refl
+object_in-none_at text true is nothing = let unread : read text ≡ None = nothing (IsUtf8-from_is_utf8 text is) in
+    rw (is, unread) refl
 object_in-none_at text false is nothing = rw is refl
 
 pub object_in-none : (text : List ℕ) → (IsUtf8 text → read text ≡ None) → object_in text ≡ None

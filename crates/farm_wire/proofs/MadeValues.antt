@@ -37,7 +37,8 @@ unfolding moment_at
 moment_at-none ms outside = failed (is_moment ms) _ (λ h. outside (moment-within ms h))
 
 -- what a call that makes a moment answers, as an option
-pub moment_at-result : (r : Result Moment MomentFault) (ms : ℕ) → (IsOk r ↔ IsMoment ms) → IfOk r (λ m. moment_ms m ≡ ms)
+pub moment_at-result : (r : Result Moment MomentFault) (ms : ℕ) → (IsOk r ↔ IsMoment ms) →
+    IfOk r (λ m. moment_ms m ≡ ms)
     → result_ok r ≡ moment_at ms
 moment_at-result (Ok m) ms taken kept = sym (moment_at-of m ms kept)
 moment_at-result (Err f) ms taken kept = sym (moment_at-none ms (λ within. false≢true (taken.1 within)))

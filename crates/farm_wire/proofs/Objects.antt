@@ -29,7 +29,8 @@ one_of_three Equal a b c ha hb hc = hb
 one_of_three Greater a b c ha hb hc = hc
 
 -- a member that has no float brings none
-pub members_have_float-put : (k : List ℕ) (d : Data) (ms : Members) → has_float d ≡ false → members_have_float ms ≡ false
+pub members_have_float-put : (k : List ℕ) (d : Data) (ms : Members) → has_float d ≡ false →
+    members_have_float ms ≡ false
     → members_have_float (put k d ms) ≡ false
 members_have_float-put k d no_members plain before = none_of (has_float d) false plain refl
 members_have_float-put k d (member l e ms) plain before =
@@ -49,7 +50,8 @@ items_have_float_push (e ∷ ds) d before plain =
 
 -- Lists that are made item by item, of what stands before and what is left.
 
-pub moved_on : {V X Y : Type 0} (f : V → Y) (g : X → Y) (done : List V) (v : V) (xs : List X) (i : ℕ) (d : X) → i < length xs
+pub moved_on : {V X Y : Type 0} (f : V → Y) (g : X → Y) (done : List V) (v : V) (xs : List X) (i : ℕ) (d : X) →
+    i < length xs
     → f v ≡ g (get_or xs i d) → map f done ++ map g (drop i xs) ≡ map g xs
     → map f (done ++ v ∷ []) ++ map g (drop (i + 1) xs) ≡ map g xs
 moved_on f g done v xs i d within same before =

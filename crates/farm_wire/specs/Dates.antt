@@ -1,5 +1,5 @@
--- Days as dates of the Gregorian calendar, by counting: each day is followed by the next of its month, or by the first of
--- the next month, or by the first of the next year.
+-- Days as dates of the Gregorian calendar, by counting: each day is followed by the next of its month, or by the first
+-- of the next month, or by the first of the next year.
 use Rattle.std.specs.Prelude.{ℕ, zero, suc, ◌+◌, nat_lt, if◌then◌else◌, pos, List, ◌++◌, codes}
 use Rattle.jiff_core.specs.Calendar.{days_in_month}
 use Rattle.jiff_fmt.specs.Text.{pad2, pad4}

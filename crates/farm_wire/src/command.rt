@@ -2,7 +2,9 @@
 
 ghost use Rattle.std.specs.Prelude.{◌≡◌, ◌≢◌, Err, IfErr, IfOk, Ok};
 ghost use Rattle.serde_json.specs.View.{view};
-ghost use Rattle.farm_wire.specs.Reading.{body_reading, cancel_in, cancel_line_in, command_in, lease_in, line_reading, object_of, open_in, report_in, report_line_in, revert_in, search_in};
+ghost use Rattle.farm_wire.specs.Reading.{body_reading, line_reading, object_of};
+ghost use Rattle.farm_wire.specs.Reading.{cancel_in, cancel_line_in, command_in, lease_in, open_in, report_in, report_line_in};
+ghost use Rattle.farm_wire.specs.Reading.{revert_in, search_in};
 
 use crate::fields::{
     base_in, fraction_in, key_in, miss_in, moment_in, name_in, ordinal_in, small_in, suspects_in,
@@ -16,8 +18,8 @@ use farm_types::Moment;
 use serde_json::Value;
 use std::alloc::Global;
 
-/// What a script line asks for, and when: the line is one JSON object of at most [`MAX_COMMAND_BYTES`], without its line
-/// feed. Else the first fault of the line is answered.
+/// What a script line asks for, and when: the line is one JSON object of at most [`MAX_COMMAND_BYTES`], without its
+/// line feed. Else the first fault of the line is answered.
 #[tactic(auto, unfolding(crate::specs::Reading::line_reading))]
 pub fn line_of(alloc: Global, line: &[u8]) -> Result<(Moment, Command), WireFault>
     ensures read { IfOk result (λ asked. line_reading line.now ≡ Ok asked) }
@@ -31,8 +33,8 @@ pub fn line_of(alloc: Global, line: &[u8]) -> Result<(Moment, Command), WireFaul
 }
 
 /// What a request on a route asks for by its body: one JSON object, as in a script line but without the moment, what is
-/// asked for, and the number that the path gives. Where the route shows something the body isn't looked at. Else the first
-/// fault of the body is answered.
+/// asked for, and the number that the path gives. Where the route shows something the body isn't looked at. Else the
+/// first fault of the body is answered.
 #[tactic(auto, unfolding(crate::specs::Reading::body_reading))]
 pub fn command_of(alloc: Global, route: &Route, body: &[u8]) -> Result<Command, WireFault>
     ensures read { IfOk result (λ command. body_reading route.now body.now ≡ Ok command) }

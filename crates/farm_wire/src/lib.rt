@@ -3,9 +3,9 @@
 //!
 //! The crate stands on `farm_entry` for commands, replies and refusals, on `farm_types`, `suspect_range`, `flake_rate`
 //! and `weight_exact` for the values in them, on `revert_orders` and `jiff` for dates, on `serde_json` for JSON, on
-//! `uuid` for keys, on `hex` for ids, and on `thiserror` for the texts of its faults. The layers above may use every name
-//! below. What a text says is defined by `line_reading` and `body_reading` of `specs/`, over the value that `serde_json`
-//! reads; what is written is `serde_json`'s text of `reply_data`, `refusal_data` and `fault_data`.
+//! `uuid` for keys, on `hex` for ids, and on `thiserror` for the texts of its faults. The layers above may use every
+//! name below. What a text says is defined by `line_reading` and `body_reading` of `specs/`, over the value that
+//! `serde_json` reads; what is written is `serde_json`'s text of `reply_data`, `refusal_data` and `fault_data`.
 #![tactic(auto)]
 
 mod command;

@@ -64,7 +64,8 @@ impl JsonObject {
 
     /// With the id of a commit as a member.
     pub(crate) fn with_commit(self, name: &str, commit: &CommitId) -> Result<JsonObject, Memory>
-        ensures { IfOk result (λ made. members_in made ≡ with_member name.now (commit_value commit.now) (members_in self)) }
+        ensures { IfOk result (λ made. members_in made
+            ≡ with_member name.now (commit_value commit.now) (members_in self)) }
     {
         let digits = hex::encode(self.alloc, commit.bytes())?;
         self.with(name, Value::String(digits))

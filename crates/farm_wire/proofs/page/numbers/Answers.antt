@@ -18,7 +18,8 @@ loop-number-preserved c =
           c.loop-number-test.true c.from.ensures c.loop-number.invariant.so_far);
       no_float =
           rw (grown, map-append view c.loop-number.values.items (c.from.result ∷ []))
-          (items_have_float_push (map view c.loop-number.values.items) (view c.from.result) c.loop-number.invariant.no_float
+          (items_have_float_push (map view c.loop-number.values.items)
+          (view c.from.result) c.loop-number.invariant.no_float
           (ap has_float c.from.ensures));
     }
 
@@ -26,7 +27,8 @@ pub returns-clause-value : goal.returns-clause-value
 returns-clause-value c =
     view-Array c.loop-number.values
     ∙ ap (λ ds. array (items_of ds))
-    (all_moved view whole c.loop-number.values.items c.args.numbers.now c.loop-number.number-index c.loop-number-test.false
+    (all_moved view whole c.loop-number.values.items c.args.numbers.now c.loop-number.number-index
+    c.loop-number-test.false
     c.loop-number.invariant.so_far)
 
 pub returns-clause-no_float : goal.returns-clause-no_float

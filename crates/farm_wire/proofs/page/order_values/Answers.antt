@@ -10,16 +10,19 @@ use Rattle.farm_wire.proofs.page.order_values.Goals as goal
 
 pub loop-line-preserved : goal.loop-line-preserved
 loop-line-preserved c =
-    let grown : c.push.new.self.items ≡ c.loop-line.values.items ++ c.in_ok-order_value.field-0 ∷ [] = c.in_ok-push.ensures.items in
+    let grown : c.push.new.self.items ≡ c.loop-line.values.items ++ c.in_ok-order_value.field-0 ∷ [] =
+    c.in_ok-push.ensures.items in
     record {
       so_far =
           rw grown
-          (moved_on view order_data c.loop-line.values.items c.in_ok-order_value.field-0 c.args.lines.now c.loop-line.line-index c.line-item.result
+          (moved_on view order_data c.loop-line.values.items c.in_ok-order_value.field-0 c.args.lines.now
+          c.loop-line.line-index c.line-item.result
           c.loop-line-test.true
           (c.in_ok-order_value.ensures.value ∙ ap order_data c.line-item.is) c.loop-line.invariant.so_far);
       no_float =
           rw (grown, map-append view c.loop-line.values.items (c.in_ok-order_value.field-0 ∷ []))
-          (items_have_float_push (map view c.loop-line.values.items) (view c.in_ok-order_value.field-0) c.loop-line.invariant.no_float
+          (items_have_float_push (map view c.loop-line.values.items)
+          (view c.in_ok-order_value.field-0) c.loop-line.invariant.no_float
           c.in_ok-order_value.ensures.no_float);
     }
 

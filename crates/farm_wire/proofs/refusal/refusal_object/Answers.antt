@@ -28,5 +28,7 @@ pub returns-in_ok-refused_at-in-DailyLimit : goal.returns-in_ok-refused_at-in-Da
 unfolding refusal_data
 returns-in_ok-refused_at-in-DailyLimit c =
     IfOk-weaker c.with_number.result _ _
-    (λ made h. ap object (onto (codes "count") (whole c.in-DailyLimit.count) h c.in_ok-refused_at-in-DailyLimit.ensures) ∙ sym (ap refusal_data c.in-DailyLimit.is))
+    (λ made h. ap object (onto (codes "count")
+    (whole c.in-DailyLimit.count) h c.in_ok-refused_at-in-DailyLimit.ensures)
+    ∙ sym (ap refusal_data c.in-DailyLimit.is))
     c.with_number.ensures
