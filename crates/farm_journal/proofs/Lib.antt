@@ -1,0 +1,9 @@
+pub mod Bytes
+pub mod Journals
+pub mod Once
+pub mod Openings
+pub mod Public
+pub mod OpeningSteps
+pub mod Run
+pub mod Scan
+pub mod Upgrade

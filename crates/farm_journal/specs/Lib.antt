@@ -1,0 +1,10 @@
+pub mod Faults
+pub mod Found
+pub mod Gates
+pub mod Laws
+pub mod Layout
+pub mod Mended
+pub mod Opened
+pub mod Outcome
+pub mod ReadsOnly
+pub mod State

@@ -1,0 +1,261 @@
+//! A journal over a disk.
+ghost use Rattle.std.specs.Prelude.{
+  ◌≡◌,
+  ◌≤◌,
+  ◌<◌,
+  ◌+◌,
+  ◌++◌,
+  ◌∷◌,
+  [],
+  ◌↔◌,
+  ◌≢◌,
+  ℕ,
+  List,
+  true,
+  IsTrue,
+  IsSome,
+  OnOk,
+  IfOk,
+  IfErr,
+  None,
+  Some,
+  length,
+  slice_index,
+};
+ghost use Rattle.farm_disk.specs.Images.{LeavesOnly, moment};
+ghost use Rattle.farm_journal.specs.Faults.{OnStoreFault, OnMemory, HasCause};
+ghost use Rattle.farm_journal.specs.Layout.{IsPayload, gate_of, opens, version_of};
+ghost use Rattle.farm_journal.specs.Opened.{disk_after, Answers, OpeningCause};
+ghost use Rattle.farm_journal.specs.ReadsOnly.{ReadsOnly};
+ghost use Rattle.farm_journal.specs.Mended.{Reads, payloads_after};
+ghost use Rattle.farm_journal.specs.State.{IsBeforeOrAfter, IsHeld, IsPending};
+ghost use Rattle.farm_journal.specs.declared.layout.TheConstants.{GATE_LIMIT};
+
+use crate::disk_calls::DiskFault;
+use crate::fault::{JournalFault, OpeningFault};
+use crate::layout::VERSION_1;
+use crate::mending::{Repaired, mend};
+use crate::opening::read_whole;
+use crate::payload::Payload;
+use crate::reading::{Found, Missed, find};
+use crate::storing::store;
+use farm_disk::Disk;
+use item_list::ItemList;
+use std::alloc::Global;
+use std::marker::Model;
+use told_list::ToldList;
+
+/// The payloads of a journal, in the order in which they were appended.
+pub type Payloads = ItemList<Payload>;
+
+/// A journal: payloads on a disk, each of which stays once it was acknowledged, wherever a crash comes.
+///
+/// A payload is pending where its append failed and no repair has said yet whether it was kept.
+#[derive(Drop)]
+pub struct Journal<D: Disk> {
+    disk: D,
+    gate: u64,
+    version: u8,
+    pending: Option<Payload>,
+    past: ToldList<Payload>,
+}
+
+impl<D: Disk> Model for Journal<D> {
+    ghost use Rattle.std.specs.Prelude.{◌≡◌, List, ℕ};
+    ghost use Rattle.farm_journal.specs.State.{JournalState, IsKept};
+    ghost use Rattle.farm_journal.specs.Found.{in_order};
+
+    ghost Value = { JournalState D };
+
+    ghost view = { λ a. record { payloads = in_order a.past; pending = a.pending; version = a.version; disk = a.disk } };
+
+    ghost invariant = { λ a. IsKept D.tells D.told (in_order a.past) a.pending a.gate a.version a.disk };
+}
+
+impl<D: Disk> Journal<D> {
+    /// Opens the journal on a disk, and gives all its payloads. It syncs first, and changes nothing. An error hands the
+    /// disk back.
+    pub fn open_on(alloc: Global, disk: D) -> Result<(Journal<D>, Payloads), (D, OpeningFault)>
+        ensures same { D.tells (disk_after result) ≡ D.tells disk }
+        ensures answers { D.tells disk ≡ true → Answers (opens (D.told disk).bytes) result }
+        ensures payloads { IfOk result (λ opened. opened.0.payloads ≡ opened.1) }
+        ensures idle { IfOk result (λ opened. opened.0.pending ≡ None) }
+        ensures version { IfOk result (λ opened. D.tells disk ≡ true → opened.0.version ≡ version_of (D.told disk).bytes) }
+        ensures held { IfOk result (λ opened. D.tells disk ≡ true → IsHeld opened.1 (D.told opened.0.disk)) }
+        ensures only { D.tells disk ≡ true → ReadsOnly (D.told disk) (D.told (disk_after result)) }
+        ensures cause { IfErr result (λ missed. OpeningCause missed.1 (D.count disk) (D.count missed.0)) }
+        ensures never_falls { D.count disk ≤ D.count (disk_after result) }
+    {
+        let mut disk = disk;
+        let before = disk.faults();
+        let bytes = match read_whole(alloc, &mut disk) {
+            Ok(bytes) => bytes,
+            Err(DiskFault::Memory) => return Err((disk, OpeningFault::Memory)),
+            Err(DiskFault::Failed) => {
+                let after = disk.faults();
+                return Err((disk, OpeningFault::StoreFault { before, after }));
+            }
+        };
+        match find(alloc, &bytes) {
+            Ok(found) => {
+                let Found {
+                    payloads,
+                    past,
+                    gate,
+                } = found;
+                let journal = Journal {
+                    disk,
+                    gate,
+                    version: version_of_byte(&bytes),
+                    pending: None,
+                    past,
+                };
+                Ok((journal, Payloads::of(payloads)))
+            }
+            Err(Missed::Unborn) => Err((disk, OpeningFault::Unborn)),
+            Err(Missed::Damaged(at)) => Err((disk, OpeningFault::Damaged(at))),
+            Err(Missed::Memory) => Err((disk, OpeningFault::Memory)),
+        }
+    }
+
+    /// Appends a payload of 1 to `MAX_PAYLOAD` bytes. At `Ok` it is acknowledged: from then on each crash leaves a file
+    /// that has it. That takes one write and one sync, and then one byte and one sync; a journal of version 1 is first
+    /// made one of version 2. After a `StoreFault` the payload is pending. After want of memory the payloads are as
+    /// before.
+    pub fn append(&mut self, alloc: Global, payload: &[u8]) -> Result<(), JournalFault>
+        requires idle { self.old.pending ≡ None }
+        requires payload { IsPayload payload.now }
+        requires fits { gate_of self.old.payloads < GATE_LIMIT }
+
+        ensures same { D.tells self.new.disk ≡ D.tells self.old.disk }
+
+        // A crash at any moment of the call leaves the payloads from before it, or these and the new one.
+        ensures any_moment { D.tells self.old.disk ≡ true → LeavesOnly (D.told self.old.disk) (D.told self.new.disk)
+            (IsBeforeOrAfter self.old.payloads payload.now) }
+
+        ensures appended { OnOk result (self.new.payloads ≡ self.old.payloads ++ payload.now ∷ []) }
+        ensures idle { OnOk result (self.new.pending ≡ None) }
+        ensures version { OnOk result (self.new.version ≡ 2) }
+        ensures acknowledged { OnOk result (D.tells self.old.disk ≡ true
+            → IsHeld (self.old.payloads ++ payload.now ∷ []) (D.told self.new.disk)) }
+        ensures four_calls { self.old.version ≡ 2 → OnOk result (D.tells self.old.disk ≡ true
+            → moment (D.told self.new.disk) ≡ moment (D.told self.old.disk) + 4) }
+
+        ensures kept { OnStoreFault result (self.new.payloads ≡ self.old.payloads) }
+        ensures pending { OnStoreFault result (self.new.pending ≡ Some payload.now) }
+        ensures waits { OnStoreFault result (D.tells self.old.disk ≡ true
+            → IsPending self.old.payloads payload.now (D.told self.new.disk)) }
+
+        ensures unchanged { OnMemory result (self.new.payloads ≡ self.old.payloads) }
+        ensures still_idle { OnMemory result (self.new.pending ≡ None) }
+        ensures still_held { OnMemory result (D.tells self.old.disk ≡ true
+            → IsHeld self.old.payloads (D.told self.new.disk)) }
+
+        ensures cause { HasCause result (D.count self.old.disk) (D.count self.new.disk) }
+        ensures never_falls { D.count self.old.disk ≤ D.count self.new.disk }
+    {
+        let before = self.disk.faults();
+        let Ok(copy) = Payload::copy_of(alloc, payload) else {
+            return Err(JournalFault::Memory);
+        };
+        match store(alloc, &mut self.disk, &mut self.version, self.gate, payload) {
+            Ok(()) => {
+                self.past.tell(&copy);
+                self.gate += 5 + payload.len() as u64;
+                Ok(())
+            }
+            Err(DiskFault::Memory) => Err(JournalFault::Memory),
+            Err(DiskFault::Failed) => {
+                self.pending = Some(copy);
+                let after = self.disk.faults();
+                Err(JournalFault::StoreFault { before, after })
+            }
+        }
+    }
+
+    /// Finds out whether the pending payload was kept: after a sync it was where the gate reads other than 0. Nothing is
+    /// cut. After a `StoreFault` the payload is still pending, and the repair may be tried again. It takes no memory.
+    pub fn repair(&mut self) -> Result<Repaired, JournalFault>
+        requires { IsSome self.old.pending }
+
+        ensures same { D.tells self.new.disk ≡ D.tells self.old.disk }
+
+        // A crash at any moment of the call leaves the payloads without the pending one, or with it.
+        ensures any_moment { D.tells self.old.disk ≡ true → (p : List ℕ) → self.old.pending ≡ Some p
+            → LeavesOnly (D.told self.old.disk) (D.told self.new.disk) (IsBeforeOrAfter self.old.payloads p) }
+
+        ensures named { (p : List ℕ) → self.old.pending ≡ Some p
+            → IfOk result (λ found. self.new.payloads ≡ payloads_after found self.old.payloads p) }
+        ensures idle { OnOk result (self.new.pending ≡ None) }
+        ensures held { OnOk result (D.tells self.old.disk ≡ true → IsHeld self.new.payloads (D.told self.new.disk)) }
+        ensures by_the_gate { IfOk result (λ found. D.tells self.old.disk ≡ true
+            → Reads found (slice_index (D.told self.new.disk).bytes (gate_of self.old.payloads))) }
+
+        ensures unchanged { OnStoreFault result (self.new ≡ record self.old { disk = self.new.disk }) }
+        ensures waits { OnStoreFault result (D.tells self.old.disk ≡ true → (p : List ℕ) → self.old.pending ≡ Some p
+            → IsPending self.old.payloads p (D.told self.new.disk)) }
+
+        ensures memory { OnMemory result ⊥ }
+        ensures cause { HasCause result (D.count self.old.disk) (D.count self.new.disk) }
+        ensures never_falls { D.count self.old.disk ≤ D.count self.new.disk }
+    {
+        let before = self.disk.faults();
+        match mend(&mut self.disk, self.gate) {
+            Ok(Repaired::Kept) => match self.pending.take() {
+                Some(payload) => {
+                    self.gate += 5 + payload.bytes().len() as u64;
+                    self.version = 2;
+                    self.past.tell(&payload);
+                    Ok(Repaired::Kept)
+                }
+                None => unreachable!(),
+            },
+            Ok(Repaired::Dropped) => {
+                self.pending = None;
+                Ok(Repaired::Dropped)
+            }
+            Err(_) => {
+                let after = self.disk.faults();
+                Err(JournalFault::StoreFault { before, after })
+            }
+        }
+    }
+
+    /// Whether a payload is pending.
+    pub fn pending(&self) -> bool
+        ensures { IsTrue result ↔ IsSome self.now.pending }
+    {
+        self.pending.is_some()
+    }
+
+    /// The offset of the closed gate: 16, and for each payload 5 and its length more.
+    pub fn gate(&self) -> u64
+        ensures { result ≡ gate_of self.now.payloads }
+    {
+        self.gate
+    }
+
+    /// The version, 1 or 2. A journal of version 1 becomes one of version 2 at its first append.
+    pub fn version(&self) -> u8
+        ensures { result ≡ self.now.version }
+    {
+        self.version
+    }
+
+    /// The disk of the journal.
+    pub fn into_disk(self) -> D
+        ensures { result ≡ self.disk }
+    {
+        self.disk
+    }
+}
+
+// The version of a file whose header is sound.
+fn version_of_byte(bytes: &[u8]) -> u8
+    ensures { result ≡ version_of bytes.now }
+{
+    match bytes.get(15) {
+        Some(byte) if *byte == VERSION_1 => 1,
+        _ => 2,
+    }
+}

@@ -1,0 +1,45 @@
+//! The bytes of one record.
+ghost use Rattle.std.specs.Prelude.{◌≡◌, IfOk};
+
+use farm_disk::Memory;
+use std::alloc::Global;
+use std::marker::Model;
+
+/// The payload of a record, which contracts see as its bytes.
+#[derive(Debug, Drop)]
+pub struct Payload {
+    bytes: Vec<u8>,
+}
+
+impl Model for Payload {
+    ghost use Rattle.std.specs.Prelude.{List, ℕ};
+
+    ghost Value = { List ℕ };
+
+    ghost view = { λ p. p.bytes.items };
+}
+
+impl Payload {
+    /// A payload of these bytes.
+    pub fn of(bytes: Vec<u8>) -> Payload
+        ensures { result ≡ bytes.items }
+    {
+        Payload { bytes }
+    }
+
+    /// A copy of these bytes.
+    pub fn copy_of(alloc: Global, bytes: &[u8]) -> Result<Payload, Memory>
+        ensures { IfOk result (λ payload. payload ≡ bytes.now) }
+    {
+        Ok(Payload {
+            bytes: bytes.to_vec(alloc)?,
+        })
+    }
+
+    /// Its bytes.
+    pub fn bytes(&self) -> &[u8]
+        ensures { result.now ≡ self.now }
+    {
+        &self.bytes
+    }
+}

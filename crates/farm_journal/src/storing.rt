@@ -1,0 +1,52 @@
+//! Storing a payload on a disk of either version.
+ghost use Rattle.std.specs.Prelude.{◌≡◌, ◌≤◌, ◌<◌, ◌+◌, ◌++◌, ◌∷◌, [], ◌^◌, ℕ, List, true, length, OnOk, IsErrOf};
+ghost use Rattle.told_list.specs.Counts.{Rose};
+ghost use Rattle.farm_disk.specs.Images.{LeavesOnly, moment};
+ghost use Rattle.farm_journal.specs.Layout.{IsPayload};
+ghost use Rattle.farm_journal.specs.Gates.{Rests, Waits, IsEither};
+ghost use Rattle.farm_journal.specs.declared.layout.TheConstants.{FIRST_GATE, GATE_LIMIT};
+
+use crate::appending::append_record;
+use crate::disk_calls::DiskFault;
+use crate::upgrading::upgrade;
+use farm_disk::Disk;
+use std::alloc::Global;
+
+/// Appends a payload at a closed gate. A file that isn't known to be of version 2 is upgraded first.
+pub(super) fn store<D: Disk>(
+    alloc: Global,
+    disk: &mut D,
+    version: &mut u8,
+    gate: u64,
+    payload: &[u8],
+) -> Result<(), DiskFault>
+    requires payload { IsPayload payload.now }
+    requires fits { gate < GATE_LIMIT }
+    requires first { FIRST_GATE ≤ gate }
+    requires gate { D.tells disk.old ≡ true → gate < length (D.told disk.old).bytes }
+
+    ensures same { D.tells disk.new ≡ D.tells disk.old }
+    ensures any_moment { D.tells disk.old ≡ true → (ps : List (List ℕ)) → Rests version.old ps gate (D.told disk.old)
+        → LeavesOnly (D.told disk.old) (D.told disk.new) (IsEither 1 ps gate payload.now) }
+
+    ensures new_version { OnOk result (version.new ≡ 2) }
+    ensures done { OnOk result (D.tells disk.old ≡ true → (ps : List (List ℕ))
+        → Rests version.old ps gate (D.told disk.old)
+        → Rests 2 (ps ++ payload.now ∷ []) (gate + 5 + length payload.now) (D.told disk.new)) }
+    ensures four_calls { version.old ≡ 2 → OnOk result (D.tells disk.old ≡ true
+        → moment (D.told disk.new) ≡ moment (D.told disk.old) + 4) }
+    ensures failed { IsErrOf result DiskFault.Failed → D.tells disk.old ≡ true → (ps : List (List ℕ))
+        → Rests version.old ps gate (D.told disk.old) → Waits version.new ps gate payload.now (D.told disk.new) }
+    ensures memory { IsErrOf result DiskFault.Memory → D.tells disk.old ≡ true → (ps : List (List ℕ))
+        → Rests version.old ps gate (D.told disk.old) → Rests version.new ps gate (D.told disk.new) }
+
+    ensures cause { IsErrOf result DiskFault.Failed → Rose (D.count disk.old) (D.count disk.new) }
+    ensures never_falls { D.count disk.old ≤ D.count disk.new }
+{
+    if *version == 2 {
+        return append_record(alloc, disk, gate, payload);
+    }
+    upgrade(disk, gate)?;
+    *version = 2;
+    append_record(alloc, disk, gate, payload)
+}
