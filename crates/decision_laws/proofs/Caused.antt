@@ -6,7 +6,9 @@ use Rattle.weight_exact.specs.declared.run.Verdict.{Verdict}
 use Rattle.farm_types.specs.declared.key.Key.{Key}
 use Rattle.farm_types.specs.declared.moment.Moment.{Moment}
 use Rattle.farm_entry.specs.Ask.{opening_of}
-use Rattle.farm_rules.specs.Orders.{Next, day_is_full, no_search, order_for}
+use Rattle.farm_rules.specs.declared.orders.Draft.{Draft}
+use Rattle.farm_rules.specs.declared.orders.NoOrder.{NoOrder}
+use Rattle.farm_rules.specs.declared.orders.NoOrder.TheVariants as none
 use Rattle.farm_types.specs.Moment.{moment_ms}
 use Rattle.farm_entry.specs.Decision.{add_opening, asked_before, asks_for, decide, full_decision, is_show, key_of, cancel_decision, keyed_decision, known_decision, lease_decision, moment_used, own_decision, page_decision, refuse_opening, repeat_or_clash, report_decision, revert_decision, shape_decision}
 use Rattle.farm_entry.specs.Due.{next_run}
@@ -219,11 +221,11 @@ cancel-new : (H : List Entry) (key : Key) (search : ℕ) (M : Moment) (o : Optio
 cancel-new H key search M None = refl
 cancel-new H key search M (Some o) = cancel-if _ (SearchEnded (standing H o)) (is_active (standing H o))
 
-revert-new : (H : List Entry) (key : Key) (agent : List ℕ) (M : Moment) (n : Next) →
-    is_repeat (revert_decision H key agent M n) ≡ false
-revert-new H key agent M no_search = refl
-revert-new H key agent M (day_is_full count) = refl
-revert-new H key agent M (order_for c) = refl
+revert-new : (key : Key) (agent : List ℕ) (M : Moment) (n : Result Draft NoOrder) →
+    is_repeat (revert_decision key agent M n) ≡ false
+revert-new key agent M (Err none.NoRevert) = refl
+revert-new key agent M (Err (none.DailyLimit day count)) = refl
+revert-new key agent M (Ok d) = refl
 
 page-new : (H : List Entry) (search : ℕ) (o : Option Opening) → is_repeat (page_decision H search o) ≡ false
 page-new H search None = refl
@@ -235,7 +237,7 @@ own-new H (command.Open ask) M =
 own-new H (command.Lease key worker) M = lease-new H key worker M (next_run H (moment_ms M))
 own-new H (command.Report run verdict) M = report-new H run verdict M (lease_of H run)
 own-new H (command.Cancel key search) M = cancel-new H key search M (opening_numbered H search)
-own-new H (command.TakeRevert key agent) M = revert-new H key agent M (next_order_at H (moment_ms M))
+own-new H (command.TakeRevert key agent) M = revert-new key agent M (next_order_at H (moment_ms M))
 own-new H (command.ShowSearch search) M = page-new H search (opening_numbered H search)
 own-new H command.ShowFarm M = refl
 own-new H command.ShowOrders M = refl

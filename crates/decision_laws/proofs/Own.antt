@@ -8,7 +8,11 @@ use Rattle.flake_rate.specs.declared.miss.Miss.{Miss}
 use Rattle.flake_rate.specs.declared.rate.Rate.{Rate}
 use Rattle.weight_exact.specs.declared.run.Verdict.{Verdict}
 use Rattle.suspect_range.specs.Range.{RangeView}
-use Rattle.farm_rules.specs.Orders.{Confirmed, Next, Ordered, candidates, day_is_full, earlier, earliest, has_order, next_of, no_search, order_for, orders_of}
+use Rattle.farm_rules.specs.Orders.{Ordered, candidates, draft_for, draft_of, earlier, earliest, has_order, orders_of}
+use Rattle.farm_rules.specs.declared.orders.Candidate.{Candidate}
+use Rattle.farm_rules.specs.declared.orders.Draft.{Draft}
+use Rattle.farm_rules.specs.declared.orders.NoOrder.{NoOrder}
+use Rattle.farm_rules.specs.declared.orders.NoOrder.TheVariants as none
 use Rattle.farm_types.proofs.SameValues.{same_id-Decides}
 use Rattle.farm_types.specs.CommitId.{same_id}
 use Rattle.farm_types.specs.Moment.{moment_ms}
@@ -257,25 +261,25 @@ confirmed-there H o culprit there stands =
     confirmed_at s o) stands)
 
 -- what a confirmed search of the rule is
-record IsConfirmed (H : List Entry) (c : Confirmed) : Type 0 where
+record IsConfirmed (H : List Entry) (c : Candidate) : Type 0 where
   opening : Opening
   culprit : ℕ
   there : Contains (openings H) opening
   stands : standing H opening ≡ standings.Confirmed culprit
   of_commit : commit_of opening culprit ≡ c.commit
 
-confirmed-as : (H : List Entry) (o : Opening) (c : Confirmed) (s : Standing) → Contains (openings H) o →
+confirmed-as : (H : List Entry) (o : Opening) (c : Candidate) (s : Standing) → Contains (openings H) o →
     standing H o ≡ s → confirmed_at s o ≡ Some c →
     IsConfirmed H c
 confirmed-as H o c (standings.Confirmed culprit) there stands made =
-    let made_of : Confirmed = record { search = o.search; commit = commit_of o culprit } in
+    let made_of : Candidate = record { search = o.search; commit = commit_of o culprit } in
     let same : made_of ≡ c = cc in
     record {
       opening = o;
       culprit = culprit;
       there = there;
       stands = stands;
-      of_commit = ap (λ (x : Confirmed).
+      of_commit = ap (λ (x : Candidate).
           x.commit) same;
     }
 confirmed-as H o c standings.Searching there stands made = absurd (none-some c made)
@@ -285,7 +289,7 @@ confirmed-as H o c standings.NoCulprit there stands made = absurd (none-some c m
 confirmed-as H o c standings.Inconclusive there stands made = absurd (none-some c made)
 confirmed-as H o c standings.Cancelled there stands made = absurd (none-some c made)
 
-there-confirmed : (H : List Entry) (c : Confirmed) → Contains (confirmed_searches H) c → IsConfirmed H c
+there-confirmed : (H : List Entry) (c : Candidate) → Contains (confirmed_searches H) c → IsConfirmed H c
 there-confirmed H c there =
     let m = made-from (λ (x : Opening). confirmed_at (standing H x) x) (openings H) c there in
     confirmed-as H m.from c (standing H m.from) m.there refl m.makes
@@ -293,25 +297,25 @@ there-confirmed H c there =
 -- The next order, by whether a candidate is left.
 
 -- whether a confirmed search is free to get an order
-abbrev is_free : List Ordered → Confirmed → Bool
+abbrev is_free : List Ordered → Candidate → Bool
 is_free given c = not (has_order given c.commit)
 
-earliest-nil : (cs : List Confirmed) → earliest cs ≡ None → cs ≡ []
+earliest-nil : (cs : List Candidate) → earliest cs ≡ None → cs ≡ []
 earliest-nil [] h = refl
 earliest-nil (c ∷ cs) h = absurd (none-some _ (sym h))
 
-earlier-if : (c : Confirmed) (rest : List Confirmed) (y x : Confirmed) (b : Bool) → Contains rest y →
+earlier-if : (c : Candidate) (rest : List Candidate) (y x : Candidate) (b : Bool) → Contains rest y →
     (if b then c else y) ≡ x → Contains (c ∷ rest) x
 earlier-if c rest y x true there h = contains-head rest c x h
 earlier-if c rest y x false there h = subst (Contains (c ∷ rest)) h (contains-tail c rest y there)
 
-earlier-there : (c : Confirmed) (rest : List Confirmed) (o : Option Confirmed) (x : Confirmed) → ((y : Confirmed) →
+earlier-there : (c : Candidate) (rest : List Candidate) (o : Option Candidate) (x : Candidate) → ((y : Candidate) →
     o ≡ Some y → Contains rest y) →
     earlier c o ≡ x → Contains (c ∷ rest) x
 earlier-there c rest None x later h = contains-head rest c x h
 earlier-there c rest (Some y) x later h = earlier-if c rest y x (nat_le c.search y.search) (later y refl) h
 
-earliest-there : (cs : List Confirmed) (x : Confirmed) → earliest cs ≡ Some x → Contains cs x
+earliest-there : (cs : List Candidate) (x : Candidate) → earliest cs ≡ Some x → Contains cs x
 earliest-there [] x h = absurd (none-some x h)
 earliest-there (c ∷ cs) x h =
     let same : earlier c (earliest cs) ≡ x = cc in earlier-there c cs (earliest cs) x (earliest-there cs) same
@@ -354,7 +358,7 @@ record IsLeft (H : List Entry) : Type 0 where
   stands : standing H opening ≡ standings.Confirmed culprit
   unordered : ¬ IsOrdered H (commit_of opening culprit)
 
-some-left : (H : List Entry) (c : Confirmed) → Contains (candidates (confirmed_searches H) (orders H)) c → IsLeft H
+some-left : (H : List Entry) (c : Candidate) → Contains (candidates (confirmed_searches H) (orders H)) c → IsLeft H
 some-left H c there =
     let kept = there-filter (is_free (orders H)) (confirmed_searches H) c there in
     let is = there-confirmed H c kept.0 in
@@ -367,57 +371,56 @@ some-left H c there =
           ∙ subst (λ (x : CommitId). has_order (orders H) x ≡ false) (sym is.of_commit) (not-true _ kept.1));
     }
 
-next-if : (c : Confirmed) (b : Bool) (count : ℕ) (n : Next) → (if b then order_for c else day_is_full count) ≡ n →
-    (n ≡ order_for c) ⊎ (n ≡ day_is_full count)
-next-if c true count n h = inl (sym h)
-next-if c false count n h = inr (sym h)
-
 -- no search is left where there is no first one
-next-none : (first : Option Confirmed) (limit count : ℕ) → next_of first limit count ≡ no_search → first ≡ None
-next-none None limit count h = refl
-next-none (Some c) limit count h =
-    ⊎_elim (λ (gets : no_search ≡ order_for c). let b : true ≡ false = cc in absurd (true≢false b))
-    (λ (full : no_search ≡ day_is_full count). let b : true ≡ false = cc in absurd (true≢false b))
-    (next-if c (nat_lt count limit) count no_search h)
+none-of : (c : Candidate) (order day count : ℕ) (b : Bool) →
+    (if b then Ok (draft_for c order day) else Err (none.DailyLimit day count)) ≡ Err none.NoRevert → ⊥
+none-of c order day count true h = let b : true ≡ false = cc in true≢false b
+none-of c order day count false h = let b : true ≡ false = cc in true≢false b
+
+next-none : (first : Option Candidate) (order day limit count : ℕ) →
+    draft_of first order day limit count ≡ Err none.NoRevert → first ≡ None
+next-none None order day limit count h = refl
+next-none (Some c) order day limit count h = absurd (none-of c order day count (nat_lt count limit) h)
 
 -- the day is full where there is a first search and the day has its orders
-record DaySays (first : Option Confirmed) (limit count k : ℕ) : Type 0 where
-  candidate : Confirmed
+record DaySays (first : Option Candidate) (day limit count on k : ℕ) : Type 0 where
+  candidate : Candidate
   is : first ≡ Some candidate
+  today : on ≡ day
   counted : k ≡ count
   limited : limit ≤ count
 
-full-if : (c : Confirmed) (b : Bool) (limit count k : ℕ) → nat_lt count limit ≡ b →
-    (if b then order_for c else day_is_full count) ≡ day_is_full k →
-    DaySays (Some c) limit count k
-full-if c true limit count k e h = let b : true ≡ false = cc in absurd (true≢false b)
-full-if c false limit count k e h =
-    record { candidate = c; is = refl; counted = cc; limited = grind (arith, nat_tests) }
+full-if : (c : Candidate) (b : Bool) (order day limit count on k : ℕ) → nat_lt count limit ≡ b →
+    (if b then Ok (draft_for c order day) else Err (none.DailyLimit day count)) ≡ Err (none.DailyLimit on k) →
+    DaySays (Some c) day limit count on k
+full-if c true order day limit count on k e h = let b : true ≡ false = cc in absurd (true≢false b)
+full-if c false order day limit count on k e h =
+    record { candidate = c; is = refl; today = cc; counted = cc; limited = grind (arith, nat_tests) }
 
-next-full : (first : Option Confirmed) (limit count k : ℕ) → next_of first limit count ≡ day_is_full k →
-    DaySays first limit count k
-next-full None limit count k h = let b : true ≡ false = cc in absurd (true≢false b)
-next-full (Some c) limit count k h = full-if c (nat_lt count limit) limit count k refl h
+next-full : (first : Option Candidate) (order day limit count on k : ℕ) →
+    draft_of first order day limit count ≡ Err (none.DailyLimit on k) → DaySays first day limit count on k
+next-full None order day limit count on k h = let b : true ≡ false = cc in absurd (true≢false b)
+next-full (Some c) order day limit count on k h = full-if c (nat_lt count limit) order day limit count on k refl h
 
-revert-refused : (H : List Entry) (key : Key) (agent : List ℕ) (m : Moment) (r : Refusal) (n : Next) →
+revert-refused : (H : List Entry) (key : Key) (agent : List ℕ) (m : Moment) (r : Refusal) (n : Result Draft NoOrder) →
     IsTaken H (command.TakeRevert key agent) →
-    next_order_at H (moment_ms (moment_used H m)) ≡ n → revert_decision H key agent (moment_used H m) n ≡ Refuse r →
+    next_order_at H (moment_ms (moment_used H m)) ≡ n → revert_decision key agent (moment_used H m) n ≡ Refuse r →
     CauseOf r H (command.TakeRevert key agent) m
-revert-refused H key agent m r no_search t e h =
+revert-refused H key agent m r (Err none.NoRevert) t e h =
     let day : ℕ = day_in H (moment_ms (moment_used H m)) in
     let nil =
-    earliest-nil (candidates (confirmed_searches H) (orders H)) (next-none _ (daily_limit H) (orders_of day
-    (orders H)) e) in
+    earliest-nil (candidates (confirmed_searches H) (orders H)) (next-none _ (length (orders H) + 1) day (daily_limit H)
+    (orders_of day (orders H)) e) in
     caused H (command.TakeRevert key agent) m NoRevert r
     (record { taken = t; key = key; agent = agent; takes = refl; all = none-left H nil }) h
-revert-refused H key agent m r (day_is_full k) t e h =
+revert-refused H key agent m r (Err (none.DailyLimit on k)) t e h =
     let day : ℕ = day_in H (moment_ms (moment_used H m)) in
     let says =
-    next-full (earliest (candidates (confirmed_searches H) (orders H))) (daily_limit H) (orders_of day
-    (orders H)) k e in
+    next-full (earliest (candidates (confirmed_searches H) (orders H))) (length (orders H) + 1) day (daily_limit H)
+    (orders_of day (orders H)) on k e in
     let left =
     some-left H says.candidate (earliest-there (candidates (confirmed_searches H) (orders H)) says.candidate says.is) in
-    caused H (command.TakeRevert key agent) m (DailyLimit day k) r
+    caused H (command.TakeRevert key agent) m (DailyLimit on k) r
     (record {
       taken = t;
       key = key;
@@ -428,11 +431,11 @@ revert-refused H key agent m r (day_is_full k) t e h =
       there = left.there;
       confirmed = left.stands;
       unordered = left.unordered;
-      today = refl;
-      counted = says.counted;
+      today = says.today;
+      counted = says.counted ∙ ap (λ (d : ℕ). orders_of d (orders H)) (sym says.today);
       limited = subst (λ (n : ℕ). daily_limit H ≤ n) (sym says.counted) says.limited;
     }) h
-revert-refused H key agent m r (order_for c) t e h = absurd (new-refuse _ r h)
+revert-refused H key agent m r (Ok d) t e h = absurd (new-refuse _ r h)
 
 -- whatever command it is
 pub own-refused : (H : List Entry) (q : Command) (m : Moment) (r : Refusal) → IsTaken H q →
@@ -499,20 +502,21 @@ pub no_revert-refused : (H : List Entry) (q : Command) (M : Moment) → HasNoRev
     own_decision H q M ≡ Refuse NoRevert
 no_revert-refused H q M c =
     let day : ℕ = day_in H (moment_ms M) in
-    let next : next_order_at H (moment_ms M) ≡ no_search =
-    ap (λ (cs : List Confirmed). next_of (earliest cs) (daily_limit H) (orders_of day (orders H)))
+    let next : next_order_at H (moment_ms M) ≡ Err none.NoRevert =
+    ap (λ (cs : List Candidate). draft_of (earliest cs) (length (orders H) + 1) day (daily_limit H) (orders_of day (orders H)))
     (left-none H c.all) in
-    ap (λ (x : Command). own_decision H x M) c.takes ∙ ap (revert_decision H c.key c.agent M) next
+    ap (λ (x : Command). own_decision H x M) c.takes ∙ ap (revert_decision c.key c.agent M) next
 
 -- a list with a member has a first one
-some-first : (cs : List Confirmed) (c : Confirmed) → Contains cs c → (x : Confirmed) × (earliest cs ≡ Some x)
+some-first : (cs : List Candidate) (c : Candidate) → Contains cs c → (x : Candidate) × (earliest cs ≡ Some x)
 some-first [] c there = absurd (contains-nil c there)
 some-first (x ∷ cs) c there = (earlier x (earliest cs), refl)
 
-full-day : (x : Confirmed) (limit count : ℕ) → limit ≤ count → next_of (Some x) limit count ≡ day_is_full count
-full-day x limit count limited =
+full-day : (x : Candidate) (order day limit count : ℕ) → limit ≤ count →
+    draft_of (Some x) order day limit count ≡ Err (none.DailyLimit day count)
+full-day x order day limit count limited =
     let test : nat_lt count limit ≡ false = grind (arith, nat_tests) in
-    ap (λ (b : Bool). if b then order_for x else day_is_full count) test
+    ap (λ (b : Bool). if b then Ok (draft_for x order day) else Err (none.DailyLimit day count)) test
 
 pub over_day-refused : (H : List Entry) (q : Command) (m : Moment) (day count : ℕ) → IsOverDay H q m day count →
     own_decision H q (moment_used H m) ≡ Refuse (DailyLimit day count)
@@ -528,10 +532,10 @@ over_day-refused H q m day count c =
     filter-there (is_free (orders H)) (confirmed_searches H) _
     (confirmed-there H c.opening c.culprit c.there c.confirmed) (ap not free) in
     let first = some-first (candidates (confirmed_searches H) (orders H)) _ left in
-    let next : next_order_at H (moment_ms M) ≡ day_is_full number =
-    ap (λ (o : Option Confirmed). next_of o (daily_limit H) number) first.1
-    ∙ full-day first.0 (daily_limit H) number (subst (λ (n : ℕ). daily_limit H ≤ n) (sym same) c.limited) in
+    let next : next_order_at H (moment_ms M) ≡ Err (none.DailyLimit today number) =
+    ap (λ (o : Option Candidate). draft_of o (length (orders H) + 1) today (daily_limit H) number) first.1
+    ∙ full-day first.0 (length (orders H) + 1) today (daily_limit H) number (subst (λ (n : ℕ). daily_limit H ≤ n) (sym same) c.limited) in
     ap (λ (x : Command). own_decision H x M) c.takes
-    ∙ ap (revert_decision H c.key c.agent M) next
+    ∙ ap (revert_decision c.key c.agent M) next
     ∙ ap (λ (d : ℕ). Refuse (DailyLimit d number)) (sym c.today)
     ∙ ap (λ (n : ℕ). Refuse (DailyLimit day n)) same

@@ -6,7 +6,9 @@ use Rattle.std.proofs.lemmas.Bool.Decides.{nat_tests}
 use Rattle.std.proofs.lemmas.Option.{none-some}
 use Rattle.farm_types.specs.Moment.{moment_ms}
 use Rattle.farm_types.specs.declared.moment.Moment.{Moment}
-use Rattle.farm_rules.specs.Orders.{Next, day_is_full, no_search, order_for}
+use Rattle.farm_rules.specs.declared.orders.Draft.{Draft}
+use Rattle.farm_rules.specs.declared.orders.NoOrder.{NoOrder}
+use Rattle.farm_rules.specs.declared.orders.NoOrder.TheVariants as none
 use Rattle.farm_types.specs.declared.key.Key.{Key}
 use Rattle.weight_exact.specs.declared.run.Verdict.{Verdict}
 use Rattle.farm_entry.specs.Ask.{opening_of}
@@ -210,11 +212,11 @@ cancel-timed : (H : List Entry) (key : Key) (search : ℕ) (M : Moment) (o : Opt
 cancel-timed H key search M None = inl refl
 cancel-timed H key search M (Some o) = cancel-if_timed M _ (SearchEnded (standing H o)) (is_active (standing H o))
 
-revert-timed : (H : List Entry) (key : Key) (agent : List ℕ) (M : Moment) (n : Next) →
-    IsTimed (revert_decision H key agent M n) M
-revert-timed H key agent M no_search = inl refl
-revert-timed H key agent M (day_is_full count) = inl refl
-revert-timed H key agent M (order_for c) = inr refl
+revert-timed : (key : Key) (agent : List ℕ) (M : Moment) (n : Result Draft NoOrder) →
+    IsTimed (revert_decision key agent M n) M
+revert-timed key agent M (Err none.NoRevert) = inl refl
+revert-timed key agent M (Err (none.DailyLimit day count)) = inl refl
+revert-timed key agent M (Ok d) = inr refl
 
 page-timed : (H : List Entry) (search : ℕ) (M : Moment) (o : Option Opening) → IsTimed (page_decision H search o) M
 page-timed H search M None = inl refl
@@ -226,7 +228,7 @@ own-timed H (command.Open ask) M =
 own-timed H (command.Lease key worker) M = lease-timed H key worker M (next_run H (moment_ms M))
 own-timed H (command.Report run verdict) M = report-timed H run verdict M (lease_of H run)
 own-timed H (command.Cancel key search) M = cancel-timed H key search M (opening_numbered H search)
-own-timed H (command.TakeRevert key agent) M = revert-timed H key agent M (next_order_at H (moment_ms M))
+own-timed H (command.TakeRevert key agent) M = revert-timed key agent M (next_order_at H (moment_ms M))
 own-timed H (command.ShowSearch search) M = page-timed H search M (opening_numbered H search)
 own-timed H command.ShowFarm M = inl refl
 own-timed H command.ShowOrders M = inl refl

@@ -5,8 +5,10 @@ use Rattle.std.specs.Str.{bytes_eq}
 use Rattle.weight_exact.specs.Load.{load}
 use Rattle.weight_exact.specs.declared.run.Run.{Run}
 use Rattle.weight_exact.specs.declared.run.Verdict.{Verdict}
-use Rattle.farm_rules.specs.Orders.{Next, day_is_full, no_search, order_for}
 use Rattle.farm_rules.specs.Reruns.{reruns_at}
+use Rattle.farm_rules.specs.declared.orders.Draft.{Draft}
+use Rattle.farm_rules.specs.declared.orders.NoOrder.{NoOrder}
+use Rattle.farm_rules.specs.declared.orders.NoOrder.TheVariants as none
 use Rattle.farm_types.specs.Moment.{moment_ms}
 use Rattle.farm_types.specs.declared.key.Key.{Key}
 use Rattle.farm_types.specs.declared.moment.Moment.{Moment}
@@ -14,7 +16,7 @@ use Rattle.farm_types.specs.declared.stage.Stage.TheVariants.{Search, Verify}
 use Rattle.farm_entry.specs.Ask.{opening_of}
 use Rattle.farm_entry.specs.Due.{next_run}
 use Rattle.farm_entry.specs.History.{all_leases, lease_ms, lease_of, opening_numbered, openings, order_lines, place_of_key, place_of_report, reruns, runs, same_stage}
-use Rattle.farm_entry.specs.Orders.{day_in, next_order_at}
+use Rattle.farm_entry.specs.Orders.{next_order_at}
 use Rattle.farm_entry.specs.Pages.{page_of, totals}
 use Rattle.farm_entry.specs.Setup.{budget_of_search, setup_of}
 use Rattle.farm_entry.specs.Standing.{is_active, standing}
@@ -166,11 +168,10 @@ cancel_decision H key search m None = Refuse (UnknownSearch search)
 cancel_decision H key search m (Some o) =
     if is_active (standing H o) then add_at m (Cancelled key search) else Refuse (SearchEnded (standing H o))
 
-abbrev pub revert_decision : List Entry → Key → List ℕ → Moment → Next → Decision
-revert_decision H key agent m no_search = Refuse NoRevert
-revert_decision H key agent m (day_is_full count) = Refuse (DailyLimit (day_in H (moment_ms m)) count)
-revert_decision H key agent m (order_for c) =
-    add_at m (Ordered key agent (length (order_lines H) + 1) c.commit c.search (day_in H (moment_ms m)))
+abbrev pub revert_decision : Key → List ℕ → Moment → Result Draft NoOrder → Decision
+revert_decision key agent m (Ok d) = add_at m (Ordered key agent d.order d.commit d.search d.day)
+revert_decision key agent m (Err none.NoRevert) = Refuse NoRevert
+revert_decision key agent m (Err (none.DailyLimit day count)) = Refuse (DailyLimit day count)
 
 abbrev pub page_decision : List Entry → (search : ℕ) → Option Opening → Decision
 page_decision H search None = Refuse (UnknownSearch search)
@@ -181,7 +182,7 @@ own_decision H (Open ask) m = open_decision H ask m
 own_decision H (LeaseRun key worker) m = lease_decision H key worker m (next_run H (moment_ms m))
 own_decision H (ReportRun run verdict) m = report_decision H run verdict m (lease_of H run)
 own_decision H (Cancel key search) m = cancel_decision H key search m (opening_numbered H search)
-own_decision H (TakeRevert key agent) m = revert_decision H key agent m (next_order_at H (moment_ms m))
+own_decision H (TakeRevert key agent) m = revert_decision key agent m (next_order_at H (moment_ms m))
 own_decision H (ShowSearch search) m = page_decision H search (opening_numbered H search)
 own_decision H ShowFarm m = Show (reply.Farm (totals H))
 own_decision H ShowOrders m = Show (reply.Orders (order_lines H))

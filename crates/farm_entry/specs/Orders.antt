@@ -1,9 +1,11 @@
 -- Which commit is to be reverted next.
-use Rattle.std.specs.Prelude.{ℕ, List, map, Option, Some, None}
+use Rattle.std.specs.Prelude.{ℕ, List, map, Option, Some, None, Result}
 use Rattle.std.specs.List.{filter_map}
 use Rattle.farm_rules.specs.Day.{day_at}
-use Rattle.farm_rules.specs.Orders.{Next, next_order}
-use Rattle.farm_rules.specs.Orders as rules
+use Rattle.farm_rules.specs.Orders.{Ordered, next_draft}
+use Rattle.farm_rules.specs.declared.orders.Candidate.{Candidate}
+use Rattle.farm_rules.specs.declared.orders.Draft.{Draft}
+use Rattle.farm_rules.specs.declared.orders.NoOrder.{NoOrder}
 use Rattle.farm_entry.specs.History.{daily_limit, openings, order_lines, zone_minutes}
 use Rattle.farm_entry.specs.Setup.{commit_of}
 use Rattle.farm_entry.specs.Standing.{standing}
@@ -18,22 +20,22 @@ abbrev pub day_in : List Entry → (moment : ℕ) → ℕ
 day_in H moment = day_at moment (zone_minutes H)
 
 -- a search whose culprit is confirmed, as the rule for orders sees it
-abbrev pub confirmed_at : Standing → Opening → Option rules.Confirmed
+abbrev pub confirmed_at : Standing → Opening → Option Candidate
 confirmed_at (Confirmed culprit) o = Some (record { search = o.search; commit = commit_of o culprit })
 confirmed_at _ o = None
 
 -- the searches whose culprit is confirmed, by their numbers
-abbrev pub confirmed_searches : List Entry → List rules.Confirmed
+abbrev pub confirmed_searches : List Entry → List Candidate
 confirmed_searches H = filter_map (λ o. confirmed_at (standing H o) o) (openings H)
 
 -- an order as the rule sees it
-abbrev pub ordered : OrderLine → rules.Ordered
+abbrev pub ordered : OrderLine → Ordered
 ordered line = record { commit = line.commit; day = line.day }
 
 -- the orders that stand
-abbrev pub orders : List Entry → List rules.Ordered
+abbrev pub orders : List Entry → List Ordered
 orders H = map ordered (order_lines H)
 
--- what the next request for an order comes to at a moment
-abbrev pub next_order_at : List Entry → (moment : ℕ) → Next
-next_order_at H moment = next_order (confirmed_searches H) (orders H) (day_in H moment) (daily_limit H)
+-- what the next request for an order comes to at a moment: the next order, or why there is none
+abbrev pub next_order_at : List Entry → (moment : ℕ) → Result Draft NoOrder
+next_order_at H moment = next_draft (confirmed_searches H) (orders H) (day_in H moment) (daily_limit H)

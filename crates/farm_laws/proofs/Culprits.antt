@@ -1,5 +1,5 @@
 -- Each order is for the culprit of a confirmed search, and no two orders are of the same search.
-use Rattle.std.proofs.Common.{◌≡◌, ◌≢◌, ℕ, ◌≤◌, ◌<◌, not, List, [], ◌∷◌, ◌++◌, length, map, All, AllPairs, Contains, Option, Some, refl, sym, ap, ◌∙◌, arith}
+use Rattle.std.proofs.Common.{◌≡◌, ◌≢◌, ℕ, ◌≤◌, ◌<◌, not, List, [], ◌∷◌, ◌++◌, length, map, All, AllPairs, Contains, Option, Some, Ok, refl, sym, ap, ◌∙◌, arith}
 use Rattle.std.proofs.lemmas.Bool.{eqb-true}
 use Rattle.std.proofs.lemmas.Bool.Decides.{Decides-eqb}
 use Rattle.std.proofs.lemmas.Cmp.{nat_eq_equiv}
@@ -8,12 +8,13 @@ use Rattle.std.proofs.lemmas.List.Elements.{All-contains, All-contains_itself, A
 use Rattle.std.proofs.lemmas.Map.Made.{IsDistinct-from_AllPairs, length-le_from_is_member}
 use Rattle.std.proofs.lemmas.Map.Views.{Contains-from_any, list_any-from_Contains}
 use Rattle.farm_rules.specs.Orders.{candidates, has_order}
-use Rattle.farm_rules.specs.Orders as rules
+use Rattle.farm_rules.specs.declared.orders.Candidate.{Candidate}
+use Rattle.farm_rules.specs.declared.orders.Draft.{Draft}
 use Rattle.farm_types.specs.Moment.{moment_ms}
 use Rattle.farm_types.specs.declared.commit_id.CommitId.{CommitId}
 use Rattle.farm_entry.specs.History.{daily_limit, opening_numbered, openings, order_in, order_lines}
 use Rattle.farm_entry.specs.Legal.{IsLegal}
-use Rattle.farm_entry.specs.Orders.{confirmed_at, confirmed_searches, day_in, orders}
+use Rattle.farm_entry.specs.Orders.{confirmed_at, confirmed_searches, day_in, next_order_at, orders}
 use Rattle.farm_entry.specs.Setup.{commit_of}
 use Rattle.farm_entry.specs.Standing.{is_active, standing}
 use Rattle.farm_entry.specs.declared.entry.Entry.{Entry}
@@ -21,7 +22,7 @@ use Rattle.farm_entry.specs.declared.opening.Opening.{Opening}
 use Rattle.farm_entry.specs.declared.order_page.OrderLine.{OrderLine}
 use Rattle.farm_entry.specs.declared.standing.Standing.{Standing}
 use Rattle.farm_entry.specs.declared.standing.Standing.TheVariants.{Searching, Verifying, Confirmed, Vindicated, NoCulprit, Inconclusive, Cancelled}
-use Rattle.farm_laws.proofs.Chosen.{earliest-all, gets_order}
+use Rattle.farm_laws.proofs.Chosen.{earliest-all, is_next_order}
 use Rattle.farm_laws.proofs.Ends.{end-kept}
 use Rattle.farm_laws.proofs.EntryParts.{each_part, none-some, ordered-facts}
 use Rattle.farm_laws.proofs.Filters.{All-imp}
@@ -34,20 +35,20 @@ use Rattle.farm_laws.proofs.Stepped.{Stepped}
 -- What gets the next order.
 
 -- a search that is confirmed, as the rule for orders sees it
-record IsConfirmed (s : Standing) (o : Opening) (c : rules.Confirmed) : Type 0 where
+record IsConfirmed (s : Standing) (o : Opening) (c : Candidate) : Type 0 where
   pub culprit : ℕ
   pub stands : s ≡ Confirmed culprit
   pub number : o.search ≡ c.search
   pub commit : c.commit ≡ commit_of o culprit
 
-confirmed-is : (s : Standing) (o : Opening) (c : rules.Confirmed) → confirmed_at s o ≡ Some c → IsConfirmed s o c
+confirmed-is : (s : Standing) (o : Opening) (c : Candidate) → confirmed_at s o ≡ Some c → IsConfirmed s o c
 confirmed-is (Confirmed culprit) o c h =
     let same : record { search = o.search; commit = commit_of o culprit } ≡ c = cc in
     record {
       culprit = culprit;
       stands = refl;
-      number = ap (λ (x : rules.Confirmed). x.search) same;
-      commit = ap (λ (x : rules.Confirmed). x.commit) (sym same);
+      number = ap (λ (x : Candidate). x.search) same;
+      commit = ap (λ (x : Candidate). x.commit) (sym same);
     }
 confirmed-is Searching o c h = absurd (none-some c h)
 confirmed-is (Verifying i) o c h = absurd (none-some c h)
@@ -57,17 +58,16 @@ confirmed-is Inconclusive o c h = absurd (none-some c h)
 confirmed-is Cancelled o c h = absurd (none-some c h)
 
 -- the search that gets an order comes from an opened one that is confirmed
-best-from : (H : List Entry) (m : ℕ) (c : rules.Confirmed) →
-    rules.next_order (confirmed_searches H) (orders H) (day_in H m) (daily_limit H) ≡ rules.order_for c →
-    MadeFrom (λ (o : Opening). confirmed_at (standing H o) o) (openings H) c
-best-from H m c h =
-    let f : Opening → Option rules.Confirmed = λ o. confirmed_at (standing H o) o in
-    let gets = gets_order (confirmed_searches H) (orders H) (day_in H m) (daily_limit H) c h in
+best-from : (H : List Entry) (m : ℕ) (d : Draft) → next_order_at H m ≡ Ok d →
+    MadeFrom (λ (o : Opening). confirmed_at (standing H o) o) (openings H) (record { search = d.search; commit = d.commit })
+best-from H m d h =
+    let f : Opening → Option Candidate = λ o. confirmed_at (standing H o) o in
+    let next = is_next_order (confirmed_searches H) (orders H) (day_in H m) (daily_limit H) d h in
     let each : All (MadeFrom f (openings H)) (confirmed_searches H) =
     All-imp (Contains (confirmed_searches H)) (MadeFrom f (openings H)) (confirmed_searches H) (made-from f (openings H))
     (All-contains_itself (confirmed_searches H)) in
-    earliest-all (MadeFrom f (openings H)) (candidates (confirmed_searches H) (orders H)) c
-    (All-filter (λ (x : rules.Confirmed). not (has_order (orders H) x.commit)) (MadeFrom f (openings H)) (confirmed_searches H) each) gets.best
+    earliest-all (MadeFrom f (openings H)) (candidates (confirmed_searches H) (orders H)) _
+    (All-filter (λ (x : Candidate). not (has_order (orders H) x.commit)) (MadeFrom f (openings H)) (confirmed_searches H) each) next.best
 
 -- What an order is for.
 
@@ -81,13 +81,10 @@ pub record IsForCulprit (H : List Entry) (search : ℕ) (commit : CommitId) : Ty
   pub is : commit ≡ commit_of opening culprit
 
 -- it is so for the next order
-next-is_for : (H : List Entry) (m : ℕ) (search : ℕ) (commit : CommitId) →
-    rules.next_order (confirmed_searches H) (orders H) (day_in H m) (daily_limit H)
-    ≡ rules.order_for (record { search = search; commit = commit }) →
-    IsForCulprit H search commit
-next-is_for H m search commit h =
-    let c : rules.Confirmed = record { search = search; commit = commit } in
-    let from = best-from H m c h in
+next-is_for : (H : List Entry) (m : ℕ) (d : Draft) → next_order_at H m ≡ Ok d → IsForCulprit H d.search d.commit
+next-is_for H m d h =
+    let c : Candidate = record { search = d.search; commit = d.commit } in
+    let from = best-from H m d h in
     let found = confirmed-is (standing H from.from) from.from c from.makes in
     record {
       opening = from.from;
@@ -118,7 +115,7 @@ orders-for_culprits =
     (λ H e x legal s was. for-stays H e x.search x.commit legal s was)
     (λ H e x legal s is.
     for-stays H e x.search x.commit legal s
-    (next-is_for H (moment_ms e.at) x.search x.commit (ordered-facts H e.at e.what x is s).next))
+    (next-is_for H (moment_ms e.at) _ (ordered-facts H e.at e.what x is s).next))
 
 -- the same in words of what a number finds
 pub order-for_culprit : (H : List Entry) (x : OrderLine) → IsLegal H → Contains (order_lines H) x →

@@ -19,7 +19,7 @@ use Rattle.farm_entry.specs.declared.entry.Entry.{Entry}
 use Rattle.farm_entry.specs.declared.entry.What.{What}
 use Rattle.farm_entry.specs.declared.entry.What.TheVariants.{Founded, Opened, Leased, Reported, Cancelled, Ordered}
 use Rattle.farm_entry.specs.declared.order_page.OrderLine.{OrderLine}
-use Rattle.farm_laws.proofs.Chosen.{gets_order, gets_order-free}
+use Rattle.farm_laws.proofs.Chosen.{is_next_order, next_order-free}
 use Rattle.farm_entry.proofs.Growing.{order_lines-grow}
 use Rattle.farm_laws.proofs.Induct.{each_legal}
 use Rattle.farm_laws.proofs.Pairs.{AllPairs-more, AllPairs-nil}
@@ -40,11 +40,10 @@ has_room H m (Cancelled key search) line facts holds = absurd (cc)
 has_room H m (Ordered key agent order commit search day) line facts holds =
     let made : OrderLine = record { order = order; agent = agent; commit = commit; search = search; day = day } in
     let same : made ≡ line = cc in
-    let chosen : rules.Confirmed = record { search = search; commit = commit } in
-    let gets = gets_order (confirmed_searches H) (orders H) (day_in H (moment_ms m)) (daily_limit H) chosen facts.next in
+    let next = is_next_order (confirmed_searches H) (orders H) (day_in H (moment_ms m)) (daily_limit H) _ facts.next in
     subst (λ (x : OrderLine). HasRoom H x) same (record {
-      free = gets_order-free (confirmed_searches H) (orders H) (day_in H (moment_ms m)) (daily_limit H) chosen gets;
-      room = subst (λ (d : ℕ). orders_of d (orders H) < daily_limit H) (sym facts.dated) gets.room;
+      free = next_order-free (confirmed_searches H) (orders H) (day_in H (moment_ms m)) (daily_limit H) _ next;
+      room = subst (λ (d : ℕ). orders_of d (orders H) < daily_limit H) (sym next.dated) next.room;
     })
 
 -- a commit that has no order differs from each that has one

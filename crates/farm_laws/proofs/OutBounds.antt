@@ -3,6 +3,8 @@ use Rattle.std.proofs.Common.{◌≡◌, ℕ, ◌+◌, ◌*◌, ◌-◌, ◌≤�
 use Rattle.std.proofs.lemmas.List.Elements.{All-contains_itself, All-filter, All-head, All-tail, All-weaker, filter_passes}
 use Rattle.farm_types.specs.declared.stage.Stage.{Stage}
 use Rattle.farm_types.specs.declared.stage.Stage.TheVariants.{Search, Verify}
+use Rattle.weight_exact.specs.declared.limits.TheConstants.{MAX_WIDTH}
+use Rattle.farm_entry.specs.declared.limits.TheConstants.{MAX_RERUNS}
 use Rattle.farm_entry.specs.Due.{open_leases, outstanding, outstanding_at}
 use Rattle.farm_entry.specs.History.{leases, openings, same_stage}
 use Rattle.farm_laws.specs.Laws.{IsNotBefore}
@@ -92,10 +94,10 @@ verify_leases-few H o moment legal there before =
     (λ k d below. out k d below (stage_of _ _ (passes k d below)))
     (λ p. verify_leases-few_at H o moment p legal there before)
 
--- by where a search stands, from at most eight leases that search and sixteen that verify
+-- by where a search stands, from few leases that search and few that verify
 few_outstanding : (st : Standing) (H : List Entry) (o : Opening) (moment : ℕ) →
-    length (open_leases H o.search Search moment) ≤ 8 → length (open_leases H o.search Verify moment) ≤ 16 →
-    length (outstanding_at st H o.search moment) ≤ 16
+    length (open_leases H o.search Search moment) ≤ MAX_WIDTH → length (open_leases H o.search Verify moment) ≤ 2 * MAX_RERUNS →
+    length (outstanding_at st H o.search moment) ≤ 2 * MAX_RERUNS
 few_outstanding Searching H o moment searching verifying = omega (arith, searching)
 few_outstanding (Verifying c) H o moment searching verifying = verifying
 few_outstanding (Confirmed c) H o moment searching verifying = omega arith
@@ -104,9 +106,9 @@ few_outstanding NoCulprit H o moment searching verifying = omega arith
 few_outstanding Inconclusive H o moment searching verifying = omega arith
 few_outstanding Cancelled H o moment searching verifying = omega arith
 
--- at most sixteen runs of a search are out
+-- few runs of a search are out
 pub outstanding-few : (H : List Entry) (o : Opening) (moment : ℕ) → IsLegal H → Contains (openings H) o → IsNotBefore H moment →
-    length (outstanding H o moment) ≤ 16
+    length (outstanding H o moment) ≤ 2 * MAX_RERUNS
 outstanding-few H o moment legal there before =
     let within = open_within H o legal there in
     few_outstanding (standing H o) H o moment

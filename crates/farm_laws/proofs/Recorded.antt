@@ -2,7 +2,9 @@
 use Rattle.std.proofs.Common.{◌≡◌, ℕ, ◌+◌, nat_le, Bool, true, false, List, [], ◌∷◌, length, if◌then◌else◌, Option, Some, None, Result, Ok, Err, refl, sym, ap, subst, ◌∙◌, true≢false}
 use Rattle.std.specs.Option.{option_map}
 use Rattle.weight_exact.specs.declared.run.Verdict.{Verdict}
-use Rattle.farm_rules.specs.Orders.{Next, day_is_full, no_search, order_for}
+use Rattle.farm_rules.specs.declared.orders.Draft.{Draft}
+use Rattle.farm_rules.specs.declared.orders.NoOrder.{NoOrder}
+use Rattle.farm_rules.specs.declared.orders.NoOrder.TheVariants as none
 use Rattle.farm_types.specs.Moment.{moment_ms}
 use Rattle.farm_types.specs.declared.key.Key.{Key}
 use Rattle.farm_types.specs.declared.moment.Moment.{Moment}
@@ -94,11 +96,11 @@ cancel-says H key s m None e h = absurd (refused-adds _ e h)
 cancel-says H key s m (Some o) e h =
     active-says key s m (is_active (standing H o)) (Refuse (SearchEnded (standing H o))) e (refused-adds _ e) h
 
-revert-says : (H : List Entry) (key : Key) (agent : List ℕ) (m : Moment) (n : Next) (e : Entry) →
-    revert_decision H key agent m n ≡ New e → Says (command.TakeRevert key agent) m e
-revert-says H key agent m no_search e h = absurd (refused-adds _ e h)
-revert-says H key agent m (day_is_full count) e h = absurd (refused-adds _ e h)
-revert-says H key agent m (order_for c) e h = says (command.TakeRevert key agent) m _ e refl h
+revert-says : (key : Key) (agent : List ℕ) (m : Moment) (n : Result Draft NoOrder) (e : Entry) →
+    revert_decision key agent m n ≡ New e → Says (command.TakeRevert key agent) m e
+revert-says key agent m (Err none.NoRevert) e h = absurd (refused-adds _ e h)
+revert-says key agent m (Err (none.DailyLimit day count)) e h = absurd (refused-adds _ e h)
+revert-says key agent m (Ok d) e h = says (command.TakeRevert key agent) m _ e refl h
 
 page-adds : (H : List Entry) (search : ℕ) (o : Option Opening) (e : Entry) → page_decision H search o ≡ New e → ⊥
 page-adds H s None e h = refused-adds _ e h
@@ -173,7 +175,7 @@ recorded H (command.Cancel key search) m e h =
     next-as H q (moment_used H m) e s (added-again H q m e h)
 recorded H (command.TakeRevert key agent) m e h =
     let q = command.TakeRevert key agent in
-    let s = revert-says H key agent (moment_used H m) _ e (passed H q m e h).own in
+    let s = revert-says key agent (moment_used H m) _ e (passed H q m e h).own in
     next-as H q (moment_used H m) e s (added-again H q m e h)
 recorded H (command.ShowSearch search) m e h = absurd (page-adds H search _ e (passed H (command.ShowSearch search) m e h).own)
 recorded H command.ShowFarm m e h = absurd (shown-adds _ e (passed H command.ShowFarm m e h).own)

@@ -1,9 +1,12 @@
 -- What it says of an entry that it may come next: one set of facts for each kind of entry.
-use Rattle.std.proofs.Common.{◌≡◌, ℕ, ◌+◌, ◌<◌, Bool, true, false, not, ◌&&◌, nat_le, List, length, slice_get, if◌then◌else◌, Option, Some, None, Result, Ok, Err, refl, ap, subst, arith, true≢false}
+use Rattle.std.proofs.Common.{◌≡◌, ℕ, ◌+◌, ◌<◌, Bool, true, false, not, ◌&&◌, nat_le, List, length, slice_get, if◌then◌else◌, Option, Some, None, Result, Ok, Err, refl, ap, subst, ◌∙◌, arith, true≢false}
 use Rattle.std.specs.Option.{option_map}
 use Rattle.std.proofs.lemmas.Bool.Decides.{nat_tests}
+use Rattle.std.proofs.lemmas.List.{length-map}
 use Rattle.weight_exact.specs.declared.run.Verdict.{Verdict}
-use Rattle.farm_rules.specs.Orders.{Next, day_is_full, no_search, order_for}
+use Rattle.farm_rules.specs.declared.orders.Draft.{Draft}
+use Rattle.farm_rules.specs.declared.orders.NoOrder.{NoOrder}
+use Rattle.farm_rules.specs.declared.orders.NoOrder.TheVariants as none
 use Rattle.farm_types.specs.Moment.{moment_ms}
 use Rattle.farm_types.specs.declared.commit_id.CommitId.{CommitId}
 use Rattle.farm_types.specs.declared.key.Key.{Key}
@@ -11,9 +14,9 @@ use Rattle.farm_types.specs.declared.moment.Moment.{Moment}
 use Rattle.farm_entry.specs.Decision.{add_at, add_opening, decide, asked_before, fate_of, full_decision, is_show, keyed_decision, known_decision, lease_decision, moment_used, or_else, own_decision, refuse_opening, repeat_or_clash, report_decision, cancel_decision, revert_decision, shape_decision}
 use Rattle.farm_entry.specs.Ask.{opening_of}
 use Rattle.farm_entry.specs.Due.{next_run}
-use Rattle.farm_entry.specs.History.{all_leases, key_in, lease_ms, lease_of, opening_numbered, openings, order_lines, place_of_key, place_of_report}
+use Rattle.farm_entry.specs.History.{all_leases, daily_limit, key_in, lease_ms, lease_of, opening_numbered, openings, order_lines, place_of_key, place_of_report}
 use Rattle.farm_entry.specs.Legal.{IsAddedBy, IsNext, ask_of, command_of}
-use Rattle.farm_entry.specs.Orders.{day_in, next_order_at}
+use Rattle.farm_entry.specs.Orders.{confirmed_searches, day_in, next_order_at, ordered, orders}
 use Rattle.farm_entry.specs.Standing.{is_active, standing}
 use Rattle.farm_entry.specs.declared.decision.Decision.{Decision}
 use Rattle.farm_entry.specs.declared.decision.Decision.TheVariants.{New, Refuse, Repeat, Show}
@@ -30,6 +33,7 @@ use Rattle.farm_entry.specs.declared.opening.Opening.{Opening}
 use Rattle.farm_entry.specs.declared.refusal.OpenFault.{OpenFault}
 use Rattle.farm_entry.specs.declared.refusal.Refusal.{Refusal}
 use Rattle.farm_entry.specs.declared.refusal.Refusal.TheVariants.{Full, KeyClash, SearchEnded, TooManySearches}
+use Rattle.farm_laws.proofs.Chosen.{is_next_order}
 
 -- The facts of each kind, at a history and the moment of the entry.
 
@@ -59,7 +63,7 @@ pub record CancelledNext (H : List Entry) (search : ℕ) : Type 0 where
 
 -- an order was handed out: the next one, under the next number, on the day of the moment
 pub record OrderedNext (H : List Entry) (m : Moment) (order : ℕ) (commit : CommitId) (search day : ℕ) : Type 0 where
-  pub next : next_order_at H (moment_ms m) ≡ order_for (record { search = search; commit = commit })
+  pub next : next_order_at H (moment_ms m) ≡ Ok (record { order = order; commit = commit; search = search; day = day })
   pub number : order ≡ length (order_lines H) + 1
   pub dated : day ≡ day_in H (moment_ms m)
 
@@ -226,19 +230,32 @@ from_cancel H key s M m (Some o) e h =
     let both = from_active H key s M m o (is_active (standing H o)) h in
     (record { opening = o; known = e; active = both.0 }, both.1)
 
-from_revert : (H : List Entry) (key : Key) (agent : List ℕ) (M m : Moment) (n : Next) (order : ℕ) (commit : CommitId) (s day : ℕ) →
-    revert_decision H key agent M n ≡ New (record { at = m; what = Ordered key agent order commit s day }) →
-    (n ≡ order_for (record { search = s; commit = commit })) × (order ≡ length (order_lines H) + 1)
-    × (day ≡ day_in H (moment_ms M)) × (M ≡ m)
-from_revert H key agent M m no_search order commit s day h = (cc, cc, cc, cc)
-from_revert H key agent M m (day_is_full count) order commit s day h = (cc, cc, cc, cc)
-from_revert H key agent M m (order_for c) order commit s day h =
-    let what : Ordered key agent (length (order_lines H) + 1) c.commit c.search (day_in H (moment_ms M))
-    ≡ Ordered key agent order commit s day = same-what _ _ h in
-    let of_search : c.search ≡ s = cc in
-    let for_commit : c.commit ≡ commit = cc in
-    let next : c ≡ record { search = s; commit = commit } = λ i. record { search = of_search i; commit = for_commit i } in
-    (ap order_for next, cc, cc, same-at _ _ h)
+from_revert : (key : Key) (agent : List ℕ) (M m : Moment) (n : Result Draft NoOrder) (order : ℕ) (commit : CommitId) (s day : ℕ) →
+    revert_decision key agent M n ≡ New (record { at = m; what = Ordered key agent order commit s day }) →
+    (n ≡ Ok (record { order = order; commit = commit; search = s; day = day })) × (M ≡ m)
+from_revert key agent M m (Err none.NoRevert) order commit s day h = absurd (refused-adds _ _ h)
+from_revert key agent M m (Err (none.DailyLimit on count)) order commit s day h = absurd (refused-adds _ _ h)
+from_revert key agent M m (Ok d) order commit s day h =
+    let what : Ordered key agent d.order d.commit d.search d.day ≡ Ordered key agent order commit s day = same-what _ _ h in
+    let numbered : d.order ≡ order = cc in
+    let for_commit : d.commit ≡ commit = cc in
+    let of_search : d.search ≡ s = cc in
+    let dated : d.day ≡ day = cc in
+    let next : d ≡ record { order = order; commit = commit; search = s; day = day } =
+        λ i. record { order = numbered i; commit = for_commit i; search = of_search i; day = dated i } in
+    (ap Ok next, same-at _ _ h)
+
+-- so it has the next number, and the day of the moment
+next_facts : (H : List Entry) (m : Moment) (order : ℕ) (commit : CommitId) (s day : ℕ) →
+    next_order_at H (moment_ms m) ≡ Ok (record { order = order; commit = commit; search = s; day = day }) →
+    OrderedNext H m order commit s day
+next_facts H m order commit s day h =
+    let next = is_next_order (confirmed_searches H) (orders H) (day_in H (moment_ms m)) (daily_limit H) _ h in
+    record {
+      next = h;
+      number = next.number ∙ ap (λ (n : ℕ). n + 1) (length-map (order_lines H) ordered);
+      dated = next.dated;
+    }
 
 few_of : (n most : ℕ) → nat_le most n ≡ false → n < most
 few_of n most h = grind (arith, nat_tests)
@@ -281,12 +298,12 @@ stepped_as H m (Cancelled key s) h =
     }
 stepped_as H m (Ordered key agent order commit s day) h =
     let p = passed H (command.TakeRevert key agent) m _ h in
-    let own = from_revert H key agent (moment_used H m) m (next_order_at H (moment_ms (moment_used H m))) order commit s day p.own in
+    let own = from_revert key agent (moment_used H m) m (next_order_at H (moment_ms (moment_used H m))) order commit s day p.own in
     record {
-      at = own.3;
+      at = own.1;
       room = room_of H p.full;
       fresh = λ k e. still_unused H key k e (unused H (command.TakeRevert key agent) key p.known);
-      facts = subst (λ (M : Moment). OrderedNext H M order commit s day) own.3 (record { next = own.0; number = own.1; dated = own.2 });
+      facts = subst (λ (M : Moment). OrderedNext H M order commit s day) own.1 (next_facts H (moment_used H m) order commit s day own.0);
     }
 
 pub stepped : (H : List Entry) (e : Entry) → IsNext H e → Stepped H e.at e.what

@@ -1,6 +1,7 @@
 //! Laws of the orders of every legal history: whom they are against, how many there are, and of which days.
 
 ghost use Rattle.std.specs.Prelude.{◌≡◌, ◌≢◌, ℕ, ◌≤◌, List, length, AllPairs, Contains, Some};
+ghost use Rattle.farm_types.specs.declared.moment.TheConstants.{LAST_DAY};
 ghost use Rattle.farm_entry.specs.History.{opening_numbered, openings, order_lines};
 ghost use Rattle.farm_entry.specs.Legal.{IsLegal};
 ghost use Rattle.farm_entry.specs.Setup.{commit_of};
@@ -27,5 +28,5 @@ pub fn orders_are_few()
 
 /// No order is of a later day than 2100-01-01, which is 47,482 days after 1970-01-01.
 pub fn days_are_in_range()
-    ensures { (H : List Entry) (x : OrderLine) → IsLegal H → Contains (order_lines H) x → x.day ≤ 47_482 }
+    ensures { (H : List Entry) (x : OrderLine) → IsLegal H → Contains (order_lines H) x → x.day ≤ LAST_DAY }
 {}

@@ -98,5 +98,5 @@ pub fn few_runs_are_out()
     ensures verifying { (H : List Entry) (o : Opening) (moment : ℕ) → IsLegal H → Contains (openings H) o
         → IsNotBefore H moment → length (open_leases H o.search Verify moment) ≤ 2 * o.reruns }
     ensures outstanding { (H : List Entry) (o : Opening) (moment : ℕ) → IsLegal H → Contains (openings H) o
-        → IsNotBefore H moment → length (outstanding H o moment) ≤ 16 }
+        → IsNotBefore H moment → length (outstanding H o moment) ≤ 2 * MAX_RERUNS }
 {}

@@ -49,20 +49,3 @@ draft_of (Some c) order day limit count =
 abbrev pub next_draft : List Candidate → List Ordered → (day limit : ℕ) → Result Draft NoOrder
 next_draft searches orders day limit =
     draft_of (earliest (candidates searches orders)) (length orders + 1) day limit (orders_of day orders)
-
--- Until the layers above cite the words before this line: the same by other names.
-
-abbrev pub Confirmed : Type 0
-Confirmed = Candidate
-
-pub data Next : Type 0 where
-  no_search : Next
-  day_is_full : (count : ℕ) → Next
-  order_for : Candidate → Next
-
-abbrev pub next_of : Option Candidate → (limit count : ℕ) → Next
-next_of None limit count = no_search
-next_of (Some c) limit count = if nat_lt count limit then order_for c else day_is_full count
-
-abbrev pub next_order : List Candidate → List Ordered → (day limit : ℕ) → Next
-next_order searches orders day limit = next_of (earliest (candidates searches orders)) limit (orders_of day orders)

@@ -20,7 +20,7 @@ use Rattle.weight_exact.proofs.FactorNumbers.{fail_in_positive, fail_out_positiv
 use Rattle.weight_exact.proofs.Shares.{total_positive}
 use Rattle.weight_exact.specs.Load.{floor}
 use Rattle.weight_exact.specs.Plan.{plan}
-use Rattle.weight_exact.specs.declared.limits.TheConstants.{MAX_SUSPECTS}
+use Rattle.weight_exact.specs.declared.limits.TheConstants.{MAX_CALM, MAX_SUSPECTS}
 use Rattle.farm_entry.specs.History.{openings, runs}
 use Rattle.farm_entry.specs.Legal.{IsLegal}
 use Rattle.farm_entry.specs.Standing.{standing}
@@ -58,7 +58,7 @@ are_priors o suspects ws calm weights same calmly range =
       few = omega (arith, long, range.few);
       each = subst (λ (xs : List ℕ). All IsWeight xs) (sym are) each;
       some_calm = subst (λ (n : ℕ). 1 ≤ n) (sym calmly) range.calm_in.0;
-      little_calm = subst (λ (n : ℕ). n ≤ 1000000) (sym calmly) range.calm_in.1;
+      little_calm = subst (λ (n : ℕ). n ≤ MAX_CALM) (sym calmly) range.calm_in.1;
     }
 
 -- each hypothesis has a prior weight

@@ -11,6 +11,7 @@ use Rattle.farm_types.specs.declared.stage.Stage.{Stage}
 use Rattle.farm_entry.specs.History.{all_leases, counted, counted_run, lease_in, leases, order_in, order_lines, report_in, reports}
 use Rattle.farm_entry.specs.Legal.{IsLegal}
 use Rattle.farm_entry.specs.Orders.{ordered}
+use Rattle.farm_entry.specs.declared.limits.TheConstants.{MAX_ENTRIES}
 use Rattle.farm_entry.specs.declared.entry.Entry.{Entry}
 use Rattle.farm_entry.specs.declared.lease.LeasedRun.{LeasedRun}
 use Rattle.farm_entry.specs.declared.order_page.OrderLine.{OrderLine}
@@ -20,20 +21,20 @@ use Rattle.plain_history.proofs.Holding.{length-filter_map-le, length-filter-le}
 not_above : (n : ℕ) → n ≤ 0 → nat_lt 0 n ≡ false
 not_above n h = grind (arith, nat_tests)
 
-pub few_leases : (H : List Entry) → IsLegal H → length (all_leases H) ≤ 1000000
+pub few_leases : (H : List Entry) → IsLegal H → length (all_leases H) ≤ MAX_ENTRIES
 few_leases H legal = omega (arith, length-filter_map-le (λ (e : Entry). lease_in e.what) H, few_entries H legal)
 
-pub few_orders : (H : List Entry) → IsLegal H → length (order_lines H) ≤ 1000000
+pub few_orders : (H : List Entry) → IsLegal H → length (order_lines H) ≤ MAX_ENTRIES
 few_orders H legal = omega (arith, length-filter_map-le (λ (e : Entry). order_in e.what) H, few_entries H legal)
 
-pub few_of_search : (H : List Entry) (search : ℕ) → IsLegal H → length (leases H search) ≤ 1000000
+pub few_of_search : (H : List Entry) (search : ℕ) → IsLegal H → length (leases H search) ≤ MAX_ENTRIES
 few_of_search H search legal = omega (arith, length-filter-le (λ (l : LeasedRun). l.search == search) (all_leases H), few_leases H legal)
 
-pub few_counted : (H : List Entry) (search : ℕ) (stage : Stage) → IsLegal H → length (counted H search stage) ≤ 1000000
+pub few_counted : (H : List Entry) (search : ℕ) (stage : Stage) → IsLegal H → length (counted H search stage) ≤ MAX_ENTRIES
 few_counted H search stage legal =
     omega (arith, length-filter_map-le (counted_run H search stage) (reports H), length-filter_map-le (λ (e : Entry). report_in e.what) H, few_entries H legal)
 
-pub few_of_day : (H : List Entry) (day : ℕ) (lines : List OrderLine) → IsLegal H → lines ≡ order_lines H → orders_of day (map ordered lines) ≤ 1000000
+pub few_of_day : (H : List Entry) (day : ℕ) (lines : List OrderLine) → IsLegal H → lines ≡ order_lines H → orders_of day (map ordered lines) ≤ MAX_ENTRIES
 few_of_day H day lines legal are =
     omega (arith, count_by-le-length (λ (o : Ordered). o.day == day) (map ordered lines), length-map lines ordered, ap length are, few_orders H legal)
 

@@ -3,3 +3,4 @@ pub mod Few
 pub mod Growth
 pub mod Histories
 pub mod Repeats
+pub mod Telling

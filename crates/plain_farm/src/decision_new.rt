@@ -5,18 +5,17 @@ ghost use Rattle.weight_exact.specs.Load.{is_fail_above, last_pass, load, passed
 ghost use Rattle.farm_entry.specs.Decision.{cancel_decision, fate_at, fate_of, is_past_budget, lease_decision, open_decision, report_decision, revert_decision};
 ghost use Rattle.farm_entry.specs.History.{opening_numbered, openings};
 ghost use Rattle.farm_entry.specs.Legal.{IsLegal};
-ghost use Rattle.plain_farm.specs.Next.{next_as};
 
 use crate::due_run::reruns_at;
-use crate::orders::{Next, day_in};
 use crate::standings::standing;
 use farm_entry::{
     Decision, BoxedOpening, DueRun, Entry, Fate, LeasedRun, MAX_SEARCHES, OpenAsk, Opening, Refusal,
     Standing, What,
 };
+use farm_rules::{Draft, NoOrder};
 use farm_types::{Key, Memory, Moment, Name, Stage};
 use plain_history::{
-    all_leases_count, lease_ms, opening_numbered, openings_count, orders_count, reruns, runs,
+    all_leases_count, lease_ms, opening_numbered, openings_count, reruns, runs,
 };
 use std::alloc::Global;
 use weight_exact::{Factors, Run, Verdict};
@@ -223,31 +222,30 @@ pub(crate) fn cancel_decision(
     }
 }
 
-/// The next order.
+/// The next order, if there is one.
 pub(crate) fn revert_decision(
-    history: &[Entry],
     key: Key,
     agent: &Name,
     at: Moment,
-    next: Next,
+    next: Result<Draft, NoOrder>,
 ) -> Result<Decision, Memory>
-    requires { IsLegal history.now }
-    ensures { IfOk result (λ found. found ≡ revert_decision history.now key agent.now at (next_as next)) }
+    ensures { IfOk result (λ found. found ≡ revert_decision key agent.now at next) }
 {
-    let day = day_in(history, at);
     match next {
-        Next::NoSearch => Ok(Decision::Refuse(Refusal::NoRevert)),
-        Next::DayIsFull(count) => Ok(Decision::Refuse(Refusal::DailyLimit { day, count })),
-        Next::OrderFor(confirmed) => {
+        Ok(draft) => {
             let what = What::Ordered {
                 key,
                 agent: agent.copy()?,
-                order: orders_count(history) as u32 + 1,
-                commit: confirmed.commit,
-                search: confirmed.search,
-                day,
+                order: draft.order,
+                commit: draft.commit,
+                search: draft.search,
+                day: draft.day,
             };
             Ok(Decision::New(Entry { at, what }))
+        }
+        Err(NoOrder::NoRevert) => Ok(Decision::Refuse(Refusal::NoRevert)),
+        Err(NoOrder::DailyLimit { day, count }) => {
+            Ok(Decision::Refuse(Refusal::DailyLimit { day, count }))
         }
     }
 }

@@ -75,7 +75,7 @@ fn own_decision(
         Command::Cancel { key, search } => cancel_decision(alloc, history, *key, *search, at),
         Command::TakeRevert { key, agent } => {
             let next = next_order_at(alloc, history, at)?;
-            revert_decision(history, *key, agent, at, next)
+            revert_decision(*key, agent, at, next)
         }
         Command::ShowSearch { search } => page_decision(alloc, history, *search),
         Command::ShowFarm => Ok(Decision::Show(Reply::Farm(totals(alloc, history)?))),

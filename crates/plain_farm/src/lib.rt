@@ -27,7 +27,7 @@ mod standings;
 pub use decisions::decide;
 pub use due_run::{due, due_runs, is_open, next_run, open_leases, open_positions, plan};
 pub use legal::{first_illegal, is_next};
-pub use orders::{Confirmed, Next, confirmed_searches, day_in, next_order_at};
+pub use orders::{confirmed_searches, day_in, next_order_at};
 pub use pages::{order_page, page_of, shares_of, totals};
 pub use reply::{reply_at, reply_to};
 pub use standings::{belief, first_belief, standing};

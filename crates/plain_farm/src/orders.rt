@@ -1,7 +1,7 @@
 //! Which commit is to be reverted next.
 
 ghost use Rattle.std.specs.Prelude.{◌≡◌, map, IfOk};
-ghost use Rattle.std.specs.Option.{option_and_then, option_map};
+ghost use Rattle.std.specs.Option.{option_and_then};
 ghost use Rattle.farm_rules.specs.Orders.{candidates, earlier, earliest, has_order, orders_of};
 ghost use Rattle.farm_types.specs.CommitId.{same_id};
 ghost use Rattle.farm_types.specs.Moment.{moment_ms};
@@ -10,34 +10,14 @@ ghost use Rattle.farm_entry.specs.Legal.{IsLegal};
 ghost use Rattle.farm_entry.specs.Orders.{confirmed_at, confirmed_searches, day_in, next_order_at, ordered};
 ghost use Rattle.farm_entry.specs.Standing.{standing};
 ghost use Rattle.plain_history.specs.Held.{IsHeld};
-ghost use Rattle.plain_farm.specs.Next.{confirmed_as, next_as, searches_as};
 
 use crate::standings::standing;
 use farm_entry::{Entry, Opening, OrderLine, Standing, What};
+use farm_rules::{Candidate, Draft, NoOrder};
 use farm_types::{CommitId, Memory, Moment};
 use plain_history::{daily_limit, order_lines, push_some, zone_minutes};
 use revert_orders::day_of;
 use std::alloc::Global;
-
-/// A search whose culprit is confirmed.
-#[derive(Clone, Copy, Debug, PartialEq, Eq)]
-pub struct Confirmed {
-    /// The number of the search, from 1.
-    pub search: u32,
-    /// The culprit.
-    pub commit: CommitId,
-}
-
-/// What the next request for an order comes to.
-#[derive(Clone, Copy, Debug, PartialEq, Eq)]
-pub enum Next {
-    /// No confirmed search is left whose commit has no order.
-    NoSearch,
-    /// The day has its orders already, so many of them.
-    DayIsFull(u32),
-    /// This search gets the order.
-    OrderFor(Confirmed),
-}
 
 /// The day of a moment in the farm's zone, in days since 1970-01-01.
 pub fn day_in(history: &[Entry], moment: Moment) -> u32
@@ -49,11 +29,11 @@ pub fn day_in(history: &[Entry], moment: Moment) -> u32
 // The searches that wait for an order.
 
 /// A search whose culprit is confirmed.
-fn confirmed_at(standing: Standing, opening: &Opening) -> Option<Confirmed>
-    ensures { option_map confirmed_as result ≡ confirmed_at standing opening.now }
+fn confirmed_at(standing: Standing, opening: &Opening) -> Option<Candidate>
+    ensures { result ≡ confirmed_at standing opening.now }
 {
     match standing {
-        Standing::Confirmed(culprit) => Some(Confirmed {
+        Standing::Confirmed(culprit) => Some(Candidate {
             search: opening.search,
             commit: opening.commit(culprit),
         }),
@@ -62,10 +42,10 @@ fn confirmed_at(standing: Standing, opening: &Opening) -> Option<Confirmed>
 }
 
 /// The search that an entry opened, if it opened one and its culprit is confirmed.
-fn confirmed_in(alloc: Global, history: &[Entry], what: &What) -> Result<Option<Confirmed>, Memory>
+fn confirmed_in(alloc: Global, history: &[Entry], what: &What) -> Result<Option<Candidate>, Memory>
     requires legal { IsLegal history.now }
     requires held { IsHeld history.now what.now }
-    ensures { IfOk result (λ found. option_map confirmed_as found
+    ensures { IfOk result (λ found. found
         ≡ option_and_then (λ o. confirmed_at (standing history.now o) o) (opening_in what.now)) }
 {
     match what.opening() {
@@ -78,9 +58,9 @@ fn confirmed_in(alloc: Global, history: &[Entry], what: &What) -> Result<Option<
 }
 
 /// The searches whose culprit is confirmed, by their numbers.
-pub fn confirmed_searches(alloc: Global, history: &[Entry]) -> Result<Vec<Confirmed>, Memory>
+pub fn confirmed_searches(alloc: Global, history: &[Entry]) -> Result<Vec<Candidate>, Memory>
     requires { IsLegal history.now }
-    ensures { IfOk result (λ found. searches_as found.items ≡ confirmed_searches history.now) }
+    ensures { IfOk result (λ found. found.items ≡ confirmed_searches history.now) }
 {
     let mut found = Vec::new(alloc);
     for entry in history {
@@ -111,11 +91,11 @@ fn is_for(line: &OrderLine, commit: CommitId) -> bool
 /// The confirmed searches whose commit has no order yet.
 fn candidates(
     alloc: Global,
-    searches: &[Confirmed],
+    searches: &[Candidate],
     lines: &[OrderLine],
-) -> Result<Vec<Confirmed>, Memory>
-    ensures { IfOk result (λ found. searches_as found.items
-        ≡ candidates (searches_as searches.now) (map ordered lines.now)) }
+) -> Result<Vec<Candidate>, Memory>
+    ensures { IfOk result (λ found. found.items
+        ≡ candidates searches.now (map ordered lines.now)) }
 {
     let searches = searches.iter().copied();
     Ok(
@@ -126,8 +106,8 @@ fn candidates(
 }
 
 /// Of two searches the one with the smaller number, and on a tie the first.
-fn earlier(confirmed: Confirmed, other: Option<Confirmed>) -> Confirmed
-    ensures { confirmed_as result ≡ earlier (confirmed_as confirmed) (option_map confirmed_as other) }
+fn earlier(confirmed: Candidate, other: Option<Candidate>) -> Candidate
+    ensures { result ≡ earlier confirmed other }
 {
     match other {
         Some(other) if confirmed.search > other.search => other,
@@ -136,8 +116,8 @@ fn earlier(confirmed: Confirmed, other: Option<Confirmed>) -> Confirmed
 }
 
 /// The search with the smallest number, the first of them on a tie.
-fn earliest(searches: &[Confirmed]) -> Option<Confirmed>
-    ensures { option_map confirmed_as result ≡ earliest (searches_as searches.now) }
+fn earliest(searches: &[Candidate]) -> Option<Candidate>
+    ensures { result ≡ earliest searches.now }
 {
     match searches {
         [] => None,
@@ -152,21 +132,31 @@ fn orders_of(day: u32, lines: &[OrderLine]) -> usize
     lines.iter().filter(|line| line.day == day).count()
 }
 
-/// What the next request for an order comes to at a moment.
-pub fn next_order_at(alloc: Global, history: &[Entry], moment: Moment) -> Result<Next, Memory>
+/// What the next request for an order comes to at a moment: the next order, or why there is none.
+pub fn next_order_at(
+    alloc: Global,
+    history: &[Entry],
+    moment: Moment,
+) -> Result<Result<Draft, NoOrder>, Memory>
     requires { IsLegal history.now }
-    ensures { IfOk result (λ next. next_as next ≡ next_order_at history.now (moment_ms moment)) }
+    ensures { IfOk result (λ next. next ≡ next_order_at history.now (moment_ms moment)) }
 {
     let searches = confirmed_searches(alloc, history)?;
     let lines = order_lines(alloc, history)?;
     let candidates = candidates(alloc, &searches, &lines)?;
-    let Some(confirmed) = earliest(&candidates) else {
-        return Ok(Next::NoSearch);
+    let Some(first) = earliest(&candidates) else {
+        return Ok(Err(NoOrder::NoRevert));
     };
-    let count = orders_of(day_in(history, moment), &lines);
-    if count < daily_limit(history) as usize {
-        Ok(Next::OrderFor(confirmed))
+    let day = day_in(history, moment);
+    let count = orders_of(day, &lines) as u32;
+    if count < daily_limit(history) {
+        Ok(Ok(Draft {
+            order: lines.len() as u32 + 1,
+            commit: first.commit,
+            search: first.search,
+            day,
+        }))
     } else {
-        Ok(Next::DayIsFull(count as u32))
+        Ok(Err(NoOrder::DailyLimit { day, count }))
     }
 }

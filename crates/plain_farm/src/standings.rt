@@ -1,6 +1,6 @@
 //! Where a search stands in a history.
 
-ghost use Rattle.std.specs.Prelude.{◌≡◌, ◌≤◌, [], map, count_by, Contains, IfOk};
+ghost use Rattle.std.specs.Prelude.{◌≡◌, [], map, count_by, Contains, IfOk};
 ghost use Rattle.flake_rate.specs.Miss.{FitsRate};
 ghost use Rattle.farm_rules.specs.Reruns.{enough, is_against, outcome, vindicated};
 ghost use Rattle.weight_exact.specs.Counts.{is_fail_at, is_pass_at};
@@ -17,10 +17,8 @@ use farm_types::Memory;
 use plain_history::{reruns, runs, was_cancelled, went_over};
 use posterior::Belief;
 use std::alloc::Global;
-use std::marker::Brand;
-use std::sync::ledger::{Blank, Ledger};
 use suspect_range::Suspect;
-use weight_exact::{Run, Steps};
+use weight_exact::Run;
 
 // What the runs say.
 
@@ -67,24 +65,20 @@ pub fn belief(alloc: Global, history: &[Entry], opening: &Opening) -> Result<Bel
 {
     let mut belief = first_belief(alloc, opening)?;
     let told = runs(alloc, history, opening.search)?;
-    tell::<Brand>(&mut belief, &told, Blank::new(1));
+    tell(&mut belief, &told);
     Ok(belief)
 }
 
 /// Tells a belief that was told none yet runs that it has room for, one by one.
-fn tell<L: Ledger>(belief: &mut Belief, told: &[Run], blank: Blank)
-    requires name { blank.name ≡ L.name }
-    requires parts { blank.parts ≡ L.parts }
-    requires some { 1 ≤ L.parts }
+fn tell(belief: &mut Belief, told: &[Run])
     requires none { StandsFor belief.old [] }
     requires in_range { AreInRange belief.old.setup told.now }
     requires fit { LoadsFit belief.old.setup told.now }
     ensures setup { belief.new.setup ≡ belief.old.setup }
     ensures told { StandsFor belief.new told.now }
 {
-    let mut steps = Steps::<L>::new(blank);
     for run in told {
-        let _noted = belief.note(run.position, run.verdict, &mut steps);
+        let _noted = belief.note_uncounted(run.position, run.verdict);
     }
 }
 

@@ -1,15 +1,12 @@
 use Rattle.std.proofs.Common.{◌<◌, ◌++◌, [], length, take, List, Option, sym, ap, ◌∙◌, arith}
 use Rattle.std.specs.List.{cons_option, filter_map}
-use Rattle.std.proofs.lemmas.List.{map-append}
-use Rattle.std.specs.Option.{option_map}
-use Rattle.farm_rules.specs.Orders as rules
+use Rattle.farm_rules.specs.declared.orders.Candidate.{Candidate}
 use Rattle.farm_entry.specs.History.{openings}
 use Rattle.farm_entry.specs.Orders.{confirmed_at}
 use Rattle.farm_entry.specs.Standing.{standing}
 use Rattle.farm_entry.specs.declared.opening.Opening.{Opening}
-use Rattle.plain_farm.specs.Next.{confirmed_as, searches_as}
 use Rattle.plain_history.proofs.Holding.{is_held}
-use Rattle.plain_history.proofs.Passes.{made-upto, option-mapped}
+use Rattle.plain_history.proofs.Passes.{made-upto}
 use Rattle.plain_farm.proofs.orders.confirmed_searches.Goals as goal
 
 pub confirmed_in-requires-clause-held : goal.confirmed_in-requires-clause-held
@@ -23,10 +20,7 @@ loop-entry-preserved c =
     let i = c.loop-entry.entry-index in
     let below : i < length H = omega arith in
     let one = λ (o : Opening). confirmed_at (standing H o) o in
-    let added = c.in_ok-confirmed_in.field-0 in
-    ap searches_as c.in_ok-push_some.ensures.added
-    ∙ map-append confirmed_as c.loop-entry.found.items (cons_option added [])
-    ∙ ap (λ (xs : List rules.Confirmed). searches_as c.loop-entry.found.items ++ xs) (option-mapped confirmed_as added)
-    ∙ ap (λ (xs : List rules.Confirmed). xs ++ cons_option (option_map confirmed_as added) []) c.loop-entry.invariant
-    ∙ ap (λ (d : Option rules.Confirmed). filter_map one (openings (take i H)) ++ cons_option d []) c.in_ok-confirmed_in.ensures
+    c.in_ok-push_some.ensures.added
+    ∙ ap (λ (xs : List Candidate). xs ++ cons_option c.in_ok-confirmed_in.field-0 []) c.loop-entry.invariant
+    ∙ ap (λ (d : Option Candidate). filter_map one (openings (take i H)) ++ cons_option d []) c.in_ok-confirmed_in.ensures
     ∙ sym (made-upto one H i c.entry-item.result below c.entry-item.is)

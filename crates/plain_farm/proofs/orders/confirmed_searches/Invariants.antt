@@ -3,9 +3,8 @@ use Rattle.std.specs.List.{filter_map}
 use Rattle.farm_entry.specs.History.{openings}
 use Rattle.farm_entry.specs.Orders.{confirmed_at}
 use Rattle.farm_entry.specs.Standing.{standing}
-use Rattle.plain_farm.specs.Next.{searches_as}
 use Rattle.plain_farm.proofs.orders.confirmed_searches.Given as goal
 
 abbrev pub invariant-loop-entry : goal.invariant-loop-entry
 invariant-loop-entry l =
-    searches_as l.found.items ≡ filter_map (λ o. confirmed_at (standing l.history o) o) (openings (take l.entry-index l.history))
+    l.found.items ≡ filter_map (λ o. confirmed_at (standing l.history o) o) (openings (take l.entry-index l.history))
