@@ -1,0 +1,10 @@
+pub mod Answering
+pub mod Completing
+pub mod Endings
+pub mod Growing
+pub mod Helds
+pub mod LineEnds
+pub mod LineLaws
+pub mod SameAnswers
+pub mod SoFar
+pub mod SomeLines
