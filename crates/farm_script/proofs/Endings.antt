@@ -1,6 +1,7 @@
 -- How a run ends that a fault stopped.
-use Rattle.std.proofs.Common.{◌≡◌, ◌<◌, ◌≤◌, ℕ, Bool, true, List, [], Option, Some, refl, sym, ap, ◌∙◌, subst, inl, inr, ⊎_elim, arith}
+use Rattle.std.proofs.Common.{◌≡◌, ◌<◌, ◌≤◌, ℕ, Bool, true, false, List, [], Option, Some, refl, sym, ap, ◌∙◌, ◌-◌, ◌^◌, subst, inl, inr, ⊎_elim, arith}
 use Rattle.std.proofs.Math.Nat.{eq-or-lt_of_le}
+use Rattle.std.proofs.lemmas.Bool.{false≢true}
 use Rattle.std.specs.Prelude.{Err, ◌↔◌}
 use Rattle.std.specs.Io.KnownBytes.{prepend_known}
 use Rattle.std.specs.Option.{ForSome}
@@ -11,9 +12,10 @@ use Rattle.farm_script.specs.LineFaults.{HasCause}
 use Rattle.farm_script.specs.RunEnds.{Seen, Stopped, RunEnds, end_of}
 use Rattle.farm_script.specs.declared.answer_line.LineFault.{LineFault}
 use Rattle.farm_script.specs.declared.answer_line.LineFault.TheVariants as fault
+use Rattle.farm_script.proofs.Answering.{stops-before}
 use Rattle.farm_script.proofs.SomeLines.{some-from_stops}
 use Rattle.farm_script.specs.declared.run_end.RunEnd.TheVariants.{Done, StoreFault}
-use Rattle.farm_script.proofs.SoFar.{SoFar, StoppedAt, so_far-end}
+use Rattle.farm_script.proofs.SoFar.{SoFar, StoppedAt, prepend_known-nil, so_far-end}
 use Rattle.link_io.specs.declared.source.TheConstants.{INPUT_LIMIT}
 
 -- a count that rose later rose
@@ -73,3 +75,20 @@ pub store-failed : {E : Type 0} {first writes writes_now stores stores_now : ℕ
 store-failed fault.WriteFault low cause is = absurd (cc)
 store-failed fault.StoreFault low cause is = rose-later _ _ _ low (cause.store_fault refl)
 store-failed fault.Memory low cause is = absurd (cc)
+
+-- a run that stopped before it took anything
+pub stopped-at_first : {E : Type 0} (rule : Rule E) (seen : Seen E) → Stopped rule seen seen
+stopped-at_first rule seen =
+    let none = stops-before rule seen.history seen.streams.written [] in
+    let few : 0 ≤ INPUT_LIMIT = omega arith in
+    let going : false ≡ true → ForSome seen.streams.left (λ rest. rest ≡ []) = λ e. absurd (false≢true e) in (
+      [],
+      false,
+      record { bytes = prepend_known-nil seen.streams.left; few = few; ended = going },
+      some-from_stops none,
+    )
+
+-- a count that stayed 0 didn't rise
+pub none-rose : ¬ Rose 0 0
+none-rose (inl rose) = absurd (omega arith)
+none-rose (inr stands) = let last : 0 ≡ 2 ^ 64 - 1 = stands.0 in absurd (omega arith)

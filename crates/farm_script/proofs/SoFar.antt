@@ -16,7 +16,7 @@ prepend_known-append : (first second : List ℕ) (left : Option (List ℕ))
 prepend_known-append first second None = refl
 prepend_known-append first second (Some rest) = ap (λ (bytes : List ℕ). Some bytes) (sym (append_assoc first second rest))
 
-prepend_known-nil : (left : Option (List ℕ)) → left ≡ prepend_known [] left
+pub prepend_known-nil : (left : Option (List ℕ)) → left ≡ prepend_known [] left
 prepend_known-nil None = refl
 prepend_known-nil (Some rest) = refl
 

@@ -1,4 +1,6 @@
+pub mod ByHeld
 pub mod FarmRule
+pub mod FoundedRun
 pub mod Held
 pub mod Images
 pub mod LineFaults

@@ -62,10 +62,9 @@ RunEnds rule Memory before after = Stopped rule before after
 
 -- where nothing fails, the store neither, and memory is there, a run over an input below the limit is done, and one over
 -- a longer input stops at the limit
-abbrev pub RunCompletes : {E : Type 0} → RunEnd → Seen E → Seen E → Type 0
+abbrev pub RunCompletes : RunEnd → Streams → Streams → Type 0
 RunCompletes end before after =
-    ¬ Rose before.streams.read_faults after.streams.read_faults
-    → ¬ Rose before.streams.write_faults after.streams.write_faults
-    → (all : List ℕ) → before.streams.left ≡ Some all
+    ¬ Rose before.read_faults after.read_faults → ¬ Rose before.write_faults after.write_faults
+    → (all : List ℕ) → before.left ≡ Some all
     → (end ≡ Memory) ⊎ (end ≡ StoreFault) ⊎ ((length all < INPUT_LIMIT) × (end ≡ Done))
     ⊎ ((INPUT_LIMIT ≤ length all) × (end ≡ InputLimit))

@@ -37,8 +37,7 @@ pub fn run_script<F: ScriptFarm, S: Source, K: Sink>(
         (record { streams = streams S.Source K.Sink input.old output.old; history = F.history farm.old })
         (record { streams = streams S.Source K.Sink input.new output.new; history = F.history farm.new }) }
     ensures completes { RunCompletes result
-        (record { streams = streams S.Source K.Sink input.old output.old; history = F.history farm.old })
-        (record { streams = streams S.Source K.Sink input.new output.new; history = F.history farm.new }) }
+        (streams S.Source K.Sink input.old output.old) (streams S.Source K.Sink input.new output.new) }
     ensures store_fault { result ≡ RunEnd.StoreFault → Rose (F.count farm.old) (F.count farm.new) }
     ensures decided { result ≢ RunEnd.StoreFault → F.pending farm.new ≡ [] }
     ensures images { Grows F.moment F.left_since F.history F.pending farm.old farm.new }
