@@ -1,0 +1,11 @@
+pub mod Answering
+pub mod Completing
+pub mod Dates
+pub mod Endings
+pub mod Growing
+pub mod Helds
+pub mod LineEnds
+pub mod LineLaws
+pub mod SameAnswers
+pub mod SoFar
+pub mod SomeLines

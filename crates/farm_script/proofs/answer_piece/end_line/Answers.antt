@@ -1,0 +1,19 @@
+use Rattle.std.proofs.Common.{◌≡◌, ◌∙◌, ap, ◌++◌, ◌∷◌, []}
+use Rattle.std.proofs.lemmas.Result.{err_from_is_err_and}
+use Rattle.farm_script.specs.Held.{held}
+use Rattle.farm_script.proofs.Helds.{held-held}
+use Rattle.farm_script.proofs.SameAnswers.{answered-same, stops-same}
+use Rattle.farm_script.proofs.answer_piece.end_line.Goals as goal
+
+pub returns-in_err-answer_line-clause-stops : goal.returns-in_err-answer_line-clause-stops
+returns-in_err-answer_line-clause-stops g c =
+    let line = c.args.line.now ++ c.args.end.now in
+    let is : c.bytes.result.now ≡ held line = c.bytes.ensures.value ∙ c.in_ok-hold.ensures.ok in
+    let p = err_from_is_err_and c.from_residual-in_err-answer_line.result c.from_residual-in_err-answer_line.ensures.1 in
+    rw p.1 (stops-same g.met.F.ScriptFarm.by_held (ap (λ l. l ∷ []) (ap held is ∙ held-held line)) c.in_err-answer_line.ensures.stops)
+
+pub returns-clause-answered : goal.returns-clause-answered
+returns-clause-answered g c =
+    let line = c.args.line.now ++ c.args.end.now in
+    let is : c.bytes.result.now ≡ held line = c.bytes.ensures.value ∙ c.in_ok-hold.ensures.ok in
+    answered-same g.met.F.ScriptFarm.by_held (ap (λ l. l ∷ []) (ap held is ∙ held-held line)) c.in_ok-answer_line.ensures.answered

@@ -1,0 +1,9 @@
+pub mod ByHeld
+pub mod FarmRule
+pub mod FoundedRun
+pub mod Held
+pub mod Images
+pub mod LineFaults
+pub mod Lines
+pub mod RunEnds
+pub mod Script

@@ -1,0 +1,83 @@
+//! A farm in memory, as one that answers the lines of a script.
+
+ghost use Rattle.std.specs.Prelude.{◌≡◌, ◌⊎◌, ◌++◌, List, IfOk, OnOk, OnErr, string_bytes};
+ghost use Rattle.farm_entry.specs.Decision.{decide};
+ghost use Rattle.farm_entry.specs.Playing.{after};
+ghost use Rattle.farm_script.specs.FarmRule.{decision_text, farm_rule};
+
+use crate::script_farm::{ReplyFault, ScriptFarm};
+use farm_core::{CoreFault, Farm, Prepared};
+use farm_entry::{Command, Entry};
+use farm_types::{Memory, Moment};
+use farm_wire::{WireFault, fault_text, line_of, refusal_text, reply_text};
+use std::alloc::Global;
+
+impl ScriptFarm for Farm {
+    type Entry = Entry;
+
+    ghost use Rattle.std.specs.Prelude.{[]};
+    ghost use Rattle.farm_script.specs.ByHeld.{farm_rule-by_held};
+    ghost use Rattle.farm_script.specs.FarmRule.{farm_rule};
+
+    ghost history = { λ farm. farm.history };
+
+    ghost pending = { λ _. [] };
+
+    ghost rule = { farm_rule };
+
+    ghost count = { λ _. 0 };
+
+    ghost moment = { λ _. 0 };
+
+    // A crash leaves nothing.
+    ghost left_since = { λ _ _ _. ⊥ };
+
+    fn reply(&mut self, alloc: Global, line: &[u8]) -> Result<String, ReplyFault> {
+        Ok(answer_line(alloc, self, line)?)
+    }
+
+    ghost by_held = { farm_rule-by_held };
+}
+
+/// The reply to a line, without its line feed. The entry that it makes is in the history before its reply is written,
+/// and stays there where memory is wanting for that.
+fn answer_line(alloc: Global, farm: &mut Farm, line: &[u8]) -> Result<String, Memory>
+    ensures reply { IfOk result (λ text. string_bytes text ≡ (farm_rule farm.old.history line.now).0) }
+    ensures history { OnOk result (farm.new.history ≡ (farm_rule farm.old.history line.now).1) }
+    ensures err { OnErr result ((farm.new.history ≡ farm.old.history)
+        ⊎ (farm.new.history ≡ (farm_rule farm.old.history line.now).1)) }
+    ensures longer { (more : List Entry) × (farm.new.history ≡ farm.old.history ++ more) }
+{
+    match line_of(alloc, line) {
+        Ok((at, command)) => answer_command(alloc, farm, &command, at),
+        Err(WireFault::Memory) => Err(Memory),
+        Err(fault) => fault_text(alloc, &fault),
+    }
+}
+
+/// The reply to a command at a moment.
+fn answer_command(
+    alloc: Global,
+    farm: &mut Farm,
+    command: &Command,
+    at: Moment,
+) -> Result<String, Memory>
+    ensures reply { IfOk result
+        (λ text. string_bytes text ≡ decision_text farm.old.history (decide farm.old.history command.now at)) }
+    ensures history { OnOk result
+        (farm.new.history ≡ after farm.old.history (decide farm.old.history command.now at)) }
+    ensures err { OnErr result ((farm.new.history ≡ farm.old.history)
+        ⊎ (farm.new.history ≡ after farm.old.history (decide farm.old.history command.now at))) }
+    ensures longer { (more : List Entry) × (farm.new.history ≡ farm.old.history ++ more) }
+{
+    match farm.prepare(command, at) {
+        Ok(Prepared::Repeat(reply)) => reply_text(alloc, &reply),
+        Ok(Prepared::Shown(reply)) => reply_text(alloc, &reply),
+        Ok(Prepared::New(entry, reply)) => {
+            farm.commit(entry);
+            reply_text(alloc, &reply)
+        }
+        Err(CoreFault::Refused(refusal)) => refusal_text(alloc, &refusal),
+        Err(CoreFault::Memory) => Err(Memory),
+    }
+}

@@ -1,0 +1,77 @@
+//! What answers the lines of a script.
+
+ghost use Rattle.std.specs.Prelude.{◌≡◌, ◌≤◌, ◌⊎◌, ◌++◌, ℕ, List, [], IfOk, OnOk, IsErrOf, string_bytes};
+ghost use Rattle.link_io.specs.Counts.{Rose};
+ghost use Rattle.farm_script.specs.Held.{held};
+ghost use Rattle.farm_script.specs.Images.{Grows};
+
+use farm_types::Memory;
+use std::alloc::Global;
+
+/// Why a line was not answered.
+#[derive(Clone, Copy, Debug, PartialEq, Eq)]
+pub enum ReplyFault {
+    /// The store failed. What the line adds to the history may have been stored.
+    StoreFault,
+    /// Want of memory. What the line adds may stand in the history already.
+    Memory,
+}
+
+impl From<Memory> for ReplyFault {
+    ghost use Rattle.std.specs.Prelude.{◌≡◌};
+    ghost use Rattle.farm_script.specs.declared.script_farm.ReplyFault.TheVariants as reply;
+
+    ghost from_gives = { λ _ fault. fault ≡ reply.Memory };
+
+    fn from(_memory: Memory) -> ReplyFault {
+        ReplyFault::Memory
+    }
+}
+
+/// A farm that answers the lines of a script, one after the other: one in memory, or one over a store, which may fail
+/// and leave undecided whether an entry was stored.
+pub trait ScriptFarm {
+    /// What the history is a list of.
+    type Entry;
+
+    /// The history.
+    ghost history: { Self → List Self.Entry };
+
+    /// What a fault of the store left undecided.
+    ghost pending: { Self → List Self.Entry };
+
+    /// How a line is answered from a history: the reply's text, without its line feed, and the history after the line.
+    ghost rule: { List Self.Entry → List ℕ → List ℕ × List Self.Entry };
+
+    /// How often the store has failed so far.
+    ghost count: { Self → ℕ };
+
+    /// A number that never falls, by which moments in the life of the store are told apart.
+    ghost moment: { Self → ℕ };
+
+    /// The histories that a crash since a moment might have left.
+    ghost left_since: { Self → ℕ → List Self.Entry → Type 0 };
+
+    /// Answers a line. Of a line that is too long, its first bytes are enough.
+    fn reply(&mut self, alloc: Global, line: &[u8]) -> Result<String, ReplyFault>
+        requires { pending self.old ≡ [] }
+        ensures reply { IfOk result (λ text. string_bytes text ≡ (rule (history self.old) line.now).0) }
+        ensures history { OnOk result (history self.new ≡ (rule (history self.old) line.now).1) }
+        ensures decided { OnOk result (pending self.new ≡ []) }
+
+        // After a fault of the store the history is the one before, and the rest may be pending.
+        ensures store_fault { IsErrOf result ReplyFault.StoreFault → (history self.new ≡ history self.old)
+            × ((pending self.new ≡ [])
+            ⊎ (history self.old ++ pending self.new ≡ (rule (history self.old) line.now).1)) }
+        ensures rises { IsErrOf result ReplyFault.StoreFault → Rose (count self.old) (count self.new) }
+        ensures never_falls { count self.old ≤ count self.new }
+        // Memory may be wanting for the reply alone.
+        ensures memory { IsErrOf result ReplyFault.Memory → (pending self.new ≡ [])
+            × ((history self.new ≡ history self.old) ⊎ (history self.new ≡ (rule (history self.old) line.now).1)) }
+
+        // A crash in the call leaves a history between the two.
+        ensures images { Grows moment left_since history pending self.old self.new };
+
+    /// A line is answered by what is held of it.
+    ghost by_held: { (H : List Self.Entry) (line : List ℕ) → rule H (held line) ≡ rule H line };
+}
