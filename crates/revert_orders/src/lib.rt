@@ -10,8 +10,6 @@
 mod date;
 mod day;
 mod orders;
-#[cfg(test)]
-mod tests;
 
 pub use date::date_text;
 pub use day::day_of;
