@@ -56,7 +56,7 @@ fn give(
     day: u32,
     limit: u32,
 ) -> Result<Result<Draft, NoOrder>, Memory> {
-    orders.reserve()?;
+    orders.reserve(1)?;
     if orders.len() == u32::MAX {
         return Ok(Err(NoOrder::NoRevert));
     }
@@ -67,12 +67,13 @@ fn give(
     Ok(next)
 }
 
-// What add does, take_last undoes.
+// What add does, take_last undoes, and the room is there again.
 fn add_and_take(orders: &mut Orders, draft: Draft) -> Option<RevertOrder>
     requires room { 1 ≤ orders.old.room }
     requires number { draft.order ≡ length orders.old.orders + 1 }
     requires free { has_order orders.old.orders draft.commit ≡ false }
-    ensures { orders.new.orders ≡ orders.old.orders }
+    ensures orders { orders.new.orders ≡ orders.old.orders }
+    ensures room { orders.new.room ≡ orders.old.room }
 {
     orders.add(draft);
     orders.take_last()
@@ -252,15 +253,41 @@ fn an_order_can_be_taken_back(rt: HostRuntime) -> Result<(), Fail> {
 #[test]
 fn an_added_order_is_taken_back_whole(rt: HostRuntime) -> Result<(), Fail> {
     let mut orders = Orders::start(rt.alloc());
-    orders.reserve()?;
-    let only = Draft {
+    // Room is made once, and serves for one order after another.
+    orders.reserve(1)?;
+    assert_eq!(rt; orders.len(), 0);
+    let first = Draft {
         order: 1,
         commit: id(10),
         search: 1,
         day: 20,
     };
-    assert_eq!(rt; add_and_take(&mut orders, only), taken(only));
+    assert!(rt; !orders.has_order(first.commit));
+    assert_eq!(rt; add_and_take(&mut orders, first), taken(first));
+    let second = Draft {
+        order: 1,
+        commit: id(11),
+        search: 2,
+        day: 21,
+    };
+    assert!(rt; !orders.has_order(second.commit));
+    assert_eq!(rt; add_and_take(&mut orders, second), taken(second));
     assert_eq!(rt; orders.len(), 0);
+    Ok(())
+}
+
+#[test]
+fn two_hundred_orders_are_found_by_their_commits(rt: HostRuntime) -> Result<(), Fail> {
+    let mut orders = Orders::start(rt.alloc());
+    for number in 1..=200u16 {
+        let search = u32::from(number);
+        let given = give(&mut orders, &[found(search, number)], 20, 200)?;
+        assert_eq!(rt; given, Ok(draft(search, search, number)));
+    }
+    for number in 1..=200u16 {
+        assert!(rt; orders.has_order(id(number)));
+    }
+    assert!(rt; !orders.has_order(id(0)) && !orders.has_order(id(201)));
     Ok(())
 }
 
