@@ -15,8 +15,6 @@ mod memory;
 mod moment;
 mod name;
 mod stage;
-#[cfg(test)]
-mod tests;
 mod zone;
 
 pub use commit_id::{CommitId, ID_BYTES, ID_DIGITS, IdFault};

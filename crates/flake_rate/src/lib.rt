@@ -17,6 +17,3 @@ pub use bar::{Bar, BarFault};
 pub use divisor::gcd;
 pub use miss::{Miss, MissFault};
 pub use rate::{Rate, RateFault};
-
-#[cfg(test)]
-mod tests;

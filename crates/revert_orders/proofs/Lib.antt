@@ -1,3 +1,6 @@
 pub mod Dates
 pub mod Earliest
-pub mod Entries
+pub mod Ends
+pub mod Items
+pub mod Tops
+pub mod Walks

@@ -12,10 +12,6 @@ pub record Book : Type 0 where
 abbrev pub ordered : CommitId → ℕ → Ordered
 ordered commit day = record { commit = commit; day = day }
 
--- the orders that a list of commits with their days stands for
-abbrev pub orders_in : List (CommitId × ℕ) → List Ordered
-orders_in entries = map (λ entry. ordered entry.0 entry.1) entries
-
 -- the commits that orders revert
 abbrev pub commits_of : List Ordered → List CommitId
 commits_of orders = map (λ order. order.commit) orders

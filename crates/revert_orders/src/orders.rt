@@ -2,9 +2,9 @@ ghost use Rattle.std.specs.Prelude.{◌≡◌, ◌≤◌, ◌<◌, ◌+◌, ◌^
 ghost use Rattle.farm_rules.specs.Orders.{candidates, earliest, has_order, next_draft, orders_of};
 ghost use Rattle.revert_orders.specs.Earlier.{earlier_of};
 
+use crate::chains::{Item, grown, is_there, link, unlink_last};
 use farm_rules::{Candidate, Draft, NoOrder};
 use farm_types::{CommitId, Memory};
-use indexmap::IndexMap;
 use std::alloc::Global;
 use std::marker::Model;
 
@@ -21,19 +21,25 @@ pub struct RevertOrder {
 /// are fewer than 2^32.
 #[derive(Debug, Drop)]
 pub struct Orders {
-    days: IndexMap<CommitId, u32>,
+    heads: Vec<usize>,
+    items: Vec<Item>,
 }
 
 impl Model for Orders {
-    ghost use Rattle.std.specs.Prelude.{◌<◌, ◌^◌, length};
-    ghost use Rattle.indexmap.specs.IndexMap.{spare};
-    ghost use Rattle.revert_orders.specs.Book.{Book, orders_in};
+    ghost use Rattle.std.specs.Prelude.{◌-◌, length};
+    ghost use Rattle.std.specs.Vec.{vec_capacity};
+    ghost use Rattle.revert_orders.specs.Book.{Book};
 
     ghost Value = { Book };
 
-    ghost view = { λ orders. record { orders = orders_in orders.days.entries; room = spare orders.days } };
+    ghost use Rattle.revert_orders.specs.Chains.{IsTable, orders_in};
 
-    ghost invariant = { λ orders. length orders.days.entries < 2 ^ 32 };
+    ghost view = { λ orders. record {
+      orders = orders_in orders.items.items;
+      room = vec_capacity orders.items - length orders.items.items;
+    } };
+
+    ghost invariant = { λ orders. IsTable orders.heads.items orders.items.items (vec_capacity orders.items) };
 }
 
 impl Orders {
@@ -44,7 +50,8 @@ impl Orders {
         ensures { result.orders ≡ [] }
     {
         Orders {
-            days: IndexMap::new(alloc),
+            heads: Vec::new(alloc),
+            items: Vec::new(alloc),
         }
     }
 
@@ -53,14 +60,14 @@ impl Orders {
         ensures len { result ≡ length self.now.orders }
         ensures one_per_commit { IsOnePerCommit self.now.orders }
     {
-        self.days.len() as u32
+        self.items.len() as u32
     }
 
     /// Whether a commit has an order.
     pub fn has_order(&self, commit: CommitId) -> bool
         ensures { result ≡ has_order self.now.orders commit }
     {
-        self.days.contains_key(&commit)
+        !self.heads.is_empty() && is_there(&self.heads, &self.items, commit)
     }
 
     /// The next order: of the candidates whose commit has no order it is for the one with the smallest search number,
@@ -86,13 +93,20 @@ impl Orders {
         })
     }
 
-    /// Makes room for one more order, and for one in its place should it be taken back. Without memory nothing changes.
-    pub fn reserve(&mut self) -> Result<(), Memory>
+    /// Makes room for so many more orders. Where it grows it at least doubles, and without memory nothing changes.
+    pub fn reserve(&mut self, more: usize) -> Result<(), Memory>
         ensures orders { self.new.orders ≡ self.old.orders }
-        ensures ok { OnOk result (2 ≤ self.new.room) }
+        ensures ok { OnOk result (more ≤ self.new.room) }
         ensures room { self.old.room ≤ self.new.room }
     {
-        self.days.reserve(2)?;
+        if more <= self.items.capacity() - self.items.len() {
+            return Ok(());
+        }
+        let wanted = self.items.len().checked_add(more).ok_or(Memory)?;
+        let size = wanted.max(self.items.capacity().saturating_mul(2));
+        let (heads, items) = grown(*self.items.allocator(), &self.items, size)?;
+        self.heads = heads;
+        self.items = items;
         Ok(())
     }
 
@@ -102,24 +116,30 @@ impl Orders {
         requires number { draft.order ≡ length self.old.orders + 1 }
         requires free { has_order self.old.orders draft.commit ≡ false }
         ensures added { self.new.orders ≡ self.old.orders ++ ordered draft.commit draft.day ∷ [] }
-        ensures room { self.old.room ≤ self.new.room + 1 }
+        ensures room { self.new.room + 1 ≡ self.old.room }
     {
-        let Ok(_) = self.days.insert(draft.commit, draft.day) else {
-            unreachable!();
-        };
+        link(&mut self.heads, &mut self.items, draft.commit, draft.day);
     }
 
-    /// Takes the last order back, where one stands.
+    /// Takes the last order back, where one stands. Its room is free then, so that an order can be added in its place
+    /// without memory.
     pub fn take_last(&mut self) -> Option<RevertOrder>
         ensures taken { IfSome result (λ last. self.old.orders ≡ self.new.orders ++ ordered last.commit last.day ∷ []) }
         ensures number { IfSome result (λ last. last.order ≡ length self.old.orders) }
         ensures found { IsSome result ↔ (0 < length self.old.orders) }
-        ensures none { IfNone result (self.new.orders ≡ self.old.orders) }
-        ensures room { self.old.room ≤ self.new.room }
+        ensures none { IfNone result (self.new ≡ self.old) }
+        ensures room { IfSome result (λ last. self.new.room ≡ self.old.room + 1) }
     {
+        if self.items.is_empty() {
+            return None;
+        }
         let order = self.len();
-        let (commit, day) = self.days.pop()?;
-        Some(RevertOrder { order, commit, day })
+        let last = unlink_last(&mut self.heads, &mut self.items);
+        Some(RevertOrder {
+            order,
+            commit: last.commit,
+            day: last.day,
+        })
     }
 
     /// Of the candidates whose commit has no order, the one with the smallest search number, the first on a tie.
@@ -139,8 +159,7 @@ impl Orders {
     fn count(&self, day: u32) -> u32
         ensures { result ≡ orders_of day self.now.orders }
     {
-        let of_day = self.days.values().filter(|other| **other == day);
-        of_day.count() as u32
+        self.items.iter().filter(|item| item.day == day).count() as u32
     }
 }
 

@@ -9,6 +9,3 @@
 mod due;
 
 pub use due::{due_search, due_verify};
-
-#[cfg(test)]
-mod tests;

@@ -100,6 +100,6 @@ module _ (base : CommitId) (suspects : List Suspect) where
       none-from_fails (is_repeat base suspects) 1 (length suspects) (λ k low high.
       list_any_none (λ commit. same_id commit (commit_at base suspects k)) (take k (commits_of base suspects)) (λ i d before.
       let earlier : i < k = omega (arith, length-take k (commits_of base suspects)) in
-      let place = get_or-take k (commits_of base suspects) i d earlier in
+      let taken = get_or-take k (commits_of base suspects) i d earlier in
       differs (get_or (take k (commits_of base suspects)) i d) (commit_at base suspects k) (λ same.
-      distinct i k d earlier (omega (arith, count)) (sym place ∙ same ∙ sym (commit_at-get_or k d (omega arith))))))
+      distinct i k d earlier (omega (arith, count)) (sym taken ∙ same ∙ sym (commit_at-get_or k d (omega arith))))))

@@ -12,8 +12,6 @@ mod fault;
 pub mod laws;
 mod range;
 mod suspect;
-#[cfg(test)]
-mod tests;
 
 pub use fault::RangeFault;
 pub use range::SuspectRange;

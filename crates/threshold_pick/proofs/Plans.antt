@@ -23,23 +23,23 @@ IsPick-pick s runs sums j k i are_sums some_total some_left is =
     (subst P e is)
 
 -- a list of picks, with the next one set
-pub IsPick-set : (sums : List ℕ) (floor k place next : ℕ) (out : List ℕ) → place < length out →
-    ((j : ℕ) → 1 ≤ j → j ≤ place → IsPick sums floor j k (slice_index out (j - 1))) →
-    IsPick sums floor (place + 1) k next →
-    (j : ℕ) → 1 ≤ j → j ≤ place + 1 → IsPick sums floor j k (slice_index (slice_set out place next) (j - 1))
-IsPick-set sums floor k place next out within before here j some upto =
+pub IsPick-set : (sums : List ℕ) (floor k index next : ℕ) (out : List ℕ) → index < length out →
+    ((j : ℕ) → 1 ≤ j → j ≤ index → IsPick sums floor j k (slice_index out (j - 1))) →
+    IsPick sums floor (index + 1) k next →
+    (j : ℕ) → 1 ≤ j → j ≤ index + 1 → IsPick sums floor j k (slice_index (slice_set out index next) (j - 1))
+IsPick-set sums floor k index next out within before here j some upto =
     let P : ℕ → Type 0 = λ i. IsPick sums floor j k i in
     ⊎_elim
-    (λ (earlier : j < place + 1).
-    let other : j - 1 ≢ place = omega arith in
-    subst P (sym (get_or-set_other out place (j - 1) next 0 other)) (before j some (omega arith)))
-    (λ (last : place + 1 ≤ j).
-    let e : j ≡ place + 1 = omega arith in
-    let at : j - 1 ≡ place = omega arith in
-    let set_here : slice_index (slice_set out place next) (j - 1) ≡ next =
-    ap (λ p. slice_index (slice_set out place next) p) at ∙ get_or-set_same out place next 0 within in
+    (λ (earlier : j < index + 1).
+    let other : j - 1 ≢ index = omega arith in
+    subst P (sym (get_or-set_other out index (j - 1) next 0 other)) (before j some (omega arith)))
+    (λ (last : index + 1 ≤ j).
+    let e : j ≡ index + 1 = omega arith in
+    let at : j - 1 ≡ index = omega arith in
+    let set_here : slice_index (slice_set out index next) (j - 1) ≡ next =
+    ap (λ p. slice_index (slice_set out index next) p) at ∙ get_or-set_same out index next 0 within in
     subst P (sym set_here) (rw e here))
-    (cases_lt j (place + 1))
+    (cases_lt j (index + 1))
 
 -- so a list of picks is the plan
 pub ArePicks-plan : (s : Setup) (runs : List Run) (sums positions : List ℕ) (k : ℕ) → AreCumulative s runs sums →

@@ -1,4 +1,4 @@
--- Distances that fall up to a place and rise from there on: which position is nearest.
+-- Distances that fall up to a position and rise from there on: which position is nearest.
 use Rattle.std.proofs.Common.{◌≡◌, ℕ, ◌+◌, ◌-◌, ◌*◌, ◌<◌, ◌≤◌, List, refl, arith, ⊎_elim, mul-lt-mul_of_pos_right}
 use Rattle.std.proofs.lemmas.Bool.{cases_lt, cases_order}
 use Rattle.std.specs.Int.{abs_diff}

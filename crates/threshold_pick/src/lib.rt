@@ -13,6 +13,3 @@ mod picks;
 mod threshold;
 
 pub use picks::{pick, plan_into, plan_uncounted};
-
-#[cfg(test)]
-mod tests;

@@ -78,7 +78,7 @@ fn first_reaching<L: Ledger>(
 pub fn plan_into<L: Ledger>(sums: &Sums, floor: u16, k: u8, out: &mut [u16], steps: &mut Steps<L>)
     requires sums { CanPick floor sums.now }
     requires narrow { k ≤ MAX_WIDTH }
-    requires places { length out.old ≡ k }
+    requires width { length out.old ≡ k }
 
     ensures picks { ArePicks sums.now floor k out.new }
     ensures cost { 2 ^ (steps.new - steps.old) ≤ (8 * suspects_in sums.now) ^ k }
@@ -93,7 +93,7 @@ pub fn plan_into<L: Ledger>(sums: &Sums, floor: u16, k: u8, out: &mut [u16], ste
 pub fn plan_uncounted(sums: &Sums, floor: u16, k: u8, out: &mut [u16])
     requires sums { CanPick floor sums.now }
     requires narrow { k ≤ MAX_WIDTH }
-    requires places { length out.old ≡ k }
+    requires width { length out.old ≡ k }
     ensures { ArePicks sums.now floor k out.new }
 {
     plan_on::<Brand>(sums, floor, k, out, Blank::new(1));
@@ -104,7 +104,7 @@ fn plan_on<L: Ledger>(sums: &Sums, floor: u16, k: u8, out: &mut [u16], blank: Bl
     requires blank { CanCount blank L.name L.parts }
     requires sums { CanPick floor sums.now }
     requires narrow { k ≤ MAX_WIDTH }
-    requires places { length out.old ≡ k }
+    requires width { length out.old ≡ k }
     ensures { ArePicks sums.now floor k out.new }
 {
     plan_into(sums, floor, k, out, &mut Steps::<L>::new(blank));

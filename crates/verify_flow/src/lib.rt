@@ -14,6 +14,3 @@ mod verify;
 
 pub use outcome::Outcome;
 pub use verify::Verify;
-
-#[cfg(test)]
-mod tests;

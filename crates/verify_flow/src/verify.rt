@@ -86,9 +86,11 @@ impl Verify {
     /// How many reruns counted at the culprit's position, and how many at its parent's: on each side at most as many as
     /// were asked for.
     pub fn counts(&self) -> (u8, u8)
-        ensures at_culprit { (reruns : List Run) → StandsFor self.now reruns
+        ensures at_culprit { result.0 ≡ self.now.at_culprit }
+        ensures at_parent { result.1 ≡ self.now.at_parent }
+        ensures reruns_at_culprit { (reruns : List Run) → StandsFor self.now reruns
             → result.0 ≡ reruns_at self.now.culprit reruns }
-        ensures at_parent { (reruns : List Run) → StandsFor self.now reruns
+        ensures reruns_at_parent { (reruns : List Run) → StandsFor self.now reruns
             → result.1 ≡ reruns_at (self.now.culprit - 1) reruns }
         ensures culprit_within { result.0 ≤ self.now.asked }
         ensures parent_within { result.1 ≤ self.now.asked }

@@ -1,17 +1,21 @@
 -- One run more: what it does to each weight, to the floor, to the live runs and to the load.
-use Rattle.std.proofs.Common.{◌≡◌, ℕ, ◌+◌, ◌*◌, ◌<◌, ◌≤◌, max, Bool, true, false, nat_le, nat_lt, List, [], ◌∷◌, ◌++◌, length, filter, count_by, refl, sym, ap, ◌∙◌, arith, ⊎_elim, mul-zero, zero-mul, le-ltb, lt-ltb, le-leb, ltb-true, eq-zero-or-pos, append-nil}
+use Rattle.std.proofs.Common.{◌≡◌, ℕ, ◌+◌, ◌*◌, ◌<◌, ◌≤◌, max, Bool, true, false, if◌then◌else◌, nat_le, nat_lt, List, [], ◌∷◌, ◌++◌, length, filter, count_by, refl, sym, ap, ◌∙◌, arith, ⊎_elim, mul-zero, zero-mul, le-ltb, lt-ltb, le-leb, ltb-true, eq-zero-or-pos, append-nil}
 use Rattle.std.proofs.lemmas.Bool.{cases_lt, cases_Bool, and_parts, and_from}
 use Rattle.std.proofs.lemmas.List.{length_push}
 use Rattle.std.proofs.lemmas.List.Elements.{filter-append}
 use Rattle.std.proofs.lemmas.List.Sums.{length-filter, count_by-le-length}
 use Rattle.weight_exact.specs.Factors.{factor, verdict_factor}
 use Rattle.weight_exact.specs.Weights.{Setup, prior, likelihood, weight}
-use Rattle.weight_exact.specs.Load.{is_fail, passed_at, last_pass, floor, is_fail_above, live, load}
+use Rattle.weight_exact.specs.Load.{is_fail, passed_at, last_pass, floor, is_fail_above, live, load, may_miss}
 use Rattle.weight_exact.specs.declared.factors.Factors.{Factors}
 use Rattle.weight_exact.specs.declared.run.Run.{Run}
 use Rattle.weight_exact.specs.declared.run.Verdict.{Verdict}
 use Rattle.weight_exact.specs.declared.run.Verdict.TheVariants.{Pass, Fail}
 use Rattle.weight_exact.proofs.Likelihoods.{factor_fail_out, factor_pass_in, factor_pass_out, weight_push}
+
+-- no runs are no load
+pub load-none : (f : Factors) → load f [] ≡ 0
+load-none f = elim (may_miss f) as (λ b. length (if b then [] else filter (is_fail_above 0) []) ≡ 0) [ true ↦ refl | false ↦ refl ]
 
 -- where a broken test never passes, the floor is the last pass
 pub floor_no_miss : (f : Factors) (runs : List Run) → f.pass_in ≡ 0 → floor f runs ≡ last_pass runs

@@ -132,7 +132,7 @@ slice_index-picks s runs k (suc n) j less =
     rw (here, add-one n) (get_or_push (picks s runs k n) (pick s runs k (suc n)) 0 n (length-picks s runs k n)))
     (cases_lt j n)
 
--- the position at place j of a plan, counted from 0
+-- the position at index j of a plan
 pub slice_index-plan : (s : Setup) (runs : List Run) (k j : ℕ) → j < k →
     slice_index (plan s runs k) j ≡ pick s runs k (j + 1)
 slice_index-plan s runs k j less = slice_index-picks s runs k k j less

@@ -62,7 +62,7 @@ IsReached_once s runs i j above some first second =
 
 -- ---- the hypothesis that reaches the bar, computed
 
--- the place that `last_to` finds passes the test
+-- the number that `last_to` finds passes the test
 pub last_to_some : (test : ℕ → Bool) (n i : ℕ) → last_to test n ≡ Some i → (1 ≤ i) × (i ≤ n) × (test i ≡ true)
 last_to_some test zero i found = absurd (cc)
 last_to_some test (suc n) i found =
@@ -75,7 +75,7 @@ last_to_some test (suc n) i found =
     (rest.0, omega (arith, rest.1), rest.2))
     (cases_Bool (test (suc n)))
 
--- where it finds none, each place fails the test
+-- where it finds none, each number fails the test
 pub last_to_none : (test : ℕ → Bool) (n : ℕ) → last_to test n ≡ None → (i : ℕ) → 1 ≤ i → i ≤ n → test i ≡ false
 last_to_none test zero none i low high = absurd (omega arith)
 last_to_none test (suc n) none i low high =
@@ -95,7 +95,7 @@ last_to-none test (suc n) fail =
     let here : test (suc n) ≡ false = fail (suc n) (omega arith) (omega arith) in
     rw here (last_to-none test n (λ i low high. fail i low (omega arith)))
 
--- tests that agree find one place
+-- tests that agree find one number
 pub last_to-same : (test other : ℕ → Bool) (n : ℕ) → ((i : ℕ) → 1 ≤ i → i ≤ n → test i ≡ other i) →
     last_to test n ≡ last_to other n
 last_to-same test other zero agree = refl
@@ -104,7 +104,7 @@ last_to-same test other (suc n) agree =
     let rest : last_to test n ≡ last_to other n = last_to-same test other n (λ i low high. agree i low (omega arith)) in
     rw (here, rest)
 
--- the only place that passes is found
+-- the only number that passes is found
 pub last_to-only : (test : ℕ → Bool) (n i : ℕ) → 1 ≤ i → i ≤ n → test i ≡ true →
     ((j : ℕ) → 1 ≤ j → j ≤ n → test j ≡ true → j ≡ i) → last_to test n ≡ Some i
 last_to-only test zero i low high holds only = absurd (omega arith)

@@ -83,7 +83,7 @@ pub sum_to_above : (w : ℕ → ℕ) (m k : ℕ) → ((i : ℕ) → 1 ≤ i → 
     sum_to w (m + k) ≡ sum_to (λ i. w (m + i)) k
 sum_to_above w m k none = omega (arith, sum_to-add w m k, sum_to-zero w m none)
 
--- the number at place i + 1 of a list is the number at place i of its rest
+-- the number at index i + 1 of a list is the number at index i of its rest
 slice_index-cons : (x : ℕ) (xs : List ℕ) (i : ℕ) → 1 ≤ i → slice_index (x ∷ xs) (1 + i - 1) ≡ slice_index xs (i - 1)
 slice_index-cons x xs zero low = absurd (omega arith)
 slice_index-cons x xs (suc i) low =
@@ -91,7 +91,7 @@ slice_index-cons x xs (suc i) low =
     let rest : suc i - 1 ≡ i = omega arith in
     rw (whole, rest)
 
--- the sum of the list's numbers, the first at place 1, is the list's sum
+-- the sum of the list's numbers, counted from 1, is the list's sum
 pub sum_to-slice_index : (xs : List ℕ) → sum_to (λ i. slice_index xs (i - 1)) (length xs) ≡ sum xs
 sum_to-slice_index [] = refl
 sum_to-slice_index (x ∷ xs) =

@@ -3,7 +3,7 @@ use Rattle.std.specs.Prelude.{ℕ, ◌+◌, ◌*◌, ◌^◌}
 use Rattle.weight_exact.specs.declared.factors.Factors.{Factors}
 use Rattle.weight_exact.specs.declared.powers.Counts.{Counts}
 
--- what the tables of powers serve: four likelihood numbers, for up to so many runs together
+-- what the tables of powers serve: four likelihood numbers, up to so many together
 pub record PowersOf : Type 0 where
   pub factors : Factors
   pub budget : ℕ

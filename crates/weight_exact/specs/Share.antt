@@ -22,7 +22,7 @@ pub record IsReached (s : Setup) (runs : List Run) (i : ℕ) : Type 0 where
 abbrev pub is_at_bar : (t u : ℕ) → ℕ → ℕ → Bool
 is_at_bar t u whole w = nat_le (t * whole) (w * u)
 
--- the last place from 1 to n that passes a test
+-- the last number from 1 to n that passes a test
 abbrev pub last_to : (ℕ → Bool) → ℕ → Option ℕ
 last_to test zero = None
 last_to test (suc i) = if test (suc i) then Some (suc i) else last_to test i

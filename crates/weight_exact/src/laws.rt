@@ -154,19 +154,19 @@ pub fn at_most_one_reaches_the_bar()
         (reached s runs ≡ None) ↔ ((i : ℕ) → ¬ IsReached s runs i) }
 {}
 
-/// The computed budget is the budget, the only one, and less than 128. What fits, fits with fewer runs.
+/// The computed budget is the budget, the only one, and less than 128. Where a load fits, each smaller one does.
 pub fn there_is_one_budget()
     ensures computed { (prior_total : ℕ) (f : Factors) →
         1 ≤ prior_total → 2 ≤ greatest_factor f → Fits prior_total f 0 →
         IsBudget prior_total f (budget_of prior_total f) }
-    ensures only { (prior_total : ℕ) (f : Factors) (runs : ℕ) →
-        1 ≤ prior_total → 2 ≤ greatest_factor f → IsBudget prior_total f runs →
-        runs ≡ budget_of prior_total f }
-    ensures few { (prior_total : ℕ) (f : Factors) (runs : ℕ) →
-        1 ≤ prior_total → 2 ≤ greatest_factor f → Fits prior_total f runs → runs < 128 }
-    ensures fewer { (prior_total : ℕ) (f : Factors) (runs fewer : ℕ) →
-        1 ≤ greatest_factor f → fewer ≤ runs → Fits prior_total f runs →
-        Fits prior_total f fewer }
+    ensures only { (prior_total : ℕ) (f : Factors) (budget : ℕ) →
+        1 ≤ prior_total → 2 ≤ greatest_factor f → IsBudget prior_total f budget →
+        budget ≡ budget_of prior_total f }
+    ensures few { (prior_total : ℕ) (f : Factors) (load : ℕ) →
+        1 ≤ prior_total → 2 ≤ greatest_factor f → Fits prior_total f load → load < 128 }
+    ensures smaller { (prior_total : ℕ) (f : Factors) (load smaller : ℕ) →
+        1 ≤ greatest_factor f → smaller ≤ load → Fits prior_total f load →
+        Fits prior_total f smaller }
 {}
 
 /// The four likelihood numbers of rates within their limits. None is above the greatest there is, three are positive, and the
@@ -248,7 +248,7 @@ pub fn only_parts_of_the_total_count()
 {}
 
 /// Worked numbers. Four suspects and "no culprit", all of weight 1, with a flake rate of 1/10, no misses and a bar of
-/// 9/10, and the budgets of a few searches: of a total prior weight of 5, of 1001, and of the greatest there is.
+/// 9/10, and the budgets of a few searches: of a total prior weight of 5, of 1,001, and of the greatest there is.
 pub fn worked_numbers()
     ensures weights_after_a_fail { map (weight four_suspects (fail_at 2 ∷ [])) all_five ≡ 10 ∷ 10 ∷ 1 ∷ 1 ∷ 1 ∷ [] }
     ensures shares_after_a_pass { map (basis_points four_suspects (fail_at 2 ∷ pass_at 1 ∷ [])) all_five

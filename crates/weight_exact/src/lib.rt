@@ -26,6 +26,3 @@ pub use run::{Run, Verdict};
 pub use run_budget::{MAX_PRIOR_TOTAL, MIN_PRIOR_TOTAL, budget};
 pub use steps::Steps;
 pub use sums::Sums;
-
-#[cfg(test)]
-mod tests;

@@ -27,7 +27,7 @@ pub struct Counts {
 }
 
 /// The powers of the four likelihood numbers of a search, as tables, so that a product over all of its runs takes four
-/// multiplications. A contract sees the four numbers and how many runs are served.
+/// multiplications. A contract sees the four numbers, and to how many of them together they serve: the budget.
 #[derive(Debug, Drop)]
 pub struct Powers {
     fail_in: PowerTable,
@@ -50,8 +50,8 @@ impl Model for Powers {
 }
 
 impl Powers {
-    /// The powers of the numbers of these two rates, for up to `budget` runs. Any budget will do: a table holds no more
-    /// than 128 powers.
+    /// The powers of the numbers of these two rates, for counts that come to at most `budget` together, as the load of a
+    /// search does. Any budget will do: a table holds no more than 128 powers.
     ///
     /// # Errors
     ///

@@ -10,5 +10,5 @@ returns-clause-only c = IsBudget-is
 pub returns-clause-few : goal.returns-clause-few
 returns-clause-few c = Fits_few
 
-pub returns-clause-fewer : goal.returns-clause-fewer
-returns-clause-fewer c = Fits-fewer
+pub returns-clause-smaller : goal.returns-clause-smaller
+returns-clause-smaller c = Fits-fewer

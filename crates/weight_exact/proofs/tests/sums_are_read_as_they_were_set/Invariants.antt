@@ -1,4 +1,0 @@
-use Rattle.weight_exact.proofs.tests.sums_are_read_as_they_were_set.Given as goal
-
-abbrev pub ghosts-write_and_read : goal.ghosts-write_and_read
-ghosts-write_and_read g a = record { name = a.blank.name; parts = a.blank.parts }
