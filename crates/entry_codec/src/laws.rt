@@ -43,8 +43,10 @@ pub fn entries_are_short()
         → length (spelling entries) ≤ length entries * MAX_ENTRY_BYTES }
 {}
 
-/// Entries can be written where each opening among them is as in a legal history.
-pub fn openings_tell_what_can_be_written()
-    ensures { (entries : List Entry) → ((o : Opening) → Contains (openings entries) o → IsOpenedWithin o)
+/// Entries can be written where each opening among them is as in a legal history, and so can entries that were read.
+pub fn what_can_be_written()
+    ensures openings { (entries : List Entry) → ((o : Opening) → Contains (openings entries) o → IsOpenedWithin o)
+        → All (λ (entry : Entry). IsWithinLimits entry.what) entries }
+    ensures read { (entries : List Entry) → AreSpelled entries
         → All (λ (entry : Entry). IsWithinLimits entry.what) entries }
 {}
