@@ -1,6 +1,6 @@
 -- What holds of a journal after a call.
 use Rattle.std.proofs.Common.{◌≡◌, ◌≢◌, ℕ, ◌+◌, Bool, true, List, [], ◌∷◌, ◌++◌, length, get_or, Option, Some, None, refl, sym, ◌∙◌, ap, subst, arith}
-use Rattle.std.specs.Prelude.{Result, Err, IsErrOf, IsSome, if◌then◌else◌, ◌==◌}
+use Rattle.std.specs.Prelude.{Result, Ok, Err, IsErrOf, IsSome, if◌then◌else◌, ◌==◌}
 use Rattle.std.proofs.lemmas.Bool.Decides.{nat_tests}
 use Rattle.farm_disk.specs.Images.{DiskState, LeavesOnly, IsSettled}
 use Rattle.farm_journal.specs.declared.disk_calls.DiskFault.{DiskFault}
@@ -149,3 +149,13 @@ kept-opened tells told e bytes ps past none gate version idle order gate_is vers
         let test : (byte == VERSION_1) ≡ true = grind (arith, nat_tests, old) in
         let no : 1 ≡ 2 = sym (ap (λ (b : Bool). if◌then◌else◌ {A = ℕ} b 1 2) test) ∙ is in
         absurd (omega (arith, no))
+
+-- an answer that was found
+abbrev pub answered : Bool → Result Bool DiskFault
+answered fresh = Ok fresh
+
+-- the journal that was created
+pub created-held : (new : DiskState) (fresh : Bool) (p q : List ℕ) → fresh ≡ true → p ≡ q
+    → (answered fresh ≡ answered true → Rests 2 (p ∷ []) (gate_of (p ∷ [])) new) → IsHeld (q ∷ []) new
+created-held new fresh p q is same rests =
+    subst (λ (l : List ℕ). IsHeld (l ∷ []) new) same (rests-public 2 (p ∷ []) (gate_of (p ∷ [])) new (rests (ap answered is)))

@@ -1,3 +1,4 @@
+pub mod Births
 pub mod Bytes
 pub mod Journals
 pub mod Once

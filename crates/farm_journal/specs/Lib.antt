@@ -1,3 +1,4 @@
+pub mod Created
 pub mod Faults
 pub mod Found
 pub mod Gates

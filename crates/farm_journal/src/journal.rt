@@ -12,6 +12,7 @@ ghost use Rattle.std.specs.Prelude.{
   ℕ,
   List,
   true,
+  false,
   IsTrue,
   IsSome,
   OnOk,
@@ -22,18 +23,20 @@ ghost use Rattle.std.specs.Prelude.{
   length,
   slice_index,
 };
-ghost use Rattle.farm_disk.specs.Images.{LeavesOnly, moment};
+ghost use Rattle.farm_disk.specs.Images.{EachImage, LeavesOnly, LeavesSinceSync, moment};
+ghost use Rattle.farm_journal.specs.Created.{disk_created, Creates, CreatingCause, IsUnborn, IsUnbornOrFirst, OnCreatingMemory};
 ghost use Rattle.farm_journal.specs.Faults.{OnStoreFault, OnMemory, HasCause};
-ghost use Rattle.farm_journal.specs.Layout.{IsPayload, gate_of, opens, version_of};
+ghost use Rattle.farm_journal.specs.Layout.{IsPayload, gate_of, is_unborn, opens, version_of};
 ghost use Rattle.farm_journal.specs.Opened.{disk_after, Answers, OpeningCause};
 ghost use Rattle.farm_journal.specs.ReadsOnly.{ReadsOnly};
 ghost use Rattle.farm_journal.specs.Mended.{Reads, payloads_after};
 ghost use Rattle.farm_journal.specs.State.{IsBeforeOrAfter, IsHeld, IsPending};
 ghost use Rattle.farm_journal.specs.declared.layout.TheConstants.{GATE_LIMIT};
 
+use crate::creating::found;
 use crate::disk_calls::DiskFault;
-use crate::fault::{JournalFault, OpeningFault};
-use crate::layout::VERSION_1;
+use crate::fault::{CreateFault, JournalFault, OpeningFault};
+use crate::layout::{FIRST_GATE, VERSION_1};
 use crate::mending::{Repaired, mend};
 use crate::opening::read_whole;
 use crate::payload::Payload;
@@ -73,6 +76,60 @@ impl<D: Disk> Model for Journal<D> {
 }
 
 impl<D: Disk> Journal<D> {
+    /// Creates a journal of one payload, of 1 to `MAX_PAYLOAD` bytes, on a disk that is unborn: of at most one byte, or
+    /// with a birth byte of 0. A disk that isn't keeps its bytes. An error hands the disk back.
+    pub fn create(alloc: Global, disk: D, payload: Vec<u8>) -> Result<Journal<D>, (D, CreateFault)>
+        requires { IsPayload payload.items }
+
+        ensures same { D.tells (disk_created result) ≡ D.tells disk }
+        ensures answers { D.tells disk ≡ true → Creates (D.told disk).bytes result }
+        ensures payload { IfOk result (λ journal. journal.payloads ≡ payload.items ∷ []) }
+        ensures idle { IfOk result (λ journal. journal.pending ≡ None) }
+        ensures version { IfOk result (λ journal. journal.version ≡ 2) }
+        ensures held { IfOk result (λ journal. D.tells disk ≡ true
+            → IsHeld (payload.items ∷ []) (D.told journal.disk)) }
+
+        ensures born { D.tells disk ≡ true → is_unborn (D.told disk).bytes ≡ false
+            → (D.told (disk_created result)).bytes ≡ (D.told disk).bytes }
+
+        // A crash since the first sync that was done leaves an unborn file, or the journal of the one payload. Where each
+        // image was unborn before the call, this holds from its start.
+        ensures since_sync { D.tells disk ≡ true → is_unborn (D.told disk).bytes ≡ true
+            → LeavesSinceSync (D.told disk) (D.told (disk_created result)) (IsUnbornOrFirst payload.items) }
+        ensures any_moment { D.tells disk ≡ true → is_unborn (D.told disk).bytes ≡ true
+            → EachImage (D.told disk).steps IsUnborn
+            → LeavesOnly (D.told disk) (D.told (disk_created result)) (IsUnbornOrFirst payload.items) }
+        ensures memory { IfErr result (λ missed. OnCreatingMemory missed.1 (D.tells disk ≡ true
+            → is_unborn (D.told disk).bytes ≡ true → EachImage (D.told disk).steps IsUnborn
+            → EachImage (D.told missed.0).steps IsUnborn)) }
+
+        ensures cause { IfErr result (λ missed. CreatingCause missed.1 (D.count disk) (D.count missed.0)) }
+        ensures never_falls { D.count disk ≤ D.count (disk_created result) }
+    {
+        let mut disk = disk;
+        let payload = Payload::of(payload);
+        let before = disk.faults();
+        match found(alloc, &mut disk, payload.bytes()) {
+            Ok(true) => {
+                let mut past = ToldList::new();
+                past.tell(&payload);
+                Ok(Journal {
+                    disk,
+                    gate: FIRST_GATE + 5 + payload.bytes().len() as u64,
+                    version: 2,
+                    pending: None,
+                    past,
+                })
+            }
+            Ok(false) => Err((disk, CreateFault::AlreadyBorn)),
+            Err(DiskFault::Memory) => Err((disk, CreateFault::Memory)),
+            Err(DiskFault::Failed) => {
+                let after = disk.faults();
+                Err((disk, CreateFault::StoreFault { before, after }))
+            }
+        }
+    }
+
     /// Opens the journal on a disk, and gives all its payloads. It syncs first, and changes nothing. An error hands the
     /// disk back.
     pub fn open_on(alloc: Global, disk: D) -> Result<(Journal<D>, Payloads), (D, OpeningFault)>

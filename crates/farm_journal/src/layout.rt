@@ -35,3 +35,16 @@ pub(super) fn closed_frame(alloc: Global, payload: &[u8]) -> Result<Vec<u8>, All
     bytes.push(0)?;
     Ok(bytes)
 }
+/// All of a new file but its birth byte: the header, an open gate, the first record, and a closed gate.
+pub(super) fn first_frame(alloc: Global, payload: &[u8]) -> Result<Vec<u8>, AllocError>
+    requires { IsPayload payload.now }
+    ensures { IfOk result (λ bytes. bytes.items ≡ MAGIC ++ VERSION_2 ∷ 1 ∷ framed payload.now ++ 0 ∷ []) }
+{
+    let record = closed_frame(alloc, payload)?;
+    let mut bytes = Vec::new(alloc);
+    bytes.extend_from_slice(&MAGIC)?;
+    bytes.push(VERSION_2)?;
+    bytes.push(1)?;
+    bytes.extend_from_slice(&record)?;
+    Ok(bytes)
+}

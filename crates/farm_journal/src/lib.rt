@@ -6,14 +6,15 @@
 //! payloads from before, or these and the new one, whatever it makes of the bytes that were being written.
 //!
 //! The crate stands on `farm_disk` and the base crates `told_list` and `item_list`. The layers above may use
-//! - `Journal`: `open_on`, `append`, `repair`, and what it tells of itself;
+//! - `Journal`: `create`, `open_on`, `append`, `repair`, and what it tells of itself;
 //! - `Payload` and `Payloads`, and the limits of the layout;
 //! - `laws`, on what the definitions come to.
 //!
-//! Clauses above cite `specs/` (`Layout`, `State`, `Faults`, `Opened`, `ReadsOnly`, `Mended`).
+//! Clauses above cite `specs/` (`Layout`, `State`, `Created`, `Opened`, `ReadsOnly`, `Faults`, `Mended`).
 #![tactic(auto)]
 
 mod appending;
+mod creating;
 mod disk_calls;
 mod fault;
 mod journal;
