@@ -41,5 +41,5 @@ pub total-made : (base : CommitId) (suspects told : List Suspect) (calm first la
 total-made base suspects told calm first last range same weights calmly =
     let total = priors-total base suspects calm range in
     let sums : first ≡ sum (map (λ (s : Suspect). s.weight) suspects) =
-        weights ∙ ap (λ (xs : List Suspect). sum (map (λ (s : Suspect). s.weight) xs)) same in
+    weights ∙ ap (λ (xs : List Suspect). sum (map (λ (s : Suspect). s.weight) xs)) same in
     (omega (arith, total.0, sums, calmly), omega (arith, total.1, sums, calmly), omega (arith, total.2, sums, calmly))

@@ -12,11 +12,7 @@ use weight_exact::MAX_WIDTH;
 
 impl OpenAsk {
     /// The search that is asked for, under its number; or the first cause for which it can't be opened.
-    pub fn opening(
-        &self,
-        alloc: Global,
-        search: u32,
-    ) -> Result<Result<Opening, OpenFault>, Memory>
+    pub fn opening(&self, alloc: Global, search: u32) -> Result<Result<Opening, OpenFault>, Memory>
         ensures { IfOk result (λ opening. opening ≡ opening_of self.now search) }
     {
         let test = self.test.copy()?;

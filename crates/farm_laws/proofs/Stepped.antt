@@ -242,7 +242,7 @@ from_revert key agent M m (Ok d) order commit s day h =
     let of_search : d.search ≡ s = cc in
     let dated : d.day ≡ day = cc in
     let next : d ≡ record { order = order; commit = commit; search = s; day = day } =
-        λ i. record { order = numbered i; commit = for_commit i; search = of_search i; day = dated i } in
+    λ i. record { order = numbered i; commit = for_commit i; search = of_search i; day = dated i } in
     (ap Ok next, same-at _ _ h)
 
 -- so it has the next number, and the day of the moment

@@ -42,6 +42,7 @@ earliest-least (x ∷ xs) c is = by (earliest xs) refl (λ y best. earliest-leas
   where
     P : Candidate → Candidate → Type 0
     P best o = best.search ≤ o.search
+
     by : (o : Option Candidate) → earliest xs ≡ o → ((y : Candidate) → earliest xs ≡ Some y → All (P y) xs) → All (P c) (x ∷ xs)
     by None none rest =
         let same : x ≡ c = cc in

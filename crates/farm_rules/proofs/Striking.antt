@@ -118,7 +118,7 @@ struck-same_times (entry ∷ plan) outstanding other same =
     let some_other : 0 < times_at entry other = omega (arith, some, same entry) in
     struck-cons_struck entry plan other some_other
     ∙ (struck-same_times plan (strike entry outstanding) (strike entry other)
-      (λ p. omega (arith, same p, times_at-strike p entry outstanding some, times_at-strike p entry other some_other))
+    (λ p. omega (arith, same p, times_at-strike p entry outstanding some, times_at-strike p entry other some_other))
     ∙ sym (struck-cons_struck entry plan outstanding some)))
     (λ (none : times_at entry outstanding ≤ 0).
     let none_here : times_at entry outstanding ≡ 0 = omega (arith, none) in
@@ -144,7 +144,7 @@ due_search-IsPermutation plan outstanding other same =
     ap (λ (n : ℕ). if nat_lt n (length plan) then first_entry (struck plan other) else None)
     (length_permutation outstanding other same)
     ∙ ap (λ (left : List ℕ). if nat_lt (length outstanding) (length plan) then first_entry left else None)
-      (struck-IsPermutation plan outstanding other same)
+    (struck-IsPermutation plan outstanding other same)
 
 pub due_verify-IsPermutation : (culprit at_culprit at_parent reruns : ℕ) (outstanding other : List ℕ) →
     IsPermutation outstanding other →

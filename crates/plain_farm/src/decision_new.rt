@@ -9,14 +9,12 @@ ghost use Rattle.farm_entry.specs.Legal.{IsLegal};
 use crate::due_run::reruns_at;
 use crate::standings::standing;
 use farm_entry::{
-    Decision, BoxedOpening, DueRun, Entry, Fate, LeasedRun, MAX_SEARCHES, OpenAsk, Opening, Refusal,
-    Standing, What,
+    BoxedOpening, Decision, DueRun, Entry, Fate, LeasedRun, MAX_SEARCHES, OpenAsk, Opening,
+    Refusal, Standing, What,
 };
 use farm_rules::{Draft, NoOrder};
 use farm_types::{Key, Memory, Moment, Name, Stage};
-use plain_history::{
-    all_leases_count, lease_ms, opening_numbered, openings_count, reruns, runs,
-};
+use plain_history::{all_leases_count, lease_ms, opening_numbered, openings_count, reruns, runs};
 use std::alloc::Global;
 use weight_exact::{Factors, Run, Verdict};
 
@@ -165,7 +163,12 @@ fn fate_at(
 }
 
 /// The fate of the first report of a run. That of a search that isn't there would be late.
-fn fate_of(alloc: Global, history: &[Entry], lease: LeasedRun, verdict: Verdict) -> Result<Fate, Memory>
+fn fate_of(
+    alloc: Global,
+    history: &[Entry],
+    lease: LeasedRun,
+    verdict: Verdict,
+) -> Result<Fate, Memory>
     requires { IsLegal history.now }
     ensures { IfOk result (λ fate. fate
         ≡ fate_of history.now lease verdict (opening_numbered history.now lease.search)) }

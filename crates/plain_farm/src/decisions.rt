@@ -6,7 +6,9 @@ ghost use Rattle.farm_entry.specs.Decision.{decide, full_decision, known_decisio
 ghost use Rattle.farm_entry.specs.Legal.{IsLegal};
 
 use crate::decision_known::known_decision;
-use crate::decision_new::{cancel_decision, lease_decision, open_decision, report_decision, revert_decision};
+use crate::decision_new::{
+    cancel_decision, lease_decision, open_decision, report_decision, revert_decision,
+};
 use crate::due_run::next_run;
 use crate::orders::next_order_at;
 use crate::pages::{order_page, page_of, totals};

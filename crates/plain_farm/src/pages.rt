@@ -12,9 +12,7 @@ ghost use Rattle.farm_entry.specs.Standing.{is_confirmed, is_searching, is_verif
 use crate::standings::{belief, standing};
 use farm_entry::{Entry, Opening, OrderPage, SearchPage, Shares, Standing, Totals, What};
 use farm_types::Memory;
-use plain_history::{
-    leases, openings_count, order_lines, orders_count, push_some, reruns, runs,
-};
+use plain_history::{leases, openings_count, order_lines, orders_count, push_some, reruns, runs};
 use std::alloc::Global;
 
 /// The shares of all hypotheses of a search in basis points, that of "no culprit" last.

@@ -185,4 +185,3 @@ pub fn standing(alloc: Global, history: &[Entry], opening: &Opening) -> Result<S
     let again = reruns(alloc, history, opening.search)?;
     Ok(standing_of_reached(opening, &again, belief.reached()))
 }
-

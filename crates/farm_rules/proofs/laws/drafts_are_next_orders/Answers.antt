@@ -12,7 +12,7 @@ pub returns-clause-none_left : goal.returns-clause-none_left
 returns-clause-none_left _ searches orders day limit = (
   λ is. earliest-none (candidates searches orders) (next_draft-none searches orders day limit is),
   λ (none : candidates searches orders ≡ []).
-  ap (λ (left : List Candidate). draft_of (earliest left) (length orders + 1) day limit (orders_of day orders)) none
+      ap (λ (left : List Candidate). draft_of (earliest left) (length orders + 1) day limit (orders_of day orders)) none,
 )
 
 pub returns-clause-full : goal.returns-clause-full
