@@ -2,3 +2,4 @@ pub mod Words
 pub mod Statuses
 pub mod ReadInput
 pub mod JudgeCommand
+pub mod RunCommand

@@ -8,6 +8,8 @@ ghost use Rattle.finder_program.specs.Words.{subcommand_of};
 pub enum Subcommand {
     /// `judge`: answers one search's lines.
     Judge,
+    /// `run`: answers a script's lines from a farm in memory.
+    Run,
 }
 
 /// The subcommand that these words name, if they name one.
@@ -18,6 +20,8 @@ pub fn read_subcommand(words: &[String]) -> Option<Subcommand>
         [word] => {
             if word.as_str() == "judge" {
                 Some(Subcommand::Judge)
+            } else if word.as_str() == "run" {
+                Some(Subcommand::Run)
             } else {
                 None
             }
