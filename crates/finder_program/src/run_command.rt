@@ -12,12 +12,10 @@ use std::alloc::Global;
 
 /// Founds a farm in memory, and answers the script's lines from it, each as soon as it is whole.
 pub fn run_command<S: Source, K: Sink>(alloc: Global, input: &mut S, output: &mut K) -> Status
-    ensures ends {
-        let before = streams S.Source K.Sink input.old output.old in
+    ensures ends { let before = streams S.Source K.Sink input.old output.old in
         let after = streams S.Source K.Sink input.new output.new in
         MemoryRunEnds result before after }
-    ensures completes {
-        let before = streams S.Source K.Sink input.old output.old in
+    ensures completes { let before = streams S.Source K.Sink input.old output.old in
         let after = streams S.Source K.Sink input.new output.new in
         MemoryRunCompletes result before after }
 {

@@ -12,7 +12,8 @@ const SEARCH: &str = "search 1 10 9 10 1 1\nrun 1 1 fail\n";
 
 const SCRIPT: &str = "{\"at\":86400000,\"do\":\"farm\"}\n{\"at\":86400000,\"do\":\"orders\"}\n{}";
 
-const FARM: &str = "{\"confirmed\":0,\"counted\":0,\"ended\":0,\"entries\":1,\"orders\":0,\"reply\":\"farm\",\
+const FARM: &str =
+    "{\"confirmed\":0,\"counted\":0,\"ended\":0,\"entries\":1,\"orders\":0,\"reply\":\"farm\",\
 \"searches\":0,\"searching\":0,\"verifying\":0}\n";
 
 const ORDERS: &str = "{\"orders\":[],\"reply\":\"orders\"}\n";
@@ -39,8 +40,16 @@ fn a_failed_read_leaves_the_whole_lines_answered(rt: HostRuntime) -> Result<(), 
     ];
     for (word, input, piece, fails, wanted) in rows {
         let ended = play_with_fault(alloc, word, input.as_bytes(), piece, fails)?;
-        assert_eq!(rt; ended.status, Status::ReadFault, "at take {fails} of {piece} bytes");
-        assert_eq!(rt; ended.written.as_slice(), wanted.as_bytes(), "at take {fails} of {piece} bytes");
+        assert_eq!(rt;
+            ended.status,
+            Status::ReadFault,
+            "at take {fails} of {piece} bytes"
+        );
+        assert_eq!(rt;
+            ended.written.as_slice(),
+            wanted.as_bytes(),
+            "at take {fails} of {piece} bytes"
+        );
     }
     Ok(())
 }
@@ -84,7 +93,13 @@ impl Sink for NarrowSink {
 }
 
 /// Calls a subcommand whose output stops at one put, a put a byte.
-fn play_to_stop(alloc: Global, word: &str, input: &str, stops_at: u64, stop: Put) -> Result<Played, AllocError> {
+fn play_to_stop(
+    alloc: Global,
+    word: &str,
+    input: &str,
+    stops_at: u64,
+    stop: Put,
+) -> Result<Played, AllocError> {
     let words = words_of(alloc, word)?;
     let mut source = MemSource::of(Vec::from_slice(alloc, input.as_bytes())?, Vec::new(alloc));
     let mut sink = NarrowSink {
@@ -108,11 +123,21 @@ fn a_put_that_stops_leaves_the_bytes_before_it(rt: HostRuntime) -> Result<(), Fa
         // The first put, one within the first line, in the place of its line feed, and one within a later line.
         for stops_at in [1, 7, 10, 12, 117, 130] {
             if stops_at as usize <= whole.written.len() {
-                for (stop, wanted) in [(Put::Failed, Status::WriteFault), (Put::Memory, Status::Memory)] {
+                for (stop, wanted) in [
+                    (Put::Failed, Status::WriteFault),
+                    (Put::Memory, Status::Memory),
+                ] {
                     let ended = play_to_stop(rt.alloc(), word, input, stops_at, stop)?;
                     assert_eq!(rt; ended.status, wanted, "{word} at put {stops_at}");
-                    assert_eq!(rt; ended.written.len() as u64, stops_at - 1, "{word} at put {stops_at}");
-                    assert!(rt; whole.written.starts_with(&ended.written), "{word} at put {stops_at}");
+                    assert_eq!(rt;
+                        ended.written.len() as u64,
+                        stops_at - 1,
+                        "{word} at put {stops_at}"
+                    );
+                    assert!(rt;
+                        whole.written.starts_with(&ended.written),
+                        "{word} at put {stops_at}"
+                    );
                 }
             }
         }
@@ -122,7 +147,16 @@ fn a_put_that_stops_leaves_the_bytes_before_it(rt: HostRuntime) -> Result<(), Fa
 
 #[test]
 fn other_words_are_refused(rt: HostRuntime) -> Result<(), Fail> {
-    for word in ["", "Judge", "judge ", "--help", "-h", "--version", "running", "serve"] {
+    for word in [
+        "",
+        "Judge",
+        "judge ",
+        "--help",
+        "-h",
+        "--version",
+        "running",
+        "serve",
+    ] {
         let ended = play(rt.alloc(), word, SCRIPT.as_bytes(), 0)?;
         assert_eq!(rt; ended.status, Status::Usage, "at {word}");
         assert!(rt; ended.written.is_empty(), "at {word}");
@@ -132,6 +166,9 @@ fn other_words_are_refused(rt: HostRuntime) -> Result<(), Fail> {
     words.push(String::from_str(rt.alloc(), "journal")?)?;
     let mut source = MemSource::of(Vec::new(rt.alloc()), Vec::new(rt.alloc()));
     let mut sink = MemSink::of(rt.alloc(), Vec::new(rt.alloc()));
-    assert_eq!(rt; finder(rt.alloc(), &words, &mut source, &mut sink), Status::Usage);
+    assert_eq!(rt;
+        finder(rt.alloc(), &words, &mut source, &mut sink),
+        Status::Usage
+    );
     Ok(())
 }

@@ -21,7 +21,11 @@ pub fn words_of(alloc: Global, word: &str) -> Result<Vec<String>, AllocError> {
 /// Calls a subcommand over an input that is given in pieces of this size, where 0 is no bound.
 pub fn play(alloc: Global, word: &str, input: &[u8], piece: usize) -> Result<Played, AllocError> {
     let bytes = Vec::from_slice(alloc, input)?;
-    play_source(alloc, word, MemSource::in_pieces(bytes, vec![in alloc; piece]?, Vec::new(alloc)))
+    play_source(
+        alloc,
+        word,
+        MemSource::in_pieces(bytes, vec![in alloc; piece]?, Vec::new(alloc)),
+    )
 }
 
 /// The same, where the take with this number fails.
@@ -33,7 +37,11 @@ pub fn play_with_fault(
     fails: u64,
 ) -> Result<Played, AllocError> {
     let bytes = Vec::from_slice(alloc, input)?;
-    play_source(alloc, word, MemSource::in_pieces(bytes, vec![in alloc; piece]?, vec![in alloc; fails]?))
+    play_source(
+        alloc,
+        word,
+        MemSource::in_pieces(bytes, vec![in alloc; piece]?, vec![in alloc; fails]?),
+    )
 }
 
 fn play_source(alloc: Global, word: &str, mut input: MemSource) -> Result<Played, AllocError> {
