@@ -3,7 +3,9 @@ use Rattle.std.proofs.Common.{◌≡◌, ◌+◌, ◌≤◌, ℕ, zero, suc, Boo
 use Rattle.std.specs.List.{cons_option, filter_map}
 use Rattle.std.specs.Option.{option_and_then, option_map}
 use Rattle.std.proofs.lemmas.List.Elements.{All-contains_itself}
-use Rattle.farm_rules.specs.Orders.{Next, day_is_full, no_search, order_for}
+use Rattle.farm_rules.specs.declared.orders.Draft.{Draft}
+use Rattle.farm_rules.specs.declared.orders.NoOrder.{NoOrder}
+use Rattle.farm_rules.specs.declared.orders.NoOrder.TheVariants as none
 use Rattle.farm_types.specs.declared.key.Key.{Key}
 use Rattle.farm_types.specs.declared.moment.Moment.{Moment}
 use Rattle.farm_types.specs.declared.moment.TheConstants.{LAST_DAY}
@@ -123,10 +125,10 @@ cancel-dates H key search m None = tt
 cancel-dates H key search m (Some o) =
     either-dates (is_active (standing H o)) (add_at m (Cancelled key search)) (Refuse (SearchEnded (standing H o))) tt tt
 
-revert-dates : (H : List Entry) (key : Key) (agent : List ℕ) (m : Moment) (next : Next) → ShowsDates (revert_decision H key agent m next)
-revert-dates H key agent m no_search = tt
-revert-dates H key agent m (day_is_full count) = tt
-revert-dates H key agent m (order_for c) = tt
+revert-dates : (key : Key) (agent : List ℕ) (m : Moment) (next : Result Draft NoOrder) → ShowsDates (revert_decision key agent m next)
+revert-dates key agent m (Ok d) = tt
+revert-dates key agent m (Err none.NoRevert) = tt
+revert-dates key agent m (Err (none.DailyLimit day count)) = tt
 
 page-dates : (H : List Entry) (search : ℕ) (o : Option Opening) → ShowsDates (page_decision H search o)
 page-dates H search None = tt
@@ -137,7 +139,7 @@ own-dates H (command.Open ask) m legal = either-dates _ (Refuse TooManySearches)
 own-dates H (command.Lease key worker) m legal = lease-dates H key worker m _
 own-dates H (command.Report run verdict) m legal = report-dates H run verdict m _
 own-dates H (command.Cancel key search) m legal = cancel-dates H key search m _
-own-dates H (command.TakeRevert key agent) m legal = revert-dates H key agent m _
+own-dates H (command.TakeRevert key agent) m legal = revert-dates key agent m _
 own-dates H (command.ShowSearch search) m legal = page-dates H search _
 own-dates H command.ShowFarm m legal = tt
 own-dates H command.ShowOrders m legal = λ k d below.
