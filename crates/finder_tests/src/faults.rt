@@ -131,7 +131,7 @@ fn a_put_that_stops_leaves_the_bytes_before_it(rt: HostRuntime) -> Result<(), Fa
                     assert_eq!(rt; ended.status, wanted, "{word} at put {stops_at}");
                     assert_eq!(rt;
                         ended.written.len() as u64,
-                        stops_at - 1,
+                        stops_at.saturating_sub(1),
                         "{word} at put {stops_at}"
                     );
                     assert!(rt;

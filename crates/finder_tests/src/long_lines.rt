@@ -9,7 +9,8 @@ use std::test::Fail;
 const LIMIT: usize = 262_144;
 
 const FARM: &str =
-    "{\"confirmed\":0,\"counted\":0,\"ended\":0,\"entries\":1,\"orders\":0,\"reply\":\"farm\",\"searches\":0,\"searching\":0,\"verifying\":0}\n";
+    "{\"confirmed\":0,\"counted\":0,\"ended\":0,\"entries\":1,\"orders\":0,\"reply\":\"farm\",\
+\"searches\":0,\"searching\":0,\"verifying\":0}\n";
 
 const BAD_JSON: &str = "{\"refused\":\"BadJson\"}\n";
 
@@ -18,7 +19,7 @@ const TOO_LONG: &str = "{\"refused\":\"TooLong\"}\n";
 /// A request for the farm's page, in so many bytes and then these.
 fn farm_line(alloc: Global, size: usize, end: &str) -> Result<String, AllocError> {
     let mut line = String::from_str(alloc, "{\"at\":86400000,\"do\":\"farm\",\"ignored\":\"")?;
-    while line.len() + 2 < size {
+    for _ in line.len().saturating_add(2)..size {
         line.push('x')?;
     }
     line.push_str("\"}")?;
@@ -117,15 +118,16 @@ fn a_thousand_suspects_fit_a_search(rt: HostRuntime) -> Result<(), Fail> {
         alloc,
         "{\"budget\":8,\"reply\":\"open\",\"search\":1,\"standing\":\"searching\"}\n",
     )?;
-    for run in 1u64..=9 {
+    for before in 0u64..9 {
         // Each lease comes when the one before has expired, and all are at one position.
-        let at = 86_400_000 + 60_000 * (run - 1);
+        let (run, at) = (before + 1, 86_400_000 + 60_000 * before);
         script.push_str(&format!(in alloc;
             "{{\"at\":{at},\"do\":\"lease\",\"key\":\"{:032}\",\"worker\":\"w\"}}\n",
-            run + 1
+            before + 2
         )?)?;
         answers.push_str(&format!(in alloc;
-            "{{\"commit\":\"{:040}\",\"deadline\":{},\"position\":508,\"reply\":\"lease\",\"run\":{run},\"search\":1,\"stage\":\"search\",\"test\":\"t\"}}\n",
+            "{{\"commit\":\"{:040}\",\"deadline\":{},\"position\":508,\"reply\":\"lease\",\
+\"run\":{run},\"search\":1,\"stage\":\"search\",\"test\":\"t\"}}\n",
             508,
             at + 60_000
         )?)?;
@@ -140,7 +142,8 @@ fn a_thousand_suspects_fit_a_search(rt: HostRuntime) -> Result<(), Fail> {
             ("counted", "searching")
         };
         answers.push_str(&format!(in alloc;
-            "{{\"fate\":\"{fate}\",\"reply\":\"report\",\"run\":{run},\"search\":1,\"standing\":\"{standing}\",\"verdict\":\"fail\"}}\n"
+            "{{\"fate\":\"{fate}\",\"reply\":\"report\",\"run\":{run},\"search\":1,\
+\"standing\":\"{standing}\",\"verdict\":\"fail\"}}\n"
         )?)?;
     }
     let ended = play(alloc, "run", script.as_bytes(), 8_192)?;
