@@ -20,8 +20,14 @@ fn main(rt: HostRuntime) -> ExitCode {
 
 /// Runs the subcommand that the process's words name. Words that aren't text name none.
 fn run(rt: &HostRuntime) -> Status {
-    let Ok(words) = env::args(rt) else {
-        return Status::Usage;
+    let words = match env::args(rt) {
+        Ok(words) => words,
+        Err(fault) => {
+            return match fault.kind() {
+                io::ErrorKind::OutOfMemory => Status::Memory,
+                _ => Status::Usage,
+            };
+        }
     };
     let Ok(words) = words.skip(1).collect::<Vec<String>>(rt.alloc()) else {
         return Status::Memory;
