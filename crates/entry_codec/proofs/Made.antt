@@ -10,6 +10,7 @@ use Rattle.std.specs.Str.{IsAscii, IsUtf8}
 use Rattle.std.proofs.lemmas.Int.{ints}
 use Rattle.std.proofs.lemmas.List.{get_or_past}
 use Rattle.std.proofs.lemmas.Str.{IsUtf8-from_ascii}
+use Rattle.std.proofs.lemmas.Option.{same_Some}
 use Rattle.hex.specs.Hex.{IsBytes}
 use Rattle.flake_rate.specs.Bar.{bar_denominator, bar_numerator}
 use Rattle.flake_rate.specs.Miss.{FitsRate, miss_denominator, miss_numerator}
@@ -21,7 +22,8 @@ use Rattle.flake_rate.specs.declared.rate.Rate.{Rate}
 use Rattle.flake_rate.proofs.Limits.{bar-tested, fits-tested, fits-within, miss-tested, rate-tested}
 use Rattle.flake_rate.proofs.Values.{bar-from_numbers, miss-from_numbers, rate-from_numbers}
 use Rattle.farm_types.specs.CommitId.{id_bytes}
-use Rattle.farm_types.specs.Limits.{IsName}
+use Rattle.farm_types.specs.Limits.{IsName, is_moment}
+use Rattle.farm_types.proofs.Limits.{moment-tested}
 use Rattle.farm_types.specs.Moment.{moment_ms}
 use Rattle.farm_types.specs.Name.{name_fault}
 use Rattle.farm_types.specs.declared.commit_id.CommitId.{CommitId}
@@ -44,24 +46,18 @@ use Rattle.farm_entry.specs.Settings.{settings_daily, settings_lease_ms, setting
 use Rattle.farm_entry.specs.declared.entry.Fate.{Fate}
 use Rattle.farm_entry.specs.declared.entry.Fate.TheVariants.{Counted, Late, Over}
 use Rattle.farm_entry.specs.declared.settings.Settings.{Settings}
+use Rattle.farm_entry.proofs.Asked.{when_passed-same}
+use Rattle.farm_entry.proofs.SameSettings.{settings-from_numbers}
 use Rattle.entry_codec.specs.Spelling.{fate_mark, stage_mark, verdict_mark, zone_number}
 use Rattle.entry_codec.specs.Reading.{◌>>=◌, miss_at}
-use Rattle.entry_codec.specs.Values.{are_bytes, are_settings, fate_of, fitting_miss, id_of, if_fitting, is_moment, lowest_miss, lowest_rate, moment_of, name_of, range_of, settings_of, stage_of, up_to, verdict_of, zone_at}
+use Rattle.entry_codec.specs.Values.{are_bytes, are_settings, fate_of, fitting_miss, id_of, if_fitting, lowest_miss, lowest_rate, moment_of, name_of, range_of, settings_of, stage_of, up_to, verdict_of, zone_at}
 use Rattle.entry_codec.specs.declared.marks.TheConstants.{COUNTED_MARK, FAIL_MARK, LATE_MARK, OVER_MARK, PASS_MARK, SEARCH_MARK, VERIFY_MARK}
 
 -- tests and what is made where they pass
 
-passed : {X : Type 0} (test : Bool) (make : IsTrue test → X) (x : X) → IsTrue test →
-    ((h : IsTrue test) → make h ≡ x) → when_passed test make ≡ Some x
-passed true make x h same = ap Some (same refl)
-passed false make x h same = absurd (cc)
-
-some_is : {X : Type 0} (x y : X) → Some x ≡ Some y → x ≡ y
-some_is x y e = cc
-
 made : {X : Type 0} (test : Bool) (make : IsTrue test → X) (x : X) → when_passed test make ≡ Some x →
     (h : IsTrue test) × (make h ≡ x)
-made true make x e = (refl, some_is (make refl) x e)
+made true make x e = (refl, same_Some (make refl) x e)
 made false make x e = absurd (cc)
 
 kept : {X : Type 0} (test : Bool) (x : X) → IsTrue test → (if test then Some x else None) ≡ Some x
@@ -69,12 +65,12 @@ kept true x h = refl
 kept false x h = absurd (cc)
 
 pub kept_is : {X : Type 0} (test : Bool) (x y : X) → (if test then Some x else None) ≡ Some y → IsTrue test × (x ≡ y)
-kept_is true x y e = (refl, some_is x y e)
+kept_is true x y e = (refl, same_Some x y e)
 kept_is false x y e = absurd (cc)
 
 pub choice : {X : Type 0} (test : Bool) (x : X) (other : Option X) (y : X) → (if test then Some x else other) ≡ Some y →
     (IsTrue test × (x ≡ y)) ⊎ ((test ≡ false) × (other ≡ Some y))
-choice true x other y e = inl (refl, some_is x y e)
+choice true x other y e = inl (refl, same_Some x y e)
 choice false x other y e = inr (refl, e)
 
 pub none_unless : {X : Type 0} (o : Option X) → ((x : X) → o ≡ Some x → ⊥) → o ≡ None
@@ -85,7 +81,7 @@ none_unless (Some x) h = absurd (h x refl)
 
 pub moment_of-moment : (m : Moment) → moment_of (moment_ms m) ≡ Some m
 moment_of-moment m =
-    passed (is_moment (moment_ms m)) _ m (and_from _ _ (le-leb _ _ m.in_range.0) (le-leb _ _ m.in_range.1))
+    when_passed-same (is_moment (moment_ms m)) _ m (moment-tested (moment_ms m) m.in_range)
     (λ h. moment_ms-injective _ m refl)
 
 pub moment_of-ms : (ms : ℕ) (m : Moment) → moment_of ms ≡ Some m → moment_ms m ≡ ms
@@ -102,7 +98,7 @@ are_bytes-from (b ∷ bytes) h = and_from _ _ (lt-ltb _ _ (h 0)) (are_bytes-from
 
 pub id_of-id : (id : CommitId) → id_of (id_bytes id) ≡ Some id
 id_of-id id =
-    passed _ _ id (and_from _ _ (eq-eqb _ _ id.whole) (are_bytes-from (id_bytes id) id.fits))
+    when_passed-same _ _ id (and_from _ _ (eq-eqb _ _ id.whole) (are_bytes-from (id_bytes id) id.fits))
     (λ h. id_bytes-injective _ id refl)
 
 pub id_of-bytes : (bytes : List ℕ) (id : CommitId) → id_of bytes ≡ Some id → id_bytes id ≡ bytes
@@ -182,19 +178,6 @@ fate_of-mark mark fate e = elim (choice (mark == COUNTED_MARK) Counted _ fate e)
 
 -- settings
 
--- settings with the same numbers are the same, since a fact that a value keeps has one proof
-settings-from_numbers : (a b : Settings) → settings_lease_ms a ≡ settings_lease_ms b →
-    settings_daily a ≡ settings_daily b →
-    settings_zone_minutes a ≡ settings_zone_minutes b → a ≡ b
-settings-from_numbers a b lease daily zone = λ i. record {
-  lease_ms = lease i;
-  daily = daily i;
-  zone_minutes = zone i;
-  lease_in_range = is_prop→PathP (λ j. IsLeaseTime (lease j)) (λ j. hlevel props) a.lease_in_range b.lease_in_range i;
-  daily_in_range = is_prop→PathP (λ j. IsDailyLimit (daily j)) (λ j. hlevel props) a.daily_in_range b.daily_in_range i;
-  zone_in_range = is_prop→PathP (λ j. IsZone (zone j)) (λ j. hlevel props) a.zone_in_range b.zone_in_range i;
-}
-
 pos_abs : (z : ℤ) → pos 0 ≤ℤ z → pos (unsigned_abs z) ≡ z
 pos_abs (pos n) h = refl
 pos_abs (negsuc n) h = absurd (omega (arith, ints))
@@ -224,7 +207,7 @@ pub settings_of-settings : (s : Settings) →
 settings_of-settings s =
     let zone : IsZone (zone_at (zone_number s)) =
     subst (λ (z : ℤ). IsZone z) (sym (zone_at-number s)) s.zone_in_range in
-    passed _ _ s (settings-tested _ _ _ s.lease_in_range s.daily_in_range zone)
+    when_passed-same _ _ s (settings-tested _ _ _ s.lease_in_range s.daily_in_range zone)
     (λ h. settings-from_numbers _ s refl refl (zone_at-number s))
 
 -- the three numbers of settings
@@ -264,7 +247,7 @@ zone_number-small s =
 
 pub lowest_rate-rate : (r : Rate) → lowest_rate (rate_numerator r) (rate_denominator r) ≡ Some r
 lowest_rate-rate r =
-    passed _ _ r (and_from _ _ (rate-tested _ _ r.in_limits) (eq-eqb _ _ r.lowest_terms))
+    when_passed-same _ _ r (and_from _ _ (rate-tested _ _ r.in_limits) (eq-eqb _ _ r.lowest_terms))
     (λ h. rate-from_numbers _ r refl refl)
 
 pub lowest_rate-numbers : (a b : ℕ) (r : Rate) → lowest_rate a b ≡ Some r → (rate_numerator r ≡ a)
@@ -280,7 +263,7 @@ lowest_rate-made a b r over under =
 
 pub lowest_miss-miss : (m : Miss) → lowest_miss (miss_numerator m) (miss_denominator m) ≡ Some m
 lowest_miss-miss m =
-    passed _ _ m (and_from _ _ (miss-tested _ _ m.in_limits) (eq-eqb _ _ m.lowest_terms))
+    when_passed-same _ _ m (and_from _ _ (miss-tested _ _ m.in_limits) (eq-eqb _ _ m.lowest_terms))
     (λ h. miss-from_numbers _ m refl refl)
 
 pub lowest_miss-numbers : (c d : ℕ) (m : Miss) → lowest_miss c d ≡ Some m → (miss_numerator m ≡ c)
@@ -333,7 +316,7 @@ fitting_miss-numbers rate c d m e = fitting_from rate c d (lowest_miss c d) m re
 -- bars
 
 pub bar_of-bar : (bar : Bar) → bar_of (bar_numerator bar) (bar_denominator bar) ≡ Some bar
-bar_of-bar bar = passed _ _ bar (bar-tested _ _ bar.in_limits) (λ h. bar-from_numbers _ bar refl refl)
+bar_of-bar bar = when_passed-same _ _ bar (bar-tested _ _ bar.in_limits) (λ h. bar-from_numbers _ bar refl refl)
 
 pub bar_of-numbers : (t u : ℕ) (bar : Bar) → bar_of t u ≡ Some bar → (bar_numerator bar ≡ t) × (bar_denominator bar ≡ u)
 bar_of-numbers t u bar e = let h = (made (is_bar t u) _ bar e).1 in

@@ -9,12 +9,12 @@ use Rattle.flake_rate.specs.Tests.{fits_rate, is_miss, is_rate}
 use Rattle.flake_rate.specs.declared.miss.Miss.{Miss}
 use Rattle.flake_rate.specs.declared.rate.Rate.{Rate}
 use Rattle.flake_rate.proofs.Limits.{miss-within, rate-within}
-use Rattle.farm_types.specs.Limits.{IsMoment}
+use Rattle.farm_types.specs.Limits.{is_moment}
+use Rattle.farm_types.proofs.Limits.{moment-within}
 use Rattle.farm_types.specs.Name.{name_fault}
 use Rattle.farm_types.specs.declared.commit_id.CommitId.{CommitId}
 use Rattle.farm_types.specs.declared.commit_id.TheConstants.{ID_BYTES}
 use Rattle.farm_types.specs.declared.moment.Moment.{Moment}
-use Rattle.farm_types.specs.declared.moment.TheConstants.{MOMENT_MAX_MS, MOMENT_MIN_MS}
 use Rattle.farm_types.specs.declared.stage.Stage.{Stage}
 use Rattle.farm_types.specs.declared.stage.Stage.TheVariants.{Search, Verify}
 use Rattle.farm_types.specs.declared.zone.TheConstants.{ZONE_MAX_MINUTES, ZONE_MIN_MINUTES}
@@ -33,12 +33,6 @@ use Rattle.farm_entry.specs.declared.settings.TheConstants.{LEASE_MAX_MS, LEASE_
 use Rattle.entry_codec.specs.declared.marks.TheConstants.{COUNTED_MARK, FAIL_MARK, LATE_MARK, OVER_MARK, PASS_MARK, SEARCH_MARK, VERIFY_MARK}
 
 -- moments
-
-abbrev pub is_moment : ℕ → Bool
-is_moment ms = nat_le MOMENT_MIN_MS ms && nat_le ms MOMENT_MAX_MS
-
-pub moment-within : (ms : ℕ) → IsTrue (is_moment ms) → IsMoment ms
-moment-within ms h = let both = and_parts _ _ h in (leb-true _ _ both.0, leb-true _ _ both.1)
 
 -- the moment at a number of milliseconds
 abbrev pub moment_of : ℕ → Option Moment

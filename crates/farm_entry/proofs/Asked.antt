@@ -17,31 +17,32 @@ use Rattle.farm_entry.specs.Ask.{bar_of, fitting, miss_of, rate_of, when_passed}
 
 -- what is made where a test passes, and that nothing is where it fails
 
-passed : {X : Type 0} (test : Bool) (make : IsTrue test → X) (x : X) → IsTrue test → ((h : IsTrue test) → make h ≡ x) → when_passed test make ≡ Some x
-passed true make x h same = ap Some (same refl)
-passed false make x h same = absurd (cc)
+pub when_passed-same : {X : Type 0} (test : Bool) (make : IsTrue test → X) (x : X) → IsTrue test →
+    ((h : IsTrue test) → make h ≡ x) → when_passed test make ≡ Some x
+when_passed-same true make x h same = ap Some (same refl)
+when_passed-same false make x h same = absurd (cc)
 
-failed : {X : Type 0} (test : Bool) (make : IsTrue test → X) → (IsTrue test → ⊥) → when_passed test make ≡ None
-failed true make h = absurd (h refl)
-failed false make h = refl
+pub when_passed-none : {X : Type 0} (test : Bool) (make : IsTrue test → X) → (IsTrue test → ⊥) → when_passed test make ≡ None
+when_passed-none true make h = absurd (h refl)
+when_passed-none false make h = refl
 
 -- rates
 
 pub rate_of-made : (a b : ℕ) (r : Rate) → IsRate a b → rate_numerator r ≡ a / gcd a b → rate_denominator r ≡ b / gcd a b → rate_of a b ≡ Some r
 rate_of-made a b r within over under =
-    passed (is_rate a b) _ r (rate-tested a b within) (λ h. rate-from_numbers _ r (sym over) (sym under))
+    when_passed-same (is_rate a b) _ r (rate-tested a b within) (λ h. rate-from_numbers _ r (sym over) (sym under))
 
 pub rate_of-refused : (a b : ℕ) → (IsRate a b → ⊥) → rate_of a b ≡ None
-rate_of-refused a b other = failed (is_rate a b) _ (λ h. other (rate-within a b h))
+rate_of-refused a b other = when_passed-none (is_rate a b) _ (λ h. other (rate-within a b h))
 
 -- misses
 
 pub miss_of-made : (c d : ℕ) (m : Miss) → IsMiss c d → miss_numerator m ≡ c / gcd c d → miss_denominator m ≡ d / gcd c d → miss_of c d ≡ Some m
 miss_of-made c d m within over under =
-    passed (is_miss c d) _ m (miss-tested c d within) (λ h. miss-from_numbers _ m (sym over) (sym under))
+    when_passed-same (is_miss c d) _ m (miss-tested c d within) (λ h. miss-from_numbers _ m (sym over) (sym under))
 
 pub miss_of-refused : (c d : ℕ) → (IsMiss c d → ⊥) → miss_of c d ≡ None
-miss_of-refused c d other = failed (is_miss c d) _ (λ h. other (miss-within c d h))
+miss_of-refused c d other = when_passed-none (is_miss c d) _ (λ h. other (miss-within c d h))
 
 taken : {X : Type 0} (test : Bool) (x : X) → IsTrue test → (if test then Some x else None) ≡ Some x
 taken true x h = refl
@@ -76,7 +77,7 @@ falsely h = true≢false (sym h)
 
 pub bar_of-made : (t u : ℕ) (b : Bar) → IsBar t u → bar_numerator b ≡ t → bar_denominator b ≡ u → bar_of t u ≡ Some b
 bar_of-made t u b within over under =
-    passed (is_bar t u) _ b (bar-tested t u within) (λ h. bar-from_numbers _ b (sym over) (sym under))
+    when_passed-same (is_bar t u) _ b (bar-tested t u within) (λ h. bar-from_numbers _ b (sym over) (sym under))
 
 pub bar_of-refused : (t u : ℕ) → (IsBar t u → ⊥) → bar_of t u ≡ None
-bar_of-refused t u other = failed (is_bar t u) _ (λ h. other (bar-within t u h))
+bar_of-refused t u other = when_passed-none (is_bar t u) _ (λ h. other (bar-within t u h))

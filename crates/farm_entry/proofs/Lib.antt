@@ -1,3 +1,4 @@
 pub mod Asked
 pub mod Growing
 pub mod Priors
+pub mod SameSettings

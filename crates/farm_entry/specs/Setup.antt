@@ -14,7 +14,7 @@ setup_of o =
     setup (map (λ suspect. suspect.weight) o.range.suspects) o.range.calm (factors_of o.rate o.miss) (bar_numerator o.bar)
     (bar_denominator o.bar)
 
--- how many runs its exact arithmetic has room for
+-- its budget, which bounds its load: the greatest for which its exact arithmetic has room
 abbrev pub budget_of_search : Opening → ℕ
 budget_of_search o = run_budget (setup_of o)
 

@@ -1,17 +1,28 @@
 //! What an opening says of the inference of its search, and of the commits of its range.
 
-ghost use Rattle.std.specs.Prelude.{◌≡◌, ◌≤◌, length, map, sum};
+ghost use Rattle.std.specs.Prelude.{◌≡◌, ◌≤◌, length, map, sum, IfOk};
 ghost use Rattle.flake_rate.specs.Miss.{FitsRate};
+ghost use Rattle.weight_exact.specs.Limits.{ArePriors};
 ghost use Rattle.farm_entry.specs.Setup.{budget_of_search, commit_of, setup_of};
 ghost use Rattle.farm_entry.specs.Standing.{named_commit};
 
 use crate::{Opening, Standing};
-use farm_types::CommitId;
+use farm_types::{CommitId, Memory};
+use std::alloc::Global;
 use suspect_range::Suspect;
 use weight_exact::{MAX_PRIOR_TOTAL, MAX_SUSPECTS, MIN_PRIOR_TOTAL, budget};
 
 impl Opening {
-    /// How many runs the exact arithmetic of the search has room for.
+    /// The prior weights of its suspects in commit order, as a list of their own. With the calm weight of its range they
+    /// are what a belief of the search starts from.
+    pub fn weights(&self, alloc: Global) -> Result<Vec<u32>, Memory>
+        ensures weights { IfOk result (λ weights. weights.items ≡ map (λ suspect. suspect.weight) self.now.range.suspects) }
+        ensures priors { IfOk result (λ weights. ArePriors weights.items self.now.range.calm) }
+    {
+        self.range.weights(alloc)
+    }
+
+    /// The budget of the search, which bounds its load: the greatest for which its exact arithmetic has room.
     pub fn budget(&self) -> u32
         requires told { FitsRate self.now.miss self.now.rate }
         ensures { result ≡ budget_of_search self.now }

@@ -11,7 +11,7 @@ pub enum Reply {
     Opened {
         /// The number of the search, from 1.
         search: u32,
-        /// How many runs its exact arithmetic has room for.
+        /// Its budget, which bounds its load: the greatest for which its exact arithmetic has room.
         budget: u32,
         /// Where the search stands.
         standing: Standing,
@@ -81,7 +81,7 @@ pub struct SearchPage {
     pub search: u32,
     /// The test that is searched.
     pub test: Name,
-    /// How many runs its exact arithmetic has room for.
+    /// Its budget, which bounds its load: the greatest for which its exact arithmetic has room.
     pub budget: u32,
     /// How many of its runs were handed out, at both stages.
     pub leases: u32,

@@ -3,8 +3,8 @@ use Rattle.std.proofs.Common.{◌≡◌, ◌≢◌, ◌⊎◌, inl, inr, ℕ, �
 use Rattle.std.specs.Option.{is_none}
 use Rattle.std.proofs.lemmas.Bool.{cases_Bool}
 use Rattle.farm_types.specs.declared.stage.Stage.TheVariants.{Search}
-use Rattle.weight_exact.specs.Load.{is_fail_above, load, may_miss}
-use Rattle.weight_exact.specs.declared.factors.Factors.{Factors}
+use Rattle.weight_exact.specs.Load.{load}
+use Rattle.weight_exact.proofs.Floors.{load-none}
 use Rattle.weight_exact.specs.Share.{reached}
 use Rattle.weight_exact.specs.declared.run.Run.{Run}
 use Rattle.farm_entry.specs.History.{openings, reruns, runs, was_cancelled, went_over}
@@ -22,10 +22,7 @@ use Rattle.farm_laws.proofs.RunSteps.{GrownRuns, cancel-step, over-step, reruns-
 use Rattle.farm_laws.proofs.Standings.{inactive-searching, inactive-verifying, is_searching-parts, at_bar-searching, searching-is}
 use Rattle.farm_laws.proofs.Stepped.{Stepped}
 
--- no runs have no load
-load-none : (f : Factors) → load f [] ≡ 0
-load-none f = elim (may_miss f) as (λ b. length (if b then [] else filter (is_fail_above 0) []) ≡ 0) [ true ↦ refl | false ↦ refl ]
-
+-- no runs fit every budget
 none-fits : (o : Opening) → load (setup_of o).factors [] ≤ budget_of_search o
 none-fits o = omega (arith, load-none (setup_of o).factors)
 

@@ -9,6 +9,7 @@ use Rattle.farm_entry.specs.Decision.{last_moment, moment_used}
 use Rattle.farm_laws.specs.Laws.{IsNotBefore}
 use Rattle.farm_entry.specs.Legal.{IsLegal}
 use Rattle.farm_entry.specs.declared.entry.Entry.{Entry}
+use Rattle.farm_entry.proofs.Growing.{last_moment-push}
 use Rattle.farm_laws.proofs.Induct.{each_legal}
 use Rattle.farm_laws.proofs.Pairs.{AllPairs-nil}
 
@@ -19,11 +20,6 @@ from_later a b false tells same = let numbers : moment_ms a ≡ moment_ms b = ap
 
 pub not_before-last : (H : List Entry) (m : Moment) → moment_used H m ≡ m → moment_ms (last_moment m H) ≤ moment_ms m
 not_before-last H m used = from_later (last_moment m H) m _ (leb-true (moment_ms (last_moment m H)) (moment_ms m)) used
-
--- the last moment is that of the last entry
-last_moment-push : (m : Moment) (H : List Entry) (e : Entry) → last_moment m (H ++ e ∷ []) ≡ e.at
-last_moment-push m [] e = refl
-last_moment-push m (f ∷ H) e = last_moment-push f.at H e
 
 -- each two moments in order, and none after the last
 record InOrder (H : List Entry) : Type 0 where

@@ -4,7 +4,7 @@ use Rattle.std.proofs.lemmas.Bool.{eqb-false}
 use Rattle.std.proofs.lemmas.List.Elements.{All-nil}
 use Rattle.farm_types.specs.declared.key.Key.{Key}
 use Rattle.farm_types.specs.declared.moment.Moment.{Moment}
-use Rattle.farm_types.proofs.Places.{fails-from_none}
+use Rattle.farm_types.proofs.FirstIndex.{fails-from_none}
 use Rattle.farm_entry.specs.History.{has_key, is_key, is_of_run, is_report_of, key_in, place_of_key, place_of_report, report_in, reports}
 use Rattle.farm_laws.specs.Laws.{keys}
 use Rattle.farm_entry.specs.Legal.{IsLegal}

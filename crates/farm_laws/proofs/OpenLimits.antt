@@ -3,7 +3,7 @@ use Rattle.std.proofs.Common.{◌≡◌, ℕ, ◌*◌, ◌-◌, ◌<◌, ◌≤�
 use Rattle.std.proofs.lemmas.List.{get_or_push, length-map}
 use Rattle.std.proofs.lemmas.List.Elements.{All-contains}
 use Rattle.flake_rate.specs.Miss.{FitsRate}
-use Rattle.flake_rate.proofs.Values.{miss_within, rate_within}
+use Rattle.flake_rate.proofs.Values.{miss-in_limits, rate-in_limits}
 use Rattle.suspect_range.specs.Range.{IsSuspectRange}
 use Rattle.suspect_range.proofs.Legal.{IsSuspectRange-from_no_fault}
 use Rattle.weight_exact.specs.Weights.{Setup, hypotheses, prior}
@@ -58,8 +58,8 @@ last-prior weights calm =
 pub setup_facts : (o : Opening) → OpenWithin o → SetupFacts (setup_of o)
 setup_facts o h =
     let weights : List ℕ = map (λ suspect. suspect.weight) o.range.suspects in
-    let rate = rate_within o.rate in
-    let miss = miss_within o.miss in
+    let rate = rate-in_limits o.rate in
+    let miss = miss-in_limits o.miss in
     let bar = o.bar.in_limits in
     record {
       some = omega (arith, length-append weights (o.range.calm ∷ []), length-map o.range.suspects (λ suspect. suspect.weight), h.range.some);

@@ -11,7 +11,7 @@ use Rattle.std.proofs.lemmas.Option.{slice_get_within}
 use Rattle.std.proofs.lemmas.Slice.Eq.{bytes_eq-Decides}
 use Rattle.farm_types.specs.declared.key.Key.{Key}
 use Rattle.farm_types.specs.declared.moment.Moment.{Moment}
-use Rattle.farm_types.proofs.Places.{fails-from_none, position-first}
+use Rattle.farm_types.proofs.FirstIndex.{fails-from_none, position-first}
 use Rattle.farm_entry.specs.Decision.{decide, asked_before, asks_for, full_decision, keyed_decision, known_decision, makes_opening, moment_used, or_else, own_decision, refuse_opening, repeat_or_clash, shape_decision}
 use Rattle.farm_entry.specs.Ask.{opening_of}
 use Rattle.farm_entry.specs.History.{has_key, is_key, is_of_run, is_report_of, key_in, opening_in, openings, place_of_key, place_of_report, report_in}

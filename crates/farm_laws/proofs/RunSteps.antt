@@ -2,7 +2,7 @@
 use Rattle.std.proofs.Common.{◌≡◌, ◌⊎◌, inl, inr, ℕ, ◌≤◌, ◌==◌, Bool, true, false, ◌&&◌, ◌||◌, nat_lt, if◌then◌else◌, List, [], ◌∷◌, ◌++◌, Contains, Option, Some, None, refl, sym, ap, subst, ◌∙◌, arith, append-nil, true≢false, ⊎_elim}
 use Rattle.std.specs.List.{cons_option, filter_map, list_any}
 use Rattle.std.specs.Option.{option_and_then}
-use Rattle.std.proofs.lemmas.Bool.{cases_Bool}
+use Rattle.std.proofs.lemmas.Bool.{and_parts, cases_Bool}
 use Rattle.std.proofs.lemmas.Bool.Decides.{nat_tests}
 use Rattle.farm_types.specs.declared.stage.Stage.{Stage}
 use Rattle.farm_types.specs.declared.stage.Stage.TheVariants.{Search, Verify}
@@ -113,10 +113,6 @@ pub record NewRun (H : List Entry) (e : Entry) (o : Opening) (stage : Stage) : T
 
 -- tests in two parts
 
-and-parts : (a b : Bool) → (a && b) ≡ true → (a ≡ true) × (b ≡ true)
-and-parts true b h = (refl, h)
-and-parts false b h = false-true h
-
 same-number : (a b : ℕ) → a == b ≡ true → a ≡ b
 same-number a b h = grind (arith, nat_tests)
 
@@ -156,7 +152,7 @@ counted-step_by H e o stage legal there s (Some r) is grown =
     (λ (none : cons_option (chosen_run (is_counted r.fate) here run) [] ≡ []).
     inl (added ∙ ap (λ (x : List Run). counted H o.search stage ++ x) none ∙ append-nil (counted H o.search stage)))
     (λ (one : (is_counted r.fate ≡ true) × (here ≡ true) × (cons_option (chosen_run (is_counted r.fate) here run) [] ≡ run ∷ [])).
-    let parts = and-parts (l.search == o.search) (same_stage l.stage stage) one.1 in
+    let parts = and_parts (l.search == o.search) (same_stage l.stage stage) one.1 in
     let same : l.search ≡ o.search = same-number l.search o.search parts.0 in
     inr (record {
       lease = l;
@@ -234,7 +230,7 @@ over-step_by H e o legal there s (Some r) is grown =
     let test : Bool = is_over r.fate && is_of_search o.search (lease_of (H ++ e ∷ []) r.run) in
     ⊎_elim
     (λ (over : test ≡ true).
-    let parts = and-parts (is_over r.fate) (is_of_search o.search (lease_of (H ++ e ∷ []) r.run)) over in
+    let parts = and_parts (is_over r.fate) (is_of_search o.search (lease_of (H ++ e ∷ []) r.run)) over in
     let of_it : l.search == o.search ≡ true = sym (ap (is_of_search o.search) (lease_of-stays H e r.run l facts.known)) ∙ parts.1 in
     let same : l.search ≡ o.search = same-number l.search o.search of_it in
     inr (over-searching (standing H o) H o l r.verdict

@@ -18,22 +18,10 @@ use Rattle.flake_rate.specs.declared.bar.Bar.{Bar}
 use Rattle.flake_rate.specs.declared.miss.Miss.{Miss}
 use Rattle.flake_rate.specs.declared.rate.Rate.{Rate}
 use Rattle.farm_entry.specs.Limits.{IsDailyLimit, IsLeaseTime, IsZone}
+use Rattle.farm_entry.proofs.SameSettings.{settings-from_numbers}
 use Rattle.farm_entry.specs.Settings.{settings_daily, settings_lease_ms, settings_zone_minutes}
 use Rattle.farm_entry.specs.contracts.settings.SettingsPartialEq.TheImpl as settings_eq
 use Rattle.farm_entry.specs.declared.settings.Settings.{Settings}
-
--- from the numbers
-
-pub settings-from_numbers : (a b : Settings) → settings_lease_ms a ≡ settings_lease_ms b → settings_daily a ≡ settings_daily b
-    → settings_zone_minutes a ≡ settings_zone_minutes b → a ≡ b
-settings-from_numbers a b lease daily zone = λ i. record {
-  lease_ms = lease i;
-  daily = daily i;
-  zone_minutes = zone i;
-  lease_in_range = is_prop→PathP (λ j. IsLeaseTime (lease j)) (λ j. hlevel props) a.lease_in_range b.lease_in_range i;
-  daily_in_range = is_prop→PathP (λ j. IsDailyLimit (daily j)) (λ j. hlevel props) a.daily_in_range b.daily_in_range i;
-  zone_in_range = is_prop→PathP (λ j. IsZone (zone j)) (λ j. hlevel props) a.zone_in_range b.zone_in_range i;
-}
 
 -- by the tests
 

@@ -9,7 +9,7 @@ use Rattle.weight_exact.specs.Share.{reached}
 use Rattle.weight_exact.specs.Weights.{Setup, hypotheses, sum_to, suspects, total, weight}
 use Rattle.weight_exact.specs.declared.run.Run.{Run}
 use Rattle.weight_exact.proofs.Floors.{weight-floor}
-use Rattle.weight_exact.proofs.Shares.{reached_none, reached_some}
+use Rattle.weight_exact.proofs.Shares.{unreached-from_none, IsReached-from_some}
 use Rattle.farm_entry.specs.History.{reruns, runs, was_cancelled, went_over}
 use Rattle.farm_laws.specs.Laws.{culprit_of}
 use Rattle.farm_entry.specs.Setup.{setup_of}
@@ -130,7 +130,7 @@ pub culprit-at_bar : (H : List Entry) (o : Opening) (c : ℕ) → culprit_of (st
     (at_bar H o ≡ Some c) × (1 ≤ c) × (c ≤ suspects (setup_of o))
 culprit-at_bar H o c h =
     let both = from-culprit o (was_cancelled H o.search) (went_over H o.search) (reruns H o.search) (at_bar H o) c h in
-    let at = reached_some (setup_of o) (runs H o.search) c both.0 in
+    let at = IsReached-from_some (setup_of o) (runs H o.search) c both.0 in
     let within = between c (hypotheses (setup_of o)) both.1 at.first at.last in
     (both.0, within.0, within.1)
 
@@ -159,5 +159,5 @@ some-left s past facts none =
     let bar : s.bar_numerator * total s past ≤ weight s past (hypotheses s) * s.bar_denominator =
     subst (λ (w : ℕ). s.bar_numerator * total s past ≤ w * s.bar_denominator) whole
     (at-the-bar s.bar_numerator s.bar_denominator (total s past) facts.below_one) in
-    absurd (reached_none s past none (hypotheses s) (record { first = omega (arith, facts.some); last = omega arith; at_bar = bar })))
+    absurd (unreached-from_none s past none (hypotheses s) (record { first = omega (arith, facts.some); last = omega arith; at_bar = bar })))
     (cases_lt (floor s.factors past) (suspects s))

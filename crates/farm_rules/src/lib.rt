@@ -5,7 +5,8 @@
 //! numbers in [`laws`] are found by evaluating them; the other laws there say what characterises them. The types that a
 //! rule is asked with and answers, where it has some of its own, stand here too, so that every layer above means the
 //! same by a candidate, a draft and a refusal. The crate stands on `farm_types` for ids, moments and days, on
-//! `weight_exact` for runs, and on `thiserror` for the texts of refusals.
+//! `weight_exact` for runs, and on `thiserror` for the texts of refusals. The layers above may cite the lemmas of
+//! `proofs/Striking` (what is left of a plan), `proofs/Earliest` and `proofs/Drafts` (the next order).
 #![tactic(auto)]
 
 mod day;

@@ -10,7 +10,7 @@ use Rattle.hex.proofs.HexLemmas.{decode_of-err, decode_of-ok, decode_sized-encod
 use Rattle.farm_types.specs.CommitId.{first_other, id_bytes, id_digits, id_fault}
 use Rattle.farm_types.specs.declared.commit_id.CommitId.{CommitId}
 use Rattle.farm_types.specs.declared.commit_id.IdFault.TheVariants.{Digit, Length}
-use Rattle.farm_types.proofs.Places.{fails-from_none, position-first, position-none}
+use Rattle.farm_types.proofs.FirstIndex.{fails-from_none, position-first, position-none}
 
 -- at the right length the digits decide
 id_fault-at_length : (text : List ℕ) → length text ≡ 40 → id_fault text ≡ option_map Digit (first_other text)

@@ -1,4 +1,5 @@
+pub mod FirstIndex
 pub mod IdTexts
+pub mod Limits
 pub mod NameTexts
-pub mod Places
 pub mod SameValues

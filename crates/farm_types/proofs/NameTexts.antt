@@ -6,7 +6,7 @@ use Rattle.farm_types.specs.Limits.{IsName, is_printable}
 use Rattle.farm_types.specs.Name.{first_unprintable, name_fault}
 use Rattle.farm_types.specs.declared.name.NameFault.TheVariants.{Byte}
 use Rattle.farm_types.specs.declared.name.TheConstants.{NAME_MAX_BYTES}
-use Rattle.farm_types.proofs.Places.{fails-from_none, position-none}
+use Rattle.farm_types.proofs.FirstIndex.{fails-from_none, position-none}
 
 -- at a right length the bytes decide
 name_fault-at_length : (text : List ℕ) → 1 ≤ length text → length text ≤ NAME_MAX_BYTES

@@ -8,6 +8,10 @@ use Rattle.farm_types.specs.declared.name.TheConstants.{NAME_MAX_BYTES, NAME_FIR
 abbrev pub IsMoment : ℕ → Type 0
 IsMoment ms = (MOMENT_MIN_MS ≤ ms) × (ms ≤ MOMENT_MAX_MS)
 
+-- the same as a test
+abbrev pub is_moment : ℕ → Bool
+is_moment ms = nat_le MOMENT_MIN_MS ms && nat_le ms MOMENT_MAX_MS
+
 -- whether a byte is a printable ASCII character, the space included
 abbrev pub is_printable : ℕ → Bool
 is_printable b = nat_le NAME_FIRST_BYTE b && nat_le b NAME_LAST_BYTE

@@ -4,37 +4,26 @@ use Rattle.std.specs.List.{list_all}
 use Rattle.std.specs.Result.{result_ok}
 use Rattle.std.proofs.lemmas.Bool.{and_from, false≢true, le-leb, lt-ltb}
 use Rattle.hex.specs.Hex.{decode_of}
-use Rattle.farm_entry.specs.Ask.{when_passed}
+use Rattle.farm_entry.proofs.Asked.{when_passed-none, when_passed-same}
 use Rattle.farm_types.proofs.SameValues.{id_bytes-injective, moment_ms-injective}
 use Rattle.farm_types.specs.CommitId.{id_bytes, id_fault}
-use Rattle.farm_types.specs.Limits.{IsMoment}
+use Rattle.farm_types.specs.Limits.{IsMoment, is_moment}
+use Rattle.farm_types.proofs.Limits.{moment-tested, moment-within}
 use Rattle.farm_types.specs.Moment.{moment_ms}
 use Rattle.farm_types.specs.declared.commit_id.CommitId.{CommitId}
 use Rattle.farm_types.specs.declared.commit_id.IdFault.{IdFault}
 use Rattle.farm_types.specs.declared.moment.Moment.{Moment}
 use Rattle.farm_types.specs.declared.moment.MomentFault.{MomentFault}
-use Rattle.farm_wire.specs.Made.{id_named, id_of, is_id, is_moment, moment-within, moment_at}
-
-passed : {X : Type 0} (test : Bool) (make : IsTrue test → X) (x : X) → IsTrue test → ((h : IsTrue test) → make h ≡ x)
-    → when_passed test make ≡ Some x
-passed true make x passes same = ap Some (same refl)
-passed false make x passes same = cc
-
-failed : {X : Type 0} (test : Bool) (make : IsTrue test → X) → (IsTrue test → ⊥) → when_passed test make ≡ None
-failed true make fails = absurd (fails refl)
-failed false make fails = refl
-
-moment-tested : (ms : ℕ) → IsMoment ms → IsTrue (is_moment ms)
-moment-tested ms within = and_from _ _ (le-leb _ _ within.0) (le-leb _ _ within.1)
+use Rattle.farm_wire.specs.Made.{id_named, id_of, is_id, moment_at}
 
 pub moment_at-of : (m : Moment) (ms : ℕ) → moment_ms m ≡ ms → moment_at ms ≡ Some m
 unfolding moment_at
 moment_at-of m ms is =
-    passed (is_moment ms) _ m (moment-tested ms (subst IsMoment is m.in_range)) (λ h. moment_ms-injective _ m (sym is))
+    when_passed-same (is_moment ms) _ m (moment-tested ms (subst IsMoment is m.in_range)) (λ h. moment_ms-injective _ m (sym is))
 
 pub moment_at-none : (ms : ℕ) → (IsMoment ms → ⊥) → moment_at ms ≡ None
 unfolding moment_at
-moment_at-none ms outside = failed (is_moment ms) _ (λ h. outside (moment-within ms h))
+moment_at-none ms outside = when_passed-none (is_moment ms) _ (λ h. outside (moment-within ms h))
 
 -- what a call that makes a moment answers, as an option
 pub moment_at-result : (r : Result Moment MomentFault) (ms : ℕ) → (IsOk r ↔ IsMoment ms) →
@@ -50,7 +39,7 @@ all-below (b ∷ bytes) each = and_from _ _ (lt-ltb b 256 (each zero)) (all-belo
 pub id_of-bytes : (id : CommitId) → id_of (id_bytes id) ≡ Some id
 unfolding id_of
 id_of-bytes id =
-    passed (is_id (id_bytes id)) _ id (and_from _ _ (eq-eqb _ _ id.whole) (all-below (id_bytes id) id.fits))
+    when_passed-same (is_id (id_bytes id)) _ id (and_from _ _ (eq-eqb _ _ id.whole) (all-below (id_bytes id) id.fits))
     (λ h. id_bytes-injective _ id refl)
 
 -- what a call that reads an id answers, as an option

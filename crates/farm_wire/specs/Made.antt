@@ -1,25 +1,18 @@
 -- Values that are made of plain numbers and bytes, where these keep the limits.
-use Rattle.std.specs.Prelude.{◌≡◌, ℕ, zero, suc, List, [], ◌∷◌, length, slice_index, ◌==◌, ◌&&◌, ◌<◌, nat_le, nat_lt, Bool, true, if◌then◌else◌, IsTrue, is_none, Option, None}
+use Rattle.std.specs.Prelude.{◌≡◌, ℕ, zero, suc, List, [], ◌∷◌, length, slice_index, ◌==◌, ◌&&◌, ◌<◌, nat_lt, Bool, true, if◌then◌else◌, IsTrue, is_none, Option, None}
 use Rattle.std.specs.List.{list_all}
 use Rattle.std.specs.Option.{option_and_then}
 use Rattle.std.specs.Result.{result_ok}
 use Rattle.std.proofs.Math.Facts.{leb_yes}
-use Rattle.std.proofs.lemmas.Bool.{and_parts, eqb-true, leb-true, ltb-true}
+use Rattle.std.proofs.lemmas.Bool.{and_parts, eqb-true, ltb-true}
 use Rattle.hex.specs.Hex.{decode_of}
 use Rattle.farm_entry.specs.Ask.{when_passed}
 use Rattle.farm_types.specs.CommitId.{id_fault}
-use Rattle.farm_types.specs.Limits.{IsMoment}
+use Rattle.farm_types.specs.Limits.{is_moment}
+use Rattle.farm_types.proofs.Limits.{moment-within}
 use Rattle.farm_types.specs.declared.commit_id.CommitId.{CommitId}
 use Rattle.farm_types.specs.declared.commit_id.TheConstants.{ID_BYTES}
 use Rattle.farm_types.specs.declared.moment.Moment.{Moment}
-use Rattle.farm_types.specs.declared.moment.TheConstants.{MOMENT_MIN_MS, MOMENT_MAX_MS}
-
--- whether a number of milliseconds is a moment
-abbrev pub is_moment : ℕ → Bool
-is_moment ms = nat_le MOMENT_MIN_MS ms && nat_le ms MOMENT_MAX_MS
-
-pub moment-within : (ms : ℕ) → IsTrue (is_moment ms) → IsMoment ms
-moment-within ms passed = (leb-true _ _ (and_parts _ _ passed).0, leb-true _ _ (and_parts _ _ passed).1)
 
 -- the moment so many milliseconds after 1970-01-01, where that is one
 unfoldable pub moment_at : ℕ → Option Moment

@@ -13,20 +13,20 @@ use Rattle.flake_rate.specs.declared.rate.Rate.{Rate}
 
 -- what any value of the three types keeps
 
-pub rate_within : (rate : Rate) → IsRate (rate_numerator rate) (rate_denominator rate)
-rate_within rate = rate.in_limits
+pub rate-in_limits : (rate : Rate) → IsRate (rate_numerator rate) (rate_denominator rate)
+rate-in_limits rate = rate.in_limits
 
-pub rate_lowest : (rate : Rate) → gcd (rate_numerator rate) (rate_denominator rate) ≡ 1
-rate_lowest rate = rate.lowest_terms
+pub rate-lowest_terms : (rate : Rate) → gcd (rate_numerator rate) (rate_denominator rate) ≡ 1
+rate-lowest_terms rate = rate.lowest_terms
 
-pub miss_within : (miss : Miss) → IsMiss (miss_numerator miss) (miss_denominator miss)
-miss_within miss = miss.in_limits
+pub miss-in_limits : (miss : Miss) → IsMiss (miss_numerator miss) (miss_denominator miss)
+miss-in_limits miss = miss.in_limits
 
-pub miss_lowest : (miss : Miss) → gcd (miss_numerator miss) (miss_denominator miss) ≡ 1
-miss_lowest miss = miss.lowest_terms
+pub miss-lowest_terms : (miss : Miss) → gcd (miss_numerator miss) (miss_denominator miss) ≡ 1
+miss-lowest_terms miss = miss.lowest_terms
 
-pub bar_within : (bar : Bar) → IsBar (bar_numerator bar) (bar_denominator bar)
-bar_within bar = bar.in_limits
+pub bar-in_limits : (bar : Bar) → IsBar (bar_numerator bar) (bar_denominator bar)
+bar-in_limits bar = bar.in_limits
 
 -- a miss rate of 0 in lowest terms is 0/1
 pub miss_denominator-zero : (miss : Miss) → miss_numerator miss ≡ 0 → miss_denominator miss ≡ 1

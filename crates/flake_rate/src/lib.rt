@@ -4,7 +4,8 @@
 //! common divisor, by which the two rates are kept in lowest terms. It stands on no crate but
 //! `std`. The layer above makes the values by `of`, reads them by their readers, may use of any
 //! value that it lies within its limits and in lowest terms, and cites the definitions of
-//! `specs/` and the lemmas of `proofs/Divisors` and `proofs/Values`.
+//! `specs/` and the lemmas of `proofs/Divisors` (the greatest common divisor), `proofs/Limits` (what
+//! the tests of the limits tell) and `proofs/Values` (what a value keeps).
 #![tactic(auto)]
 
 mod bar;

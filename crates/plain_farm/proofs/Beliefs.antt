@@ -2,7 +2,7 @@
 use Rattle.std.proofs.Common.{◌≡◌, ℕ, ◌+◌, ◌-◌, ◌*◌, ◌<◌, ◌≤◌, List, [], ◌∷◌, ◌++◌, length, map, All, Contains, sym, ap, subst, ◌∙◌, arith, length-append}
 use Rattle.std.proofs.lemmas.List.{length-map}
 use Rattle.std.proofs.lemmas.List.Elements.{All-map, All-push}
-use Rattle.flake_rate.proofs.Values.{miss_within, rate_within}
+use Rattle.flake_rate.proofs.Values.{miss-in_limits, rate-in_limits}
 use Rattle.suspect_range.specs.Range.{IsSuspectRange}
 use Rattle.weight_exact.specs.Limits.{IsWeight}
 use Rattle.suspect_range.specs.declared.suspect.Suspect.{Suspect}
@@ -74,8 +74,8 @@ prior_positive o range i first last =
 -- the numbers of its runs are positive
 pub are_positive : (o : Opening) → ArePositive (setup_of o).factors
 are_positive o =
-    let rate = rate_within o.rate in
-    let miss = miss_within o.miss in
+    let rate = rate-in_limits o.rate in
+    let miss = miss-in_limits o.miss in
     record {
       fail_in = fail_in_positive _ _ _ _ rate miss;
       fail_out = fail_out_positive _ _ _ _ rate miss;

@@ -93,7 +93,7 @@ fn write_plan(history: &[Entry], opening: &Opening, belief: &Belief, positions: 
     requires searching { standing history.now opening.now ≡ Searching }
     requires setup { belief.now.setup ≡ setup_of opening.now }
     requires runs { StandsFor belief.now (runs history.now opening.now.search) }
-    requires places { length positions.old ≡ opening.now.width }
+    requires room { length positions.old ≡ opening.now.width }
     ensures { positions.new ≡ plan (setup_of opening.now) (runs history.now opening.now.search) opening.now.width }
 {
     let floor = belief.floor();

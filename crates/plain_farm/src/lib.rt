@@ -5,13 +5,13 @@
 //! other answer. The crate is the reference that every faster body is tested against, and [`first_illegal`] decides
 //! whether a list of entries that came from elsewhere is a history that a farm can have.
 //!
-//! Most calls speak of legal histories, and of searches that were opened in them: the laws of `farm_entry` give what a
+//! Most calls speak of legal histories, and of searches that were opened in them: the laws of `farm_laws` give what a
 //! belief asks for, that runs are in range and within the budget. [`first_illegal`] takes any list.
 //!
 //! It stands on `plain_history` for what a history holds, on `farm_entry` for the types and the definitions, on
 //! `posterior`, `threshold_pick` and `run_plan` for the belief of a search and the position to run next, on
 //! `revert_orders` for the day of a moment, and on the crates below them for values. The layer above may use every name
-//! below. Its tests stand in `farm_tests`.
+//! below, and none of its lemmas. Its tests stand in `farm_tests`.
 #![tactic(auto)]
 
 mod decision_known;

@@ -1,6 +1,6 @@
 //! Where a search stands in a history.
 
-ghost use Rattle.std.specs.Prelude.{◌≡◌, [], map, count_by, Contains, IfOk};
+ghost use Rattle.std.specs.Prelude.{◌≡◌, [], count_by, Contains, IfOk};
 ghost use Rattle.flake_rate.specs.Miss.{FitsRate};
 ghost use Rattle.farm_rules.specs.Reruns.{enough, is_against, outcome, vindicated};
 ghost use Rattle.weight_exact.specs.Counts.{is_fail_at, is_pass_at};
@@ -17,7 +17,6 @@ use farm_types::Memory;
 use plain_history::{reruns, runs, was_cancelled, went_over};
 use posterior::Belief;
 use std::alloc::Global;
-use suspect_range::Suspect;
 use weight_exact::Run;
 
 // What the runs say.
@@ -28,8 +27,7 @@ pub fn first_belief(alloc: Global, opening: &Opening) -> Result<Belief, Memory>
     ensures setup { IfOk result (λ belief. belief.setup ≡ setup_of opening.now) }
     ensures none { IfOk result (λ belief. StandsFor belief []) }
 {
-    let suspects = opening.range.suspects();
-    let weights = weights_of(alloc, suspects)?;
+    let weights = opening.weights(alloc)?;
     let calm = opening.range.calm();
     match Belief::start(
         alloc,
@@ -42,18 +40,6 @@ pub fn first_belief(alloc: Global, opening: &Opening) -> Result<Belief, Memory>
         Ok(belief) => Ok(belief),
         Err(_) => Err(Memory),
     }
-}
-
-/// The prior weights of suspects.
-fn weights_of(alloc: Global, suspects: &[Suspect]) -> Result<Vec<u32>, Memory>
-    ensures { IfOk result (λ weights. weights.items ≡ map (λ suspect. suspect.weight) suspects.now) }
-{
-    Ok(
-        suspects
-            .iter()
-            .map(|suspect| suspect.weight)
-            .collect(alloc)?,
-    )
 }
 
 /// What a search believes after its runs.

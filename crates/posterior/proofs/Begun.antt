@@ -1,13 +1,11 @@
 -- A belief before any run.
-use Rattle.std.proofs.Common.{◌≡◌, ℕ, ◌+◌, ◌-◌, ◌*◌, ◌≤◌, List, [], ◌∷◌, ◌++◌, length, sum, All, sym, ap, ◌∙◌, subst, arith}
+use Rattle.std.proofs.Common.{◌≡◌, ℕ, ◌+◌, ◌-◌, ◌*◌, ◌≤◌, List, [], ◌∷◌, ◌++◌, length, sum, sym, ap, ◌∙◌, subst, arith}
 use Rattle.std.proofs.lemmas.List.{length-append, get_or_at}
-use Rattle.std.proofs.lemmas.List.Elements.{All-head, All-tail, All-cons, All-nil}
-use Rattle.std.proofs.lemmas.List.Sums.{sum_by-append, sum_by-le, sum_by-cons}
 use Rattle.flake_rate.specs.Rate.{rate_numerator, rate_denominator}
 use Rattle.flake_rate.specs.Miss.{miss_numerator, miss_denominator}
 use Rattle.flake_rate.specs.declared.rate.Rate.{Rate}
 use Rattle.flake_rate.specs.declared.miss.Miss.{Miss}
-use Rattle.flake_rate.proofs.Values.{rate_within, miss_within, bar_within}
+use Rattle.flake_rate.proofs.Values.{rate-in_limits, miss-in_limits, bar-in_limits}
 use Rattle.weight_exact.specs.Factors.{factors_of}
 use Rattle.weight_exact.specs.Limits.{ArePriors}
 use Rattle.weight_exact.specs.Cumulative.{AreSumsOf}
@@ -26,30 +24,6 @@ use Rattle.posterior.specs.declared.belief.Belief.TheInside.{Inside}
 use Rattle.posterior.specs.declared.tallies.Tallies.{Tallies}
 use Rattle.posterior.proofs.Reclosed.{reached_by}
 
--- a weight is at most 65,535
-each_small : (weights : List ℕ) → All (λ (w : ℕ). (1 ≤ w) × (w ≤ 65535)) weights → All (λ (w : ℕ). w ≤ 65535) weights
-each_small [] all = All-nil (λ (w : ℕ). w ≤ 65535)
-each_small (w ∷ ws) all =
-    let P : ℕ → Type 0 = λ w. (1 ≤ w) × (w ≤ 65535) in
-    All-cons (λ (w : ℕ). w ≤ 65535) w ws (All-head P w ws all).1 (each_small ws (All-tail P w ws all))
-
--- the priors, weights and calm, sum to at most 66,535,000
-pub priors_total : (weights : List ℕ) (calm : ℕ) → ArePriors weights calm → (sum (weights ++ calm ∷ []) ≡ sum weights + calm) × (sum weights + calm ≤ 66535000) × (2 ≤ sum weights + calm)
-priors_total weights calm p =
-    let one : ℕ → ℕ = λ x. x in
-    let joined : sum (weights ++ calm ∷ []) ≡ sum weights + sum (calm ∷ []) = sum_by-append one weights (calm ∷ []) in
-    let last : sum (calm ∷ []) ≡ calm + sum [] = sum_by-cons one calm [] in
-    let most : sum weights ≤ length weights * 65535 = sum_by-le one 65535 weights (each_small weights p.each) in
-    let some : 1 ≤ sum weights = positive weights p.some p.each in
-    (omega arith, omega (arith, most, p.few, p.little_calm), omega (arith, some, p.some_calm))
-  where
-    -- weights of which there is one sum to at least 1
-    positive : (ws : List ℕ) → 1 ≤ length ws → All (λ (w : ℕ). (1 ≤ w) × (w ≤ 65535)) ws → 1 ≤ sum ws
-    positive [] some all = absurd (omega arith)
-    positive (w ∷ ws) some all =
-        let P : ℕ → Type 0 = λ w. (1 ≤ w) × (w ≤ 65535) in
-        omega (arith, (All-head P w ws all).0, sum_by-cons (λ (x : ℕ). x) w ws)
-
 -- before any run the walk can be made
 pub begun_walk : (weights : List ℕ) (calm : ℕ) (rate : Rate) (miss : Miss) (priors : List ℕ) (powers : PowersOf) (t : Tallies) (sums : List ℕ)
     → ArePriors weights calm → priors ≡ weights ++ calm ∷ [] → powers.factors ≡ factors_of rate miss → Fits (sum priors) (factors_of rate miss) powers.budget
@@ -57,8 +31,8 @@ pub begun_walk : (weights : List ℕ) (calm : ℕ) (rate : Rate) (miss : Miss) (
 begun_walk weights calm rate miss priors powers t sums p priors_are factors_are fits long none sums_long =
     let a = rate_numerator rate in
     let d = miss_denominator miss in
-    let out : 1 ≤ (factors_of rate miss).fail_out = fail_out_positive a (rate_denominator rate) (miss_numerator miss) d (rate_within rate) (miss_within miss) in
-    let also : 1 ≤ (factors_of rate miss).pass_out = pass_out_positive a (rate_denominator rate) (miss_numerator miss) d (rate_within rate) (miss_within miss) in
+    let out : 1 ≤ (factors_of rate miss).fail_out = fail_out_positive a (rate_denominator rate) (miss_numerator miss) d (rate-in_limits rate) (miss-in_limits miss) in
+    let also : 1 ≤ (factors_of rate miss).pass_out = pass_out_positive a (rate_denominator rate) (miss_numerator miss) d (rate-in_limits rate) (miss-in_limits miss) in
     let size : length priors ≡ length weights + 1 = ap length priors_are ∙ omega (arith, length-append weights (calm ∷ [])) in
     let last : at (weights ++ calm ∷ []) (length priors) ≡ calm = get_or_at weights calm [] 0 (length priors - 1) (omega arith) in
     let calm_is : at priors (length priors) ≡ calm = ap (λ (xs : List ℕ). at xs (length priors)) priors_are ∙ last in
@@ -108,9 +82,9 @@ begun b weights calm rate miss priors_are p factors_are powers_are budget_is fit
     let calm_is : at b.priors.items (length b.priors.items) ≡ calm =
     let L : at (weights ++ calm ∷ []) (length b.priors.items) ≡ calm = get_or_at weights calm [] 0 (length b.priors.items - 1) (omega arith) in
     ap (λ (xs : List ℕ). at xs (length b.priors.items)) priors_are ∙ L in
-    let out : 1 ≤ (factors_of rate miss).fail_out = fail_out_positive a (rate_denominator rate) (miss_numerator miss) d (rate_within rate) (miss_within miss) in
-    let also : 1 ≤ (factors_of rate miss).pass_out = pass_out_positive a (rate_denominator rate) (miss_numerator miss) d (rate_within rate) (miss_within miss) in
-    let bar = bar_within b.bar in
+    let out : 1 ≤ (factors_of rate miss).fail_out = fail_out_positive a (rate_denominator rate) (miss_numerator miss) d (rate-in_limits rate) (miss-in_limits miss) in
+    let also : 1 ≤ (factors_of rate miss).pass_out = pass_out_positive a (rate_denominator rate) (miss_numerator miss) d (rate-in_limits rate) (miss-in_limits miss) in
+    let bar = bar-in_limits b.bar in
     let kept : IsKept (kept_of b) = record {
       some_suspect = omega (arith, p.some);
       few_suspects = omega (arith, p.few);

@@ -4,12 +4,12 @@ use Rattle.std.proofs.lemmas.Bool.{cases_eq, cases_lt, cases_Bool}
 use Rattle.weight_exact.specs.Weights.{sum_to}
 use Rattle.weight_exact.specs.Share.{last_to, is_at_bar}
 use Rattle.weight_exact.proofs.SumTo.{sum_to_last, sum_to_more, member-le-sum_to}
-use Rattle.weight_exact.proofs.Shares.{bar_once, last_to-only, last_to-none, is_at_bar_true}
+use Rattle.weight_exact.proofs.Shares.{bar_once, last_to-only, last_to-none, at_bar-from_test}
 
 -- a weight of at most half of the whole is not at the bar
 half_below : (t u whole w : ℕ) → u < 2 * t → 1 ≤ whole → w + w ≤ whole → is_at_bar t u whole w ≡ true → ⊥
 half_below t u whole w above some half at =
-    let bar : t * whole ≤ w * u = is_at_bar_true t u whole w at in
+    let bar : t * whole ≤ w * u = at_bar-from_test t u whole w at in
     bar_once t u whole w w above some half bar bar
 
 -- each other hypothesis weighs at most half

@@ -7,21 +7,13 @@ use Rattle.weight_exact.specs.Share.{last_to, is_at_bar, reached, share, basis_p
 use Rattle.weight_exact.specs.Common.{common}
 use Rattle.weight_exact.specs.declared.run.Run.{Run}
 use Rattle.weight_exact.proofs.SumTo.{sum_to_last, sum_to_more, member-le-sum_to}
-use Rattle.weight_exact.proofs.Shares.{is_at_bar-mul_left, share-mul_left}
+use Rattle.weight_exact.proofs.Shares.{is_at_bar-mul_left, last_to-same, share-mul_left}
 use Rattle.weight_exact.proofs.Cancels.{common_positive}
 use Rattle.posterior.specs.Kept.{Kept, at, whole}
 use Rattle.posterior.specs.StandsFor.{StandsFor}
 use Rattle.posterior.specs.BeliefFacts.{IsKept, weight_in}
 use Rattle.posterior.specs.BeliefInside.{reached_in}
 use Rattle.posterior.proofs.Stands.{matches, weight-in, total-in, whole-is, sum_fits}
-
--- tests that agree from 1 to n find the same last place
-last_to-same : (test other : ℕ → Bool) (n : ℕ) → ((i : ℕ) → 1 ≤ i → i ≤ n → test i ≡ other i) → last_to test n ≡ last_to other n
-last_to-same test other zero same = refl
-last_to-same test other (suc n) same =
-    let rest : last_to test n ≡ last_to other n = last_to-same test other n (λ i low high. same i low (omega arith)) in
-    let here : test (suc n) ≡ other (suc n) = same (suc n) (omega arith) (omega arith) in
-    rw (here, rest)
 
 -- the hypothesis at the bar by the kept weights is the one by Bayes' rule
 pub reached_in-is : (k : Kept) (runs : List Run) → IsKept k → StandsFor k runs → reached_in k ≡ reached k.setup runs

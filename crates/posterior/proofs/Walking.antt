@@ -8,7 +8,7 @@ use Rattle.weight_exact.specs.Powers.{product}
 use Rattle.weight_exact.specs.declared.factors.Factors.{Factors}
 use Rattle.weight_exact.specs.declared.powers.Counts.{Counts}
 use Rattle.weight_exact.proofs.SumTo.{members-le-sum_to}
-use Rattle.weight_exact.proofs.Shares.{bar_once, last_to-only, last_to-none, is_at_bar_true, is_at_bar-true}
+use Rattle.weight_exact.proofs.Shares.{bar_once, last_to-only, last_to-none, at_bar-from_test, is_at_bar-true}
 use Rattle.posterior.specs.Counted.{counted_to, counted}
 use Rattle.posterior.specs.KeptWeight.{kept_weight}
 use Rattle.posterior.proofs.Counting.{place-is}
@@ -38,7 +38,7 @@ pub leader-reaches : (w : ℕ → ℕ) (t u whole n h m : ℕ) → u < 2 * t →
 leader-reaches w t u whole n h m half some_t some is most leads =
     ⊎_elim
     (λ (reaches : is_at_bar t u whole m ≡ true).
-    let bar : t * whole ≤ m * u = is_at_bar_true t u whole m reaches in
+    let bar : t * whole ≤ m * u = at_bar-from_test t u whole m reaches in
     let above : 1 ≤ t * whole = one-le-mul some_t some in
     let heavy : 1 ≤ m = positive m u (omega arith) in
     let l = leads heavy in
@@ -48,14 +48,14 @@ leader-reaches w t u whole n h m half some_t some is most leads =
     (λ (same : j ≡ h). same)
     (λ apart.
     let both : w j + w h ≤ whole = rw is (members-le-sum_to w n j h low high l.0 l.1 apart) in
-    absurd (bar_once t u whole (w j) (w h) half some both (is_at_bar_true t u whole (w j) other) (is_at_bar_true t u whole (w h) here)))
+    absurd (bar_once t u whole (w j) (w h) half some both (at_bar-from_test t u whole (w j) other) (at_bar-from_test t u whole (w h) here)))
     (cases_eq j h) in
     rw reaches (sym (last_to-only (λ i. is_at_bar t u whole (w i)) n h l.0 l.1 here only)))
     (λ (fails : is_at_bar t u whole m ≡ false).
     let none : (i : ℕ) → 1 ≤ i → i ≤ n → is_at_bar t u whole (w i) ≡ false = λ i low high.
     ⊎_elim
     (λ (yes : is_at_bar t u whole (w i) ≡ true).
-    let bar : t * whole ≤ w i * u = is_at_bar_true t u whole (w i) yes in
+    let bar : t * whole ≤ w i * u = at_bar-from_test t u whole (w i) yes in
     let less : w i * u ≤ m * u = mul-le-mul (most i low high) (let r : u ≤ u = omega arith in r) in
     let also : is_at_bar t u whole m ≡ true = is_at_bar-true t u whole m (omega arith) in
     absurd (cc))

@@ -1,5 +1,6 @@
 -- What a belief keeps true, as a fact on what contracts see.
 use Rattle.std.specs.Prelude.{◌≡◌, ℕ, ◌+◌, ◌*◌, ◌<◌, ◌≤◌, length, sum}
+use Rattle.flake_rate.specs.declared.bar.TheConstants.Bar as Bar
 use Rattle.weight_exact.specs.Weights.{hypotheses, sum_to}
 use Rattle.weight_exact.specs.Budget.{Fits, run_budget}
 use Rattle.weight_exact.specs.declared.limits.TheConstants.{MAX_SUSPECTS}
@@ -20,7 +21,7 @@ pub record IsKept (k : Kept) : Type 0 where
   pub some_pass : 1 ≤ k.setup.factors.pass_out
   pub above_half : k.setup.bar_denominator < 2 * k.setup.bar_numerator
   pub below_one : k.setup.bar_numerator < k.setup.bar_denominator
-  pub fine : k.setup.bar_denominator ≤ 10000
+  pub fine : k.setup.bar_denominator ≤ Bar.MAX_DENOMINATOR
   pub fits : Fits (sum k.setup.priors) k.setup.factors (run_budget k.setup)
   pub as_many_fails : length k.fails + 1 ≡ hypotheses k.setup
   pub as_many_passes : length k.passes + 1 ≡ hypotheses k.setup

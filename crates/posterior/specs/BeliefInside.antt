@@ -4,6 +4,7 @@ use Rattle.flake_rate.specs.Bar.{bar_numerator, bar_denominator}
 use Rattle.weight_exact.specs.Weights.{hypotheses}
 use Rattle.weight_exact.specs.Share.{last_to, is_at_bar}
 use Rattle.weight_exact.specs.Budget.{run_budget}
+use Rattle.weight_exact.specs.declared.run_budget.TheConstants.{MAX_BUDGET}
 use Rattle.posterior.specs.Kept.{Kept, whole}
 use Rattle.posterior.specs.BeliefFacts.{IsKept, weight_in}
 use Rattle.posterior.specs.declared.belief.Belief.TheInside.{Inside}
@@ -26,5 +27,5 @@ pub record IsBelief (b : Inside) : Type 0 where
   pub kept : IsKept (kept_of b)
   pub powers_are : b.powers ≡ record { factors = b.factors; budget = b.budget }
   pub budget_is : b.budget ≡ run_budget (kept_of b).setup
-  pub few_runs : b.budget ≤ 113
+  pub few_runs : b.budget ≤ MAX_BUDGET
   pub reached_is : b.reached ≡ reached_in (kept_of b)

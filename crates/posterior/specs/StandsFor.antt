@@ -4,6 +4,7 @@ use Rattle.weight_exact.specs.Counts.{is_fail_at, is_pass_at}
 use Rattle.weight_exact.specs.Weights.{hypotheses, total, cumulative, AreInRange}
 use Rattle.weight_exact.specs.Load.{floor, load}
 use Rattle.weight_exact.specs.Budget.{run_budget}
+use Rattle.weight_exact.specs.declared.limits.TheConstants.{BASIS_POINTS}
 use Rattle.weight_exact.specs.declared.run.Run.{Run}
 use Rattle.posterior.specs.Kept.{Kept, at, whole}
 
@@ -20,4 +21,4 @@ pub record StandsFor (k : Kept) (runs : List Run) : Type 0 where
   pub as_many : length k.sums ≡ hypotheses k.setup
   pub sums_are : (i : ℕ) → 1 ≤ i → i ≤ hypotheses k.setup → at k.sums i * total k.setup runs ≡ cumulative k.setup runs i * whole k
   pub some : 1 ≤ whole k
-  pub fits : whole k * 10000 < 2 ^ 128
+  pub fits : whole k * BASIS_POINTS < 2 ^ 128

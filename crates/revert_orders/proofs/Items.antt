@@ -1,6 +1,6 @@
 -- The orders that items stand for.
 use Rattle.std.proofs.Common.{◌≡◌, ◌≢◌, ◌==◌, ◌+◌, ◌<◌, ℕ, zero, suc, Bool, ◌||◌, cond, true, false, List, [], ◌∷◌, ◌++◌, length, get_or, ap, sym, subst, ◌∙◌, refl, arith, length-append, ⊎_elim}
-use Rattle.std.proofs.lemmas.Bool.{cases_eq}
+use Rattle.std.proofs.lemmas.Bool.{cases_eq, or_parts}
 use Rattle.std.proofs.lemmas.List.Sums.{sum_by-cons}
 use Rattle.std.specs.List.{AllPairs, count_by}
 use Rattle.farm_rules.specs.Orders.{Ordered, has_order, orders_of}
@@ -66,24 +66,16 @@ commits_of-snoc : (orders : List Ordered) (o : Ordered) → commits_of (orders +
 commits_of-snoc [] o = refl
 commits_of-snoc (p ∷ orders) o = ap (λ (rest : List CommitId). p.commit ∷ rest) (commits_of-snoc orders o)
 
-or_first : (a b : Bool) → (a || b) ≡ false → a ≡ false
-or_first true b e = e
-or_first false b e = refl
-
-or_rest : (a b : Bool) → (a || b) ≡ false → b ≡ false
-or_rest true b e = cc
-or_rest false b e = e
-
 -- a commit without an order is none of the commits that have one
 has_order-differs : (orders : List Ordered) (commit : CommitId) → has_order orders commit ≡ false → (k : ℕ) (d : CommitId) →
     k < length (commits_of orders) → get_or (commits_of orders) k d ≢ commit
 has_order-differs [] commit lacks k d low = absurd (omega (arith, low))
 has_order-differs (o ∷ orders) commit lacks zero d low = λ same.
     let told : same_id o.commit commit ≡ true = (same_id-Decides o.commit commit).1 same in
-    let not : same_id o.commit commit ≡ false = or_first _ _ lacks in
+    let not : same_id o.commit commit ≡ false = (or_parts _ _ lacks).0 in
     absurd (cc)
 has_order-differs (o ∷ orders) commit lacks (suc k) d low =
-    has_order-differs orders commit (or_rest (same_id o.commit commit) _ lacks) k d (omega (arith, low))
+    has_order-differs orders commit (or_parts (same_id o.commit commit) _ lacks).1 k d (omega (arith, low))
 
 -- an order for a commit without one leaves one for each, and so does taking the last one back
 pub IsOnePerCommit-push : (orders : List Ordered) (commit : CommitId) (day : ℕ) → IsOnePerCommit orders →

@@ -5,7 +5,7 @@ use Rattle.std.specs.Option.{option_map}
 use Rattle.std.proofs.lemmas.Bool.{cases_Bool, or_parts}
 use Rattle.std.proofs.lemmas.Bool.Decides.{nat_tests}
 use Rattle.farm_rules.specs.Due.{strike}
-use Rattle.farm_types.proofs.Places.{position-none}
+use Rattle.farm_types.proofs.FirstIndex.{position-none}
 use Rattle.farm_types.specs.declared.key.Key.{Key}
 use Rattle.farm_entry.specs.History.{has_key, is_key, key_in, place_of_key}
 use Rattle.farm_entry.specs.Legal.{IsFounding, IsLegal}

@@ -1,7 +1,7 @@
 -- What the reruns of a suspect say, by their verdicts and positions.
 use Rattle.std.proofs.Common.{◌≡◌, ℕ, zero, suc, ◌+◌, ◌-◌, ◌==◌, ◌<◌, ◌≤◌, ◌⊎◌, inl, inr, Bool, true, false, not, ◌&&◌, ◌||◌, nat_le, List, [], ◌∷◌, count_by, Contains, refl, sym, ap, ◌∙◌, ⊎_elim, arith, true≢false}
 use Rattle.std.specs.List.{list_any}
-use Rattle.std.proofs.lemmas.Bool.{or_parts}
+use Rattle.std.proofs.lemmas.Bool.{false_from_ne_true, or_parts}
 use Rattle.std.proofs.lemmas.Bool.Decides.{nat_tests}
 use Rattle.farm_rules.specs.Reruns.{enough, is_against, vindicated}
 use Rattle.weight_exact.specs.Counts.{is_fail_at, is_pass_at}
@@ -48,10 +48,6 @@ true-unless : (b : Bool) → (b ≡ false → ⊥) → b ≡ true
 true-unless true h = refl
 true-unless false h = absurd (h refl)
 
-false-unless : (b : Bool) → (b ≡ true → ⊥) → b ≡ false
-false-unless true h = absurd (h refl)
-false-unless false h = refl
-
 both_of : (n a b : ℕ) → (nat_le n a && nat_le n b) ≡ true → (n ≤ a) × (n ≤ b)
 both_of n a b h = (grind (arith, nat_tests), grind (arith, nat_tests))
 
@@ -93,7 +89,7 @@ spoke-vindicated c rs r there speaks =
 pub silent-vindicated : (c : ℕ) (rs : List Run) → 1 ≤ c → ((r : Run) → Contains rs r → SpeaksAgainst c r → ⊥) →
     vindicated c rs ≡ false
 silent-vindicated c rs some silent =
-    false-unless (vindicated c rs) (λ h. let s = vindicated-spoke c rs some h in silent s.rerun s.there s.against)
+    false_from_ne_true (vindicated c rs) (λ h. let s = vindicated-spoke c rs some h in silent s.rerun s.there s.against)
 
 -- Enough on each side.
 

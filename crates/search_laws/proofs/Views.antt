@@ -5,7 +5,7 @@ use Rattle.std.proofs.lemmas.Option.{none-some}
 use Rattle.weight_exact.specs.Share.{IsReached, reached}
 use Rattle.weight_exact.specs.Weights.{Setup, hypotheses, suspects, total}
 use Rattle.weight_exact.specs.declared.run.Run.{Run}
-use Rattle.weight_exact.proofs.Shares.{reached-none, reached-some, reached_none, reached_some}
+use Rattle.weight_exact.proofs.Shares.{reached-none, reached-some, unreached-from_none, IsReached-from_some}
 use Rattle.farm_rules.specs.Reruns.{Outcome, confirmed, enough, outcome, verifying, vindicated, vindicating}
 use Rattle.farm_entry.specs.History.{openings, reruns, runs, was_cancelled, went_over}
 use Rattle.farm_entry.specs.Legal.{IsLegal}
@@ -68,7 +68,7 @@ believed-standing H o b =
 -- the hypothesis at the bar, both ways
 pub bar-reached : (H : List Entry) (o : Opening) (i : ℕ) → at_bar H o ≡ Some i →
     IsReached (setup_of o) (runs H o.search) i
-bar-reached H o i h = reached_some (setup_of o) (runs H o.search) i h
+bar-reached H o i h = IsReached-from_some (setup_of o) (runs H o.search) i h
 
 pub reached-bar : (H : List Entry) (o : Opening) (i : ℕ) → IsLegal H → Contains (openings H) o →
     IsReached (setup_of o) (runs H o.search) i → at_bar H o ≡ Some i
@@ -198,7 +198,7 @@ searching-view H o (by_none kept not_over none is) =
     record {
       believed = record { uncancelled = kept; within = not_over };
       none =
-          reached_none (setup_of o) (runs H o.search) none;
+          unreached-from_none (setup_of o) (runs H o.search) none;
     }
 searching-view H o (by_calm kept not_over calm is) = never cc
 searching-view H o (by_reruns i kept not_over bar other is) =

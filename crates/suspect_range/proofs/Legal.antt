@@ -1,13 +1,15 @@
--- Suspects have no fault exactly where they keep the limits of a range.
-use Rattle.std.proofs.Common.{◌≡◌, ℕ, ◌+◌, ◌≤◌, true, List, length, Option, Some, None, option_map, position, All, refl, ap, arith}
+-- Suspects have no fault exactly where they keep the limits of a range, and the weights of a range are priors.
+use Rattle.std.proofs.Common.{◌≡◌, ℕ, ◌+◌, ◌≤◌, true, List, length, map, Option, Some, None, option_map, position, All, refl, ap, subst, sym, ◌∙◌, arith}
 use Rattle.std.proofs.lemmas.Bool.{not-false, not_from_true}
 use Rattle.std.proofs.lemmas.Bool.Decides.{nat_tests}
+use Rattle.std.proofs.lemmas.List.{length-map}
+use Rattle.std.proofs.lemmas.List.Elements.{All-map}
 use Rattle.std.specs.Option.{option_or}
 use Rattle.farm_types.specs.declared.commit_id.CommitId.{CommitId}
-use Rattle.farm_types.proofs.Places.{fails-from_none, position-none}
+use Rattle.farm_types.proofs.FirstIndex.{fails-from_none, position-none}
 use Rattle.suspect_range.specs.Faults.{calm_fault, count_fault, first_bad_weight, has_bad_weight, range_fault}
 use Rattle.suspect_range.specs.Range.{IsSuspectRange}
-use Rattle.weight_exact.specs.Limits.{IsCalm, IsWeight, is_within}
+use Rattle.weight_exact.specs.Limits.{ArePriors, IsCalm, IsWeight, is_within}
 use Rattle.suspect_range.specs.declared.fault.RangeFault.TheVariants.{RepeatedCommit, WeightRange}
 use Rattle.weight_exact.specs.declared.limits.TheConstants.{MAX_SUSPECTS, MAX_WEIGHT}
 use Rattle.suspect_range.specs.declared.suspect.Suspect.{Suspect}
@@ -77,3 +79,17 @@ module _ (base : CommitId) (suspects : List Suspect) (calm : ℕ) where
       let peace = none-from_calm calm legal.calm_in in
       let repeat = none-from_distinct base suspects legal.distinct in
       rw (count, weights, peace, repeat) refl
+
+-- the weights of a range are priors, with its calm weight
+pub weights_are_priors : (base : CommitId) (suspects : List Suspect) (calm : ℕ) (weights : List ℕ) → IsSuspectRange base suspects calm →
+    weights ≡ map (λ suspect. suspect.weight) suspects → ArePriors weights calm
+weights_are_priors base suspects calm weights range are =
+    let long : length weights ≡ length suspects = ap length are ∙ length-map suspects (λ (s : Suspect). s.weight) in
+    let each : All IsWeight (map (λ (s : Suspect). s.weight) suspects) = All-map IsWeight (λ (s : Suspect). s.weight) suspects range.weights in
+    record {
+      some = omega (arith, long, range.some);
+      few = omega (arith, long, range.few);
+      each = subst (λ (xs : List ℕ). All IsWeight xs) (sym are) each;
+      some_calm = range.calm_in.0;
+      little_calm = range.calm_in.1;
+    }

@@ -5,7 +5,8 @@
 //! can be judged exactly, and on `thiserror` for the texts of its refusals. A
 //! [`SuspectRange`] is made by the one call that tests its limits, so the layers above take its commits as different
 //! and its weights as in range. They may use every name below. Contracts see a range as a `RangeView` of `specs/`, and
-//! say by `range_fault` why a list of suspects is refused.
+//! say by `range_fault` why a list of suspects is refused. Their proofs may cite the lemmas of `proofs/Legal` (a range
+//! has no fault, and its weights are priors) and `proofs/SameContents` (`==` tells what ranges hold).
 #![tactic(auto)]
 
 mod fault;

@@ -1,4 +1,4 @@
-ghost use Rattle.std.specs.Prelude.{◌≡◌, ◌≤◌, ◌<◌, ◌+◌, length, map, position, All, Some, None, IfSome, OnOk, IfOk, IfErr};
+ghost use Rattle.std.specs.Prelude.{◌≡◌, ◌≤◌, ◌<◌, ◌+◌, length, map, position, Some, None, IfSome, OnOk, IfOk, IfErr};
 ghost use Rattle.suspect_range.specs.Faults.{first_bad_weight, first_repeat, has_bad_weight, is_among, is_repeat, range_fault};
 
 use crate::{RangeFault, Suspect};
@@ -50,7 +50,7 @@ impl Eq for SuspectRange {
 
 impl SuspectRange {
     ghost use Rattle.suspect_range.specs.Range.{IsSuspectRange, commit_at, weight_at};
-    ghost use Rattle.weight_exact.specs.Limits.{IsCalm, IsWeight};
+    ghost use Rattle.weight_exact.specs.Limits.{ArePriors, IsCalm, IsWeight};
 
     /// The range of these suspects, in commit order above the base, which takes no memory. The first fault in the order
     /// of [`RangeFault`] is answered.
@@ -118,10 +118,11 @@ impl SuspectRange {
         &self.suspects
     }
 
-    /// The weights of all suspects in commit order, as a list of their own.
+    /// The weights of all suspects in commit order, as a list of their own. With the calm weight they are the priors of a
+    /// search.
     pub fn weights(&self, alloc: Global) -> Result<Vec<u32>, Memory>
         ensures weights { IfOk result (λ weights. weights.items ≡ map (λ suspect. suspect.weight) self.now.suspects) }
-        ensures in_range { IfOk result (λ weights. All IsWeight weights.items) }
+        ensures priors { IfOk result (λ weights. ArePriors weights.items self.now.calm) }
     {
         let weights = self.suspects.iter().map(|suspect| suspect.weight);
         Ok(weights.collect(alloc)?)

@@ -1,7 +1,7 @@
 -- Hexadecimal digits that were read, written again.
 use Rattle.std.proofs.Common.{◌≡◌, ℕ, zero, suc, ◌+◌, ◌*◌, ◌/◌, ◌%◌, ◌<◌, ◌≤◌, ◌==◌, nat_lt, Bool, true, false, ◌&&◌, List, [], ◌∷◌, length, map, slice_index, Option, Some, None, Result, Ok, Err, refl, sym, ap, ◌∙◌, ⊎_elim, arith, true≢false}
 use Rattle.std.specs.Char.{to_ascii_lowercase}
-use Rattle.std.proofs.lemmas.Bool.{cases_lt, cases_eq}
+use Rattle.std.proofs.lemmas.Bool.{and_parts, cases_eq, cases_lt}
 use Rattle.std.proofs.lemmas.Bool.Decides.{nat_tests}
 use Rattle.std.proofs.lemmas.Option.{none-some}
 use Rattle.farm_types.specs.CommitId.{id_bytes, id_digits}
@@ -15,10 +15,6 @@ abbrev all_below : (ℕ → Bool) → ℕ → Bool
 all_below test zero = true
 all_below test (suc n) = test n && all_below test n
 
-and-both : (a b : Bool) → (a && b) ≡ true → (a ≡ true) × (b ≡ true)
-and-both true b h = (refl, h)
-and-both false b h = absurd (true≢false (sym h))
-
 not_last : (k n : ℕ) → k < suc n → (k ≡ n → ⊥) → k < n
 not_last k n below other = ⊎_elim (λ (less : k < n). less) (λ (more : n ≤ k).
     absurd (other (omega arith))) (cases_lt k n)
@@ -26,7 +22,7 @@ not_last k n below other = ⊎_elim (λ (less : k < n). less) (λ (more : n ≤ 
 below-at : (test : ℕ → Bool) (n k : ℕ) → all_below test n ≡ true → k < n → test k ≡ true
 below-at test zero k h below = absurd (omega arith)
 below-at test (suc n) k h below =
-    let parts = and-both (test n) (all_below test n) h in
+    let parts = and_parts (test n) (all_below test n) h in
     ⊎_elim (λ (same : k ≡ n). ap test same ∙ parts.0)
     (λ (other : k ≡ n → ⊥). below-at test n k parts.1 (not_last k n below other))
     (cases_eq k n)

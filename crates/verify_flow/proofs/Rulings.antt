@@ -1,6 +1,6 @@
 -- What counts of reruns say of their list.
 use Rattle.std.proofs.Common.{◌≡◌, ℕ, ◌+◌, ◌-◌, ◌==◌, ◌<◌, ◌≤◌, ◌⊎◌, List, [], ◌∷◌, ◌++◌, Bool, true, false, not, ◌&&◌, ◌||◌, cond, nat_le, nat_lt, count_by, refl, sym, ◌∙◌, ap, arith, eq-eqb, ne_eqb, le-leb, lt-ltb, le-ltb, ⊎_elim}
-use Rattle.std.proofs.lemmas.Bool.{lt-leb, cases_lt, cases_Bool}
+use Rattle.std.proofs.lemmas.Bool.{cases_Bool, cases_lt, lt-leb, or_parts}
 use Rattle.std.proofs.lemmas.List.Sums.{sum_by-cons, sum_by-append}
 use Rattle.std.proofs.lemmas.List.Folds.{list_any-append}
 use Rattle.weight_exact.specs.Counts.{is_fail_at, is_pass_at}
@@ -46,14 +46,6 @@ vindicated-snoc culprit reruns r =
     ∙ ap (λ (b : Bool). vindicated culprit reruns || b) (or_false (is_against culprit r))
 
 -- the first and the rest of two tests of which neither passes
-or_first : (a b : Bool) → (a || b) ≡ false → a ≡ false
-or_first true b e = e
-or_first false b e = refl
-
-or_rest : (a b : Bool) → (a || b) ≡ false → b ≡ false
-or_rest true b e = cc
-or_rest false b e = e
-
 -- a rerun that doesn't speak against the culprit failed at it, or passed at its parent
 fails-of_not_against : (verdict : Verdict) (here below : Bool) →
     ((not (is_fail verdict) && here) || (is_fail verdict && below)) ≡ false → one_if (is_fail verdict && here) ≡ one_if here
@@ -75,8 +67,8 @@ fails-not_vindicated culprit [] none = refl
 fails-not_vindicated culprit (r ∷ rs) none =
     let first : one_if (is_fail_at culprit r) ≡ one_at culprit r =
     fails-of_not_against r.verdict (r.position == culprit) (r.position == culprit - 1)
-    (or_first (is_against culprit r) (vindicated culprit rs) none) in
-    let rest = fails-not_vindicated culprit rs (or_rest (is_against culprit r) (vindicated culprit rs) none) in
+    (or_parts (is_against culprit r) (vindicated culprit rs) none).0 in
+    let rest = fails-not_vindicated culprit rs (or_parts (is_against culprit r) (vindicated culprit rs) none).1 in
     let fails : count_by (is_fail_at culprit) (r ∷ rs) ≡ one_if (is_fail_at culprit r) + count_by (is_fail_at culprit) rs =
     sum_by-cons (λ (x : Run). one_if (is_fail_at culprit x)) r rs in
     let all : reruns_at culprit (r ∷ rs) ≡ one_at culprit r + reruns_at culprit rs = sum_by-cons (one_at culprit) r rs in
@@ -90,8 +82,8 @@ passes-not_vindicated culprit (r ∷ rs) none =
     let parent = culprit - 1 in
     let first : one_if (is_pass_at parent r) ≡ one_at parent r =
     passes-of_not_against r.verdict (r.position == culprit) (r.position == parent)
-    (or_first (is_against culprit r) (vindicated culprit rs) none) in
-    let rest = passes-not_vindicated culprit rs (or_rest (is_against culprit r) (vindicated culprit rs) none) in
+    (or_parts (is_against culprit r) (vindicated culprit rs) none).0 in
+    let rest = passes-not_vindicated culprit rs (or_parts (is_against culprit r) (vindicated culprit rs) none).1 in
     let passes : count_by (is_pass_at parent) (r ∷ rs) ≡ one_if (is_pass_at parent r) + count_by (is_pass_at parent) rs =
     sum_by-cons (λ (x : Run). one_if (is_pass_at parent x)) r rs in
     let all : reruns_at parent (r ∷ rs) ≡ one_at parent r + reruns_at parent rs = sum_by-cons (one_at parent) r rs in

@@ -1,7 +1,7 @@
 use Rattle.std.proofs.Common.{◌≡◌, ℕ, ◌+◌, ◌*◌, ◌-◌, ◌/◌, ◌^◌, ◌<◌, ◌≤◌, arith}
 use Rattle.std.proofs.lemmas.Nat.{le-div}
 use Rattle.std.proofs.Math.Nat.{div-mul-le_self, mul-le-mul_right, mul-le-mul, pow-le-pow_left, lt_of_not-le}
-use Rattle.flake_rate.proofs.Values.{rate_within, miss_within}
+use Rattle.flake_rate.proofs.Values.{rate-in_limits, miss-in_limits}
 use Rattle.flake_rate.specs.Miss.{FitsRate}
 use Rattle.flake_rate.specs.declared.miss.Miss.{Miss}
 use Rattle.flake_rate.specs.declared.rate.Rate.{Rate}
@@ -17,7 +17,7 @@ use Rattle.weight_exact.specs.declared.factors.TheConstants.{MAX_FACTOR}
 -- a fail tells hypotheses apart, so the greatest number is at least 2
 pub greatest_factor_told : (rate : Rate) (miss : Miss) → FitsRate miss rate → 2 ≤ greatest_factor (factors_of rate miss)
 greatest_factor_told rate miss told =
-    greatest_factor_two rate.a rate.b miss.c miss.d (rate_within rate) (miss_within miss) told
+    greatest_factor_two rate.a rate.b miss.c miss.d (rate-in_limits rate) (miss-in_limits miss) told
 
 -- what the power may be at most, where a total prior weight times it, in basis points, is to fit 128 bits
 abbrev pub room : ℕ → ℕ

@@ -30,8 +30,8 @@ pass_out_positive a b c d rate miss =
 
 -- ---- the fourth is 0 exactly where a broken test never passes
 
-pub pass_in_zero : (a b d : ℕ) → (factors a b 0 d).pass_in ≡ 0
-pass_in_zero a b d = rw (zero-mul b) (zero-div (gcd 0 ((b - a) * d)))
+pub pass_in-no_misses : (a b d : ℕ) → (factors a b 0 d).pass_in ≡ 0
+pass_in-no_misses a b d = rw (zero-mul b) (zero-div (gcd 0 ((b - a) * d)))
 
 pub pass_in_positive : (a b c d : ℕ) → IsRate a b → 1 ≤ c → 1 ≤ (factors a b c d).pass_in
 pass_in_positive a b c d rate some =
@@ -45,7 +45,7 @@ never_passes a b (suc c) d rate none = absurd (omega (arith, pass_in_positive a 
 pub pass_in-zero : (a b c d : ℕ) → IsRate a b → ((factors a b c d).pass_in ≡ 0) ↔ (c ≡ 0)
 pass_in-zero a b c d rate = (
   λ none. never_passes a b c d rate none,
-  λ never. rw never (pass_in_zero a b d),
+  λ never. rw never (pass_in-no_misses a b d),
 )
 
 -- ---- a fail speaks for the hypotheses in, and a pass for those out

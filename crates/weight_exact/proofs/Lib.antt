@@ -13,3 +13,4 @@ pub mod Scaled
 pub mod LiveWeights
 pub mod Powering
 pub mod Budgeting
+pub mod Priors

@@ -9,7 +9,8 @@ use Rattle.weight_exact.proofs.SumTo.{sum_to-same, sum_to-add, sum_to-mul_right,
 -- up to the position the sum is multiplied
 pub sum_to-reweighed_within : (w : ℕ → ℕ) (p a b i : ℕ) → i ≤ p → sum_to (reweighed w p a b) i ≡ sum_to w i * a
 sum_to-reweighed_within w p a b i within =
-    sum_to-same (reweighed w p a b) (λ j. w j * a) i (λ j low high. let test : nat_le j p ≡ true = le-leb j p (omega arith) in rw test)
+    sum_to-same (reweighed w p a b) (λ j. w j * a) i (λ j low high. let test : nat_le j p ≡ true = le-leb j p
+    (omega arith) in rw test)
     ∙ sum_to-mul_right w a i
 
 -- and above it what is more is multiplied by the other number
@@ -40,7 +41,8 @@ pub reweighed_total-is : (w : ℕ → ℕ) (sums : List ℕ) (p a b : ℕ) → A
     reweighed_total sums p a b ≡ sum_to (reweighed w p a b) (length sums)
 reweighed_total-is w sums p a b are low high =
     let below : get_or sums (p - 1) 0 ≡ sum_to w p = are p low high in
-    let last : get_or sums (length sums - 1) 0 ≡ sum_to w (length sums) = are (length sums) (omega arith) (omega arith) in
+    let last : get_or sums (length sums - 1) 0 ≡ sum_to w (length sums) = are (length sums) (omega arith)
+    (omega arith) in
     rw (below, last) (sym (sum_to-reweighed_above w p a b (length sums) high))
 
 -- cumulative sums rise

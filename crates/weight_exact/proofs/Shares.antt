@@ -63,28 +63,28 @@ IsReached_once s runs i j above some first second =
 -- ---- the hypothesis that reaches the bar, computed
 
 -- the number that `last_to` finds passes the test
-pub last_to_some : (test : ℕ → Bool) (n i : ℕ) → last_to test n ≡ Some i → (1 ≤ i) × (i ≤ n) × (test i ≡ true)
-last_to_some test zero i found = absurd (cc)
-last_to_some test (suc n) i found =
+pub passes-from_some : (test : ℕ → Bool) (n i : ℕ) → last_to test n ≡ Some i → (1 ≤ i) × (i ≤ n) × (test i ≡ true)
+passes-from_some test zero i found = absurd (cc)
+passes-from_some test (suc n) i found =
     ⊎_elim
     (λ (holds : test (suc n) ≡ true).
     let here : suc n ≡ i = let e : Some (suc n) ≡ Some i = rw holds at found in cc in
     rw (← here) (omega arith, omega arith, holds))
     (λ (fails : test (suc n) ≡ false).
-    let rest = last_to_some test n i (rw fails at found) in
+    let rest = passes-from_some test n i (rw fails at found) in
     (rest.0, omega (arith, rest.1), rest.2))
     (cases_Bool (test (suc n)))
 
 -- where it finds none, each number fails the test
-pub last_to_none : (test : ℕ → Bool) (n : ℕ) → last_to test n ≡ None → (i : ℕ) → 1 ≤ i → i ≤ n → test i ≡ false
-last_to_none test zero none i low high = absurd (omega arith)
-last_to_none test (suc n) none i low high =
+pub fails-from_none : (test : ℕ → Bool) (n : ℕ) → last_to test n ≡ None → (i : ℕ) → 1 ≤ i → i ≤ n → test i ≡ false
+fails-from_none test zero none i low high = absurd (omega arith)
+fails-from_none test (suc n) none i low high =
     ⊎_elim
     (λ (holds : test (suc n) ≡ true). let e : Some (suc n) ≡ None = rw holds at none in absurd (cc))
     (λ (fails : test (suc n) ≡ false).
     ⊎_elim
     (λ (here : i ≡ suc n). rw here fails)
-    (λ (apart : i ≢ suc n). last_to_none test n (rw fails at none) i low (omega arith))
+    (λ (apart : i ≢ suc n). fails-from_none test n (rw fails at none) i low (omega arith))
     (cases_eq i (suc n)))
     (cases_Bool (test (suc n)))
 
@@ -120,8 +120,8 @@ last_to-only test (suc n) i low high holds only =
     (cases_Bool (test (suc n)))
 
 -- the test of the bar decides it
-pub is_at_bar_true : (t u whole w : ℕ) → is_at_bar t u whole w ≡ true → t * whole ≤ w * u
-is_at_bar_true t u whole w holds = leb-true (t * whole) (w * u) holds
+pub at_bar-from_test : (t u whole w : ℕ) → is_at_bar t u whole w ≡ true → t * whole ≤ w * u
+at_bar-from_test t u whole w holds = leb-true (t * whole) (w * u) holds
 
 pub is_at_bar-true : (t u whole w : ℕ) → t * whole ≤ w * u → is_at_bar t u whole w ≡ true
 is_at_bar-true t u whole w at = le-leb (t * whole) (w * u) at
@@ -134,7 +134,7 @@ at_bar s runs i = is_at_bar s.bar_numerator s.bar_denominator (total s runs) (we
 IsReached-from_test : (s : Setup) (runs : List Run) (i : ℕ) → 1 ≤ i → i ≤ hypotheses s → at_bar s runs i ≡ true →
     IsReached s runs i
 IsReached-from_test s runs i low high holds =
-    let at = is_at_bar_true s.bar_numerator s.bar_denominator (total s runs) (weight s runs i) holds in
+    let at = at_bar-from_test s.bar_numerator s.bar_denominator (total s runs) (weight s runs i) holds in
     record { first = low; last = high; at_bar = at }
 
 test_from_IsReached : (s : Setup) (runs : List Run) (i : ℕ) → IsReached s runs i → at_bar s runs i ≡ true
@@ -142,9 +142,9 @@ test_from_IsReached s runs i is =
     is_at_bar-true s.bar_numerator s.bar_denominator (total s runs) (weight s runs i) is.at_bar
 
 -- the hypothesis that is computed reaches the bar
-pub reached_some : (s : Setup) (runs : List Run) (i : ℕ) → reached s runs ≡ Some i → IsReached s runs i
-reached_some s runs i found =
-    let parts = last_to_some (at_bar s runs) (hypotheses s) i found in
+pub IsReached-from_some : (s : Setup) (runs : List Run) (i : ℕ) → reached s runs ≡ Some i → IsReached s runs i
+IsReached-from_some s runs i found =
+    let parts = passes-from_some (at_bar s runs) (hypotheses s) i found in
     IsReached-from_test s runs i parts.0 parts.1 parts.2
 
 -- the hypothesis that reaches the bar is computed
@@ -155,9 +155,9 @@ reached-some s runs i above some is =
     (λ j low high holds. IsReached_once s runs j i above some (IsReached-from_test s runs j low high holds) is)
 
 -- where none is computed, none reaches the bar
-pub reached_none : (s : Setup) (runs : List Run) → reached s runs ≡ None → (i : ℕ) → ¬ IsReached s runs i
-reached_none s runs none i is =
-    let fails = last_to_none (at_bar s runs) (hypotheses s) none i is.first is.last in
+pub unreached-from_none : (s : Setup) (runs : List Run) → reached s runs ≡ None → (i : ℕ) → ¬ IsReached s runs i
+unreached-from_none s runs none i is =
+    let fails = fails-from_none (at_bar s runs) (hypotheses s) none i is.first is.last in
     false≢true (sym fails ∙ test_from_IsReached s runs i is)
 
 -- where none reaches the bar, none is computed
@@ -218,16 +218,16 @@ pub is_at_bar-mul_right : (k t u whole w : ℕ) → 1 ≤ k → is_at_bar t u (w
 is_at_bar-mul_right k t u whole w some =
     let both = at_bar-mul_right k t u whole w some in
     same_tests (is_at_bar t u (whole * k) (w * k)) (is_at_bar t u whole w)
-    (λ h. is_at_bar-true t u whole w (both.0 (is_at_bar_true t u (whole * k) (w * k) h)))
-    (λ h. is_at_bar-true t u (whole * k) (w * k) (both.1 (is_at_bar_true t u whole w h)))
+    (λ h. is_at_bar-true t u whole w (both.0 (at_bar-from_test t u (whole * k) (w * k) h)))
+    (λ h. is_at_bar-true t u (whole * k) (w * k) (both.1 (at_bar-from_test t u whole w h)))
 
 pub is_at_bar-scaled : (t u v whole w other : ℕ) → 1 ≤ whole → 1 ≤ other → v * other ≡ w * whole →
     is_at_bar t u whole v ≡ is_at_bar t u other w
 is_at_bar-scaled t u v whole w other some_whole some_other same =
     let both = at_bar-scaled t u v whole w other some_whole some_other same in
     same_tests (is_at_bar t u whole v) (is_at_bar t u other w)
-    (λ h. is_at_bar-true t u other w (both.0 (is_at_bar_true t u whole v h)))
-    (λ h. is_at_bar-true t u whole v (both.1 (is_at_bar_true t u other w h)))
+    (λ h. is_at_bar-true t u other w (both.0 (at_bar-from_test t u whole v h)))
+    (λ h. is_at_bar-true t u whole v (both.1 (at_bar-from_test t u other w h)))
 
 pub is_at_bar-mul_left : (k t u whole w : ℕ) → 1 ≤ k → is_at_bar t u (k * whole) (k * w) ≡ is_at_bar t u whole w
 is_at_bar-mul_left k t u whole w some = rw (mul_comm k w, mul_comm k whole) (is_at_bar-mul_right k t u whole w some)

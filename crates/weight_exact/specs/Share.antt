@@ -1,4 +1,4 @@
--- Shares of the total weight, and the bar at which a hypothesis is named.
+-- Shares of the total weight, and the bar that a hypothesis has to reach.
 use Rattle.std.specs.Prelude.{ℕ, zero, suc, ◌*◌, ◌/◌, ◌≤◌, List, Bool, Option, Some, None, if◌then◌else◌, nat_le}
 use Rattle.weight_exact.specs.Weights.{Setup, weight, total, hypotheses}
 use Rattle.weight_exact.specs.declared.run.Run.{Run}

@@ -109,14 +109,14 @@ pub fn settled_runs_cancel()
         1 ≤ f.pass_in → (live f runs ≡ runs) × (common f runs ≡ 1) }
 {}
 
-/// The live runs say all that the runs say: the weights by the live runs alone give the same shares, the same named
-/// hypothesis and the same plan, where a sound tree may pass and may fail. In basis points they fit in 128 bits while the
+/// The live runs say all that the runs say: the weights by the live runs alone give the same shares, the same hypothesis
+/// at the bar and the same plan, where a sound tree may pass and may fail. In basis points they fit in 128 bits while the
 /// load fits.
 pub fn live_runs_suffice()
     ensures shares { (s : Setup) (runs : List Run) (i : ℕ) →
         1 ≤ s.factors.fail_out → 1 ≤ s.factors.pass_out → 1 ≤ i → i ≤ hypotheses s →
         basis_points s runs i ≡ share (live_weight s runs i) (live_total s runs) }
-    ensures named { (s : Setup) (runs : List Run) →
+    ensures computed { (s : Setup) (runs : List Run) →
         1 ≤ s.factors.fail_out → 1 ≤ s.factors.pass_out →
         reached s runs
         ≡ last_to
@@ -147,10 +147,10 @@ pub fn at_most_one_reaches_the_bar()
     ensures one { (s : Setup) (runs : List Run) (i j : ℕ) →
         s.bar_denominator < 2 * s.bar_numerator → 1 ≤ total s runs →
         IsReached s runs i → IsReached s runs j → i ≡ j }
-    ensures named { (s : Setup) (runs : List Run) (i : ℕ) →
+    ensures computed { (s : Setup) (runs : List Run) (i : ℕ) →
         s.bar_denominator < 2 * s.bar_numerator → 1 ≤ total s runs →
         (reached s runs ≡ Some i) ↔ IsReached s runs i }
-    ensures none_named { (s : Setup) (runs : List Run) →
+    ensures none_computed { (s : Setup) (runs : List Run) →
         (reached s runs ≡ None) ↔ ((i : ℕ) → ¬ IsReached s runs i) }
 {}
 
@@ -209,7 +209,7 @@ pub fn plain_table_gives_the_same()
         IsRate a b → gcd a b ≡ 1 → s.factors ≡ factors a b 0 1 →
         (runs : List Run) (i : ℕ) →
         IsReached (on_plain_table s a b) runs i ↔ IsReached s runs i }
-    ensures named { (s : Setup) (a b : ℕ) →
+    ensures computed { (s : Setup) (a b : ℕ) →
         IsRate a b → gcd a b ≡ 1 → s.factors ≡ factors a b 0 1 →
         (runs : List Run) →
         reached (on_plain_table s a b) runs ≡ reached s runs }

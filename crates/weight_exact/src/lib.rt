@@ -4,7 +4,9 @@
 //! `specs/` holds the inference's definitions over plain lists of runs: priors, the likelihood of a run, weights,
 //! shares, the bar, floor and load, the budget and the plan. Here stand the public laws over them (`laws`) and the
 //! exact arithmetic that the belief of a search is computed with: `budget`, `Powers`, `Sums` and the counter `Steps`.
-//! It stands on `flake_rate`. The layer above may cite every definition, and takes products from `times` alone.
+//! It stands on `flake_rate`. The layer above may cite every definition, takes products from `times` alone, and may cite
+//! the lemmas of `proofs/`, by topic: `FactorNumbers` and `Likelihoods` (the four numbers), `Floors` (floor and load),
+//! `SumTo` and `Reweighed` (cumulative sums), `Cancels`, `Shares` (the bar), `Plans`, `Priors`, `Budgets` and `Powering`.
 #![tactic(auto)]
 
 mod factors;
@@ -23,6 +25,6 @@ pub use limits::{BASIS_POINTS, MAX_CALM, MAX_SUSPECTS, MAX_WEIGHT, MAX_WIDTH};
 pub use memory::Memory;
 pub use powers::{Counts, Powers};
 pub use run::{Run, Verdict};
-pub use run_budget::{MAX_PRIOR_TOTAL, MIN_PRIOR_TOTAL, budget};
+pub use run_budget::{MAX_BUDGET, MAX_PRIOR_TOTAL, MIN_BUDGET, MIN_PRIOR_TOTAL, budget};
 pub use steps::Steps;
 pub use sums::Sums;

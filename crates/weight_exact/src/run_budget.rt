@@ -16,6 +16,12 @@ pub const MIN_PRIOR_TOTAL: u64 = 2;
 /// of the greatest calm weight.
 pub const MAX_PRIOR_TOTAL: u64 = MAX_SUSPECTS as u64 * MAX_WEIGHT as u64 + MAX_CALM as u64;
 
+/// The least budget that a search has, whatever its priors and its rates.
+pub const MIN_BUDGET: u32 = 5;
+
+/// The greatest budget that a search has, whatever its priors and its rates.
+pub const MAX_BUDGET: u32 = 113;
+
 /// The budget of a search, which bounds its load: the greatest number for which the total of the priors, times the
 /// greatest likelihood number to this power, in basis points, is below 2^128. While the load is at most the budget, no
 /// weight, sum or share leaves 128 bits. A search may count more runs than that, since not every run adds to its load.
@@ -31,8 +37,8 @@ pub fn budget(prior_total: u64, rate: Rate, miss: Miss) -> u32
     ensures value { result ≡ budget_of prior_total (factors_of rate miss) }
 
     // Where it lies, whatever the total and the two rates.
-    ensures lowest { 5 ≤ result }
-    ensures highest { result ≤ 113 }
+    ensures lowest { MIN_BUDGET ≤ result }
+    ensures highest { result ≤ MAX_BUDGET }
 {
     let greatest = Factors::of(rate, miss).greatest();
     let room = u128::MAX / (u128::from(prior_total) * BASIS_POINTS);

@@ -117,7 +117,7 @@ fn reweigh(sums: &mut [u128], floor: usize, position: usize, inside: u32, outsid
     spread(sums, position, below, base, outside);
 }
 
-/// Multiplies the numbers from place `start` up to place `end`, which isn't one of them.
+/// Multiplies the numbers from index `start` up to index `end`, which isn't one of them.
 fn scale(numbers: &mut [u128], start: usize, end: usize, factor: u32)
     requires order { start ≤ end }
     requires end { end ≤ length numbers.old }
@@ -127,12 +127,12 @@ fn scale(numbers: &mut [u128], start: usize, end: usize, factor: u32)
     ensures after { (k : ℕ) → end ≤ k → slice_index numbers.new k ≡ slice_index numbers.old k }
 {
     let factor = u128::from(factor);
-    for place in start..end {
-        numbers[place] *= factor;
+    for index in start..end {
+        numbers[index] *= factor;
     }
 }
 
-/// Multiplies by how much the numbers from place `start` on are more than `below`, and puts that on top of `base`.
+/// Multiplies by how much the numbers from index `start` on are more than `below`, and puts that on top of `base`.
 fn spread(numbers: &mut [u128], start: usize, below: u128, base: u128, factor: u32)
     requires start { start ≤ length numbers.old }
     requires above { (k : ℕ) → start ≤ k → k < length numbers.old → below ≤ slice_index numbers.old k }
@@ -143,7 +143,7 @@ fn spread(numbers: &mut [u128], start: usize, below: u128, base: u128, factor: u
     ensures before { (k : ℕ) → k < start → slice_index numbers.new k ≡ slice_index numbers.old k }
 {
     let factor = u128::from(factor);
-    for place in start..numbers.len() {
-        numbers[place] = base + (numbers[place] - below) * factor;
+    for index in start..numbers.len() {
+        numbers[index] = base + (numbers[index] - below) * factor;
     }
 }

@@ -1,5 +1,5 @@
 use Rattle.std.proofs.Common.{◌≡◌, ℕ, ◌+◌, ◌-◌, ◌*◌, ◌/◌, ◌<◌, ◌≤◌, length, if◌then◌else◌, Some, None, ap, sym, ◌∙◌, arith}
-use Rattle.flake_rate.proofs.Values.{bar_within}
+use Rattle.flake_rate.proofs.Values.{bar-in_limits}
 use Rattle.weight_exact.specs.Weights.{sum_to}
 use Rattle.weight_exact.specs.Share.{last_to, is_at_bar}
 use Rattle.weight_exact.proofs.SumTo.{sum_to_last}
@@ -16,7 +16,7 @@ returns-clause-bar g c w are =
     let n : ℕ = length c.args.sums.now in
     let t = c.args.bar.t in
     let u = c.args.bar.u in
-    let bar = bar_within c.args.bar in
+    let bar = bar-in_limits c.args.bar in
     let ends = i.sums w are in
     let low = ends.0 in
     let high = ends.1 in

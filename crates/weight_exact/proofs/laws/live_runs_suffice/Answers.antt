@@ -9,8 +9,8 @@ use Rattle.weight_exact.proofs.laws.live_runs_suffice.Goals as goal
 pub returns-clause-shares : goal.returns-clause-shares
 returns-clause-shares c = λ s runs i fail pass low high. LiveWeights.basis_points-live_weight s runs fail pass i low high
 
-pub returns-clause-named : goal.returns-clause-named
-returns-clause-named c = λ s runs fail pass. LiveWeights.reached-live_weight s runs fail pass
+pub returns-clause-computed : goal.returns-clause-computed
+returns-clause-computed c = λ s runs fail pass. LiveWeights.reached-live_weight s runs fail pass
 
 pub returns-clause-planned : goal.returns-clause-planned
 returns-clause-planned c = λ s runs k j fail pass some. LiveWeights.pick-live_weight s runs fail pass k j some

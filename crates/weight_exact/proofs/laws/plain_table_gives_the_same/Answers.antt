@@ -10,8 +10,8 @@ returns-clause-shares c = basis_points-plain
 pub returns-clause-at_bar : goal.returns-clause-at_bar
 returns-clause-at_bar c = IsReached-plain
 
-pub returns-clause-named : goal.returns-clause-named
-returns-clause-named c = reached-plain
+pub returns-clause-computed : goal.returns-clause-computed
+returns-clause-computed c = reached-plain
 
 pub returns-clause-plans : goal.returns-clause-plans
 returns-clause-plans c = plan-plain

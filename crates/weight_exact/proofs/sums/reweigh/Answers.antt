@@ -11,9 +11,15 @@ spread-requires-clause-room c k low high =
     let below : ℕ = get_or xs (c.args.position - 1) 0 in
     let long : length c.scale.new.numbers ≡ length xs = omega arith in
     let here : get_or c.scale.new.numbers k 0 ≡ get_or xs k 0 = c.scale.ensures.after k low in
-    let most : get_or xs k 0 ≤ get_or xs (length xs - 1) 0 = c.requires.rising k (length xs - 1) (omega arith) (omega arith) in
+    let most : get_or xs k 0 ≤ get_or xs (length xs - 1) 0 = c.requires.rising k (length xs - 1) (omega arith)
+    (omega arith) in
     let base : below * c.from.result ≡ below * c.args.inside = ap (λ n. below * n) c.from.ensures in
-    rw here (omega (arith, c.requires.room, spread-le below (below * c.args.inside) c.args.outside (get_or xs k 0) (get_or xs (length xs - 1) 0) most))
+    rw here (omega (
+      arith,
+      c.requires.room,
+      spread-le below (below * c.args.inside) c.args.outside (get_or xs k 0)
+          (get_or xs (length xs - 1) 0) most,
+    ))
 
 pub returns : goal.returns
 returns c w are i low high =
@@ -26,7 +32,8 @@ returns c w are i low high =
     let was : get_or xs k 0 ≡ sum_to w i = are i low (omega arith) in
     ⊎_elim
     (λ (within : i < p + 1).
-    let same : get_or c.spread.new.numbers k 0 ≡ get_or c.scale.new.numbers k 0 = c.spread.ensures.before k (omega arith) in
+    let same : get_or c.spread.new.numbers k 0 ≡ get_or c.scale.new.numbers k 0 = c.spread.ensures.before k
+    (omega arith) in
     let upto : sum_to (reweighed w p a b) i ≡ sum_to w i * a = sum_to-reweighed_within w p a b i (omega arith) in
     ⊎_elim
     (λ (under : k < c.args.floor).
@@ -39,7 +46,8 @@ returns c w are i low high =
     (λ (above : p + 1 ≤ i).
     let below : get_or xs (p - 1) 0 ≡ sum_to w p = are p (omega arith) (omega arith) in
     let here : get_or c.scale.new.numbers k 0 ≡ sum_to w i = c.scale.ensures.after k (omega arith) ∙ was in
-    let base : get_or xs (p - 1) 0 * c.from.result ≡ sum_to w p * a = ap (λ n. n * c.from.result) below ∙ ap (λ n. sum_to w p * n) c.from.ensures in
+    let base : get_or xs (p - 1) 0 * c.from.result ≡ sum_to w p * a = ap (λ n. n * c.from.result) below
+    ∙ ap (λ n. sum_to w p * n) c.from.ensures in
     let more : (get_or c.scale.new.numbers k 0 - get_or xs (p - 1) 0) * b ≡ (sum_to w i - sum_to w p) * b =
     ap (λ n. (n - get_or xs (p - 1) 0) * b) here ∙ ap (λ n. (sum_to w i - n) * b) below in
     omega (arith, c.spread.ensures.above k (omega arith) (omega arith), sum_to-reweighed_above w p a b i (omega arith)))

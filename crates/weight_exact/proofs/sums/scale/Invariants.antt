@@ -1,10 +1,10 @@
 use Rattle.std.proofs.Common.{◌≡◌, ◌*◌, ◌<◌, ◌≤◌, ℕ, get_or}
 use Rattle.weight_exact.proofs.sums.scale.Given as goal
 
--- the numbers up to this place are multiplied, and the others as before
-abbrev pub invariant-loop-place : goal.invariant-loop-place
-invariant-loop-place l = record {
-  within : (k : ℕ) → l.fn.start ≤ k → k < l.place → get_or l.numbers k 0 ≡ get_or l.fn.numbers k 0 * l.factor;
+-- the numbers up to this index are multiplied, and the others as before
+abbrev pub invariant-loop-index : goal.invariant-loop-index
+invariant-loop-index l = record {
+  within : (k : ℕ) → l.fn.start ≤ k → k < l.index → get_or l.numbers k 0 ≡ get_or l.fn.numbers k 0 * l.factor;
   before : (k : ℕ) → k < l.fn.start → get_or l.numbers k 0 ≡ get_or l.fn.numbers k 0;
-  after : (k : ℕ) → l.place ≤ k → get_or l.numbers k 0 ≡ get_or l.fn.numbers k 0;
+  after : (k : ℕ) → l.index ≤ k → get_or l.numbers k 0 ≡ get_or l.fn.numbers k 0;
 }

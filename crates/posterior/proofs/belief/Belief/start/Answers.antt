@@ -8,13 +8,14 @@ use Rattle.posterior.specs.Kept.{at}
 use Rattle.posterior.specs.BeliefInside.{kept_of, IsBelief}
 use Rattle.posterior.specs.declared.belief.Belief.TheInside.{Inside}
 use Rattle.posterior.proofs.Counting.{at-zeros}
-use Rattle.posterior.proofs.Begun.{priors_total, begun_walk, begun}
+use Rattle.weight_exact.proofs.Priors.{priors-total}
+use Rattle.posterior.proofs.Begun.{begun_walk, begun}
 use Rattle.posterior.proofs.Matching.{stands_empty}
 use Rattle.posterior.proofs.belief.Belief.start.Goals as goal
 
 pub budget-budget-requires-clause-at_most : goal.budget-budget-requires-clause-at_most
 budget-budget-requires-clause-at_most c =
-    let total = priors_total c.args.weights.now c.args.calm c.requires.priors in
+    let total = priors-total c.args.weights.now c.args.calm c.requires.priors in
     let items : c.prior_total.result ≡ sum (c.args.weights.now ++ c.args.calm ∷ []) = c.prior_total.ensures ∙ ap sum (c.deref.ensures.value ∙ c.in_ok-priors.ensures) in
     omega (arith, total.0, total.1)
 
