@@ -1,6 +1,7 @@
 //! What a call of the program ends with: the line on standard error, and the exit status.
 
 use finder_program::Status;
+use judge::JudgeFault;
 use std::test::Fail;
 
 #[test]
@@ -23,6 +24,18 @@ fn each_status_has_its_text_and_its_number(rt: HostRuntime) -> Result<(), Fail> 
         assert_eq!(rt; status.exit_code(), number, "at {text}");
         let printed = format!(in rt.alloc(); "{status}")?;
         assert_eq!(rt; printed.as_str(), text);
+    }
+    Ok(())
+}
+
+#[test]
+fn a_fault_of_the_judge_says_its_line(rt: HostRuntime) -> Result<(), Fail> {
+    let rows = [
+        (JudgeFault::BadInput(3), "line 3 is outside the form"),
+        (JudgeFault::Memory, "out of memory"),
+    ];
+    for (fault, text) in rows {
+        assert_eq!(rt; format!(in rt.alloc(); "{fault}")?.as_str(), text);
     }
     Ok(())
 }

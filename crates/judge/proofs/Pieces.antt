@@ -5,21 +5,26 @@ use Rattle.std.proofs.lemmas.Bool.{eq-eqb, ne_eqb}
 use Rattle.judge.specs.Text.{pieces_after, words, lines_after, lines}
 
 -- the first piece ends at the first mark
-pieces_at : (mark : ℕ) (piece xs : List ℕ) (i : ℕ) → i < length xs → get_or xs i 0 ≡ mark → ((k : ℕ) → k < i → get_or xs k 0 ≢ mark) → pieces_after mark piece xs ≡ (piece ++ take i xs) ∷ pieces_after mark [] (drop (suc i) xs)
+pieces_at : (mark : ℕ) (piece xs : List ℕ) (i : ℕ) → i < length xs → get_or xs i 0 ≡ mark
+    → ((k : ℕ) → k < i → get_or xs k 0 ≢ mark) → pieces_after mark piece xs ≡
+    (piece ++ take i xs) ∷ pieces_after mark [] (drop (suc i) xs)
 pieces_at mark piece [] i inside here before = absurd (omega arith)
 pieces_at mark piece (b ∷ bs) zero inside here before =
     ap (λ t. cond t (piece ∷ pieces_after mark [] bs) (pieces_after mark (piece ++ b ∷ []) bs)) (eq-eqb b mark here)
     ∙ ap (λ p. p ∷ pieces_after mark [] bs) (sym (append-nil piece))
 pieces_at mark piece (b ∷ bs) (suc i) inside here before =
-    ap (λ t. cond t (piece ∷ pieces_after mark [] bs) (pieces_after mark (piece ++ b ∷ []) bs)) (ne_eqb b mark (before 0 (omega arith)))
+    ap (λ t. cond t (piece ∷ pieces_after mark [] bs) (pieces_after mark (piece ++ b ∷ []) bs))
+    (ne_eqb b mark (before 0 (omega arith)))
     ∙ pieces_at mark (piece ++ b ∷ []) bs i (omega arith) here (λ k below. before (suc k) (omega arith))
     ∙ ap (λ p. p ∷ pieces_after mark [] (drop (suc i) bs)) (append_assoc piece (b ∷ []) (take i bs))
 
 -- without a mark there is one piece
-pieces_whole : (mark : ℕ) (piece xs : List ℕ) → ((k : ℕ) → k < length xs → get_or xs k 0 ≢ mark) → pieces_after mark piece xs ≡ (piece ++ xs) ∷ []
+pieces_whole : (mark : ℕ) (piece xs : List ℕ) → ((k : ℕ) → k < length xs → get_or xs k 0 ≢ mark)
+    → pieces_after mark piece xs ≡ (piece ++ xs) ∷ []
 pieces_whole mark piece [] none = ap (λ p. p ∷ []) (sym (append-nil piece))
 pieces_whole mark piece (b ∷ bs) none =
-    ap (λ t. cond t (piece ∷ pieces_after mark [] bs) (pieces_after mark (piece ++ b ∷ []) bs)) (ne_eqb b mark (none 0 (omega arith)))
+    ap (λ t. cond t (piece ∷ pieces_after mark [] bs) (pieces_after mark (piece ++ b ∷ []) bs))
+    (ne_eqb b mark (none 0 (omega arith)))
     ∙ pieces_whole mark (piece ++ b ∷ []) bs (λ k below. none (suc k) (omega arith))
     ∙ ap (λ p. p ∷ []) (append_assoc piece (b ∷ []) bs)
 
@@ -27,7 +32,8 @@ pieces_whole mark piece (b ∷ bs) none =
 rest_after : (xs : List ℕ) (i : ℕ) → take (length xs - (i + 1)) (drop (i + 1) xs) ≡ drop (suc i) xs
 rest_after xs i = take_rest xs (i + 1) ∙ ap (λ n. drop n xs) (add-one i)
 
-pub words_at : (xs : List ℕ) (i : ℕ) → i < length xs → get_or xs i 0 ≡ 32 → ((k : ℕ) → k < i → get_or xs k 0 ≢ 32) → words xs ≡ take i xs ∷ words (take (length xs - (i + 1)) (drop (i + 1) xs))
+pub words_at : (xs : List ℕ) (i : ℕ) → i < length xs → get_or xs i 0 ≡ 32 → ((k : ℕ) → k < i → get_or xs k 0 ≢ 32)
+    → words xs ≡ take i xs ∷ words (take (length xs - (i + 1)) (drop (i + 1) xs))
 words_at xs i inside here before =
     pieces_at 32 [] xs i inside here before ∙ ap (λ rest. take i xs ∷ words rest) (sym (rest_after xs i))
 
@@ -35,7 +41,8 @@ pub words_whole : (xs : List ℕ) → ((k : ℕ) → k < length xs → get_or xs
 words_whole xs none = pieces_whole 32 [] xs none
 
 -- the first line ends at the first line feed
-lines_after_at : (line xs : List ℕ) (i : ℕ) → i < length xs → get_or xs i 0 ≡ 10 → ((k : ℕ) → k < i → get_or xs k 0 ≢ 10) → lines_after line xs ≡ (line ++ take i xs) ∷ lines (drop (suc i) xs)
+lines_after_at : (line xs : List ℕ) (i : ℕ) → i < length xs → get_or xs i 0 ≡ 10
+    → ((k : ℕ) → k < i → get_or xs k 0 ≢ 10) → lines_after line xs ≡ (line ++ take i xs) ∷ lines (drop (suc i) xs)
 lines_after_at line [] i inside here before = absurd (omega arith)
 lines_after_at line (b ∷ bs) zero inside here before =
     ap (λ t. cond t (line ∷ lines bs) (lines_after (line ++ b ∷ []) bs)) (eq-eqb b 10 here)
@@ -46,7 +53,8 @@ lines_after_at line (b ∷ bs) (suc i) inside here before =
     ∙ ap (λ p. p ∷ lines (drop (suc i) bs)) (append_assoc line (b ∷ []) (take i bs))
 
 -- without a line feed a text that is not empty is one line
-lines_after_whole : (line xs : List ℕ) → 0 < length line + length xs → ((k : ℕ) → k < length xs → get_or xs k 0 ≢ 10) → lines_after line xs ≡ (line ++ xs) ∷ []
+lines_after_whole : (line xs : List ℕ) → 0 < length line + length xs → ((k : ℕ) → k < length xs → get_or xs k 0 ≢ 10)
+    → lines_after line xs ≡ (line ++ xs) ∷ []
 lines_after_whole [] [] some none = absurd (omega arith)
 lines_after_whole (c ∷ line) [] some none = ap (λ p. p ∷ []) (sym (append-nil (c ∷ line)))
 lines_after_whole line (b ∷ bs) some none =
@@ -54,11 +62,13 @@ lines_after_whole line (b ∷ bs) some none =
     ∙ lines_after_whole (line ++ b ∷ []) bs (omega (arith, length_push line b)) (λ k below. none (suc k) (omega arith))
     ∙ ap (λ p. p ∷ []) (append_assoc line (b ∷ []) bs)
 
-pub lines_at : (xs : List ℕ) (i : ℕ) → i < length xs → get_or xs i 0 ≡ 10 → ((k : ℕ) → k < i → get_or xs k 0 ≢ 10) → lines xs ≡ take i xs ∷ lines (take (length xs - (i + 1)) (drop (i + 1) xs))
+pub lines_at : (xs : List ℕ) (i : ℕ) → i < length xs → get_or xs i 0 ≡ 10 → ((k : ℕ) → k < i → get_or xs k 0 ≢ 10)
+    → lines xs ≡ take i xs ∷ lines (take (length xs - (i + 1)) (drop (i + 1) xs))
 lines_at xs i inside here before =
     lines_after_at [] xs i inside here before ∙ ap (λ rest. take i xs ∷ lines rest) (sym (rest_after xs i))
 
-pub lines_whole : (xs : List ℕ) → 0 < length xs → ((k : ℕ) → k < length xs → get_or xs k 0 ≢ 10) → lines xs ≡ xs ∷ lines (take (length xs - length xs) (drop (length xs) xs))
+pub lines_whole : (xs : List ℕ) → 0 < length xs → ((k : ℕ) → k < length xs → get_or xs k 0 ≢ 10)
+    → lines xs ≡ xs ∷ lines (take (length xs - length xs) (drop (length xs) xs))
 lines_whole xs some none =
     lines_after_whole [] xs (omega arith) none
     ∙ ap (λ rest. xs ∷ lines rest) (sym (take_rest xs (length xs) ∙ drop_all (length xs) xs (omega arith)))

@@ -22,10 +22,12 @@ IsFreeOf-tail : (mark b : ℕ) (bs : List ℕ) → IsFreeOf mark (b ∷ bs) → 
 IsFreeOf-tail mark b bs free = λ k d below. free (suc k) d (omega arith)
 
 -- a line that is ended by its line feed
-lines_after-line : (read line rest : List ℕ) → IsFreeOf 10 line → lines_after read (line ++ 10 ∷ rest) ≡ (read ++ line) ∷ lines rest
+lines_after-line : (read line rest : List ℕ) → IsFreeOf 10 line
+    → lines_after read (line ++ 10 ∷ rest) ≡ (read ++ line) ∷ lines rest
 lines_after-line read [] rest free = ap (λ x. x ∷ lines rest) (sym (append-nil read))
 lines_after-line read (b ∷ line) rest free =
-    ap (λ t. cond t (read ∷ lines (line ++ 10 ∷ rest)) (lines_after (read ++ b ∷ []) (line ++ 10 ∷ rest))) (ne_eqb b 10 (IsFreeOf-head 10 b line free))
+    ap (λ t. cond t (read ∷ lines (line ++ 10 ∷ rest)) (lines_after (read ++ b ∷ []) (line ++ 10 ∷ rest)))
+    (ne_eqb b 10 (IsFreeOf-head 10 b line free))
     ∙ lines_after-line (read ++ b ∷ []) line rest (IsFreeOf-tail 10 b line free)
     ∙ ap (λ x. x ∷ lines rest) (append_assoc read (b ∷ []) line)
 
@@ -33,15 +35,18 @@ lines-line : (line rest : List ℕ) → IsFreeOf 10 line → lines (line ++ 10 �
 lines-line line rest free = lines_after-line [] line rest free
 
 -- the last line, without one
-lines_after-last : (read line : List ℕ) → 0 < length read + length line → IsFreeOf 10 line → lines_after read line ≡ (read ++ line) ∷ []
+lines_after-last : (read line : List ℕ) → 0 < length read + length line → IsFreeOf 10 line
+    → lines_after read line ≡ (read ++ line) ∷ []
 lines_after-last [] [] some free = absurd (omega arith)
 lines_after-last (c ∷ read) [] some free = ap (λ x. x ∷ []) (sym (append-nil (c ∷ read)))
 lines_after-last read (b ∷ line) some free =
-    ap (λ t. cond t (read ∷ lines line) (lines_after (read ++ b ∷ []) line)) (ne_eqb b 10 (IsFreeOf-head 10 b line free))
+    ap (λ t. cond t (read ∷ lines line) (lines_after (read ++ b ∷ []) line))
+    (ne_eqb b 10 (IsFreeOf-head 10 b line free))
     ∙ lines_after-last (read ++ b ∷ []) line (omega (arith, length_push read b)) (IsFreeOf-tail 10 b line free)
     ∙ ap (λ x. x ∷ []) (append_assoc read (b ∷ []) line)
 
-pub lines-text_of-append : (all : List (List ℕ)) (rest : List ℕ) → All (IsFreeOf 10) all → lines (text_of all ++ rest) ≡ all ++ lines rest
+pub lines-text_of-append : (all : List (List ℕ)) (rest : List ℕ) → All (IsFreeOf 10) all
+    → lines (text_of all ++ rest) ≡ all ++ lines rest
 lines-text_of-append [] rest free = refl
 lines-text_of-append (line ∷ all) rest free =
     ap lines (append_assoc line (10 ∷ text_of all) rest)
@@ -52,24 +57,30 @@ pub lines-text_of : (all : List (List ℕ)) → All (IsFreeOf 10) all → lines 
 lines-text_of all free =
     ap lines (sym (append-nil (text_of all))) ∙ lines-text_of-append all [] free ∙ append-nil all
 
-pub lines-last : (all : List (List ℕ)) (last : List ℕ) → All (IsFreeOf 10) all → IsFreeOf 10 last → 0 < length last → lines (text_of all ++ last) ≡ all ++ last ∷ []
+pub lines-last : (all : List (List ℕ)) (last : List ℕ) → All (IsFreeOf 10) all → IsFreeOf 10 last → 0 < length last
+    → lines (text_of all ++ last) ≡ all ++ last ∷ []
 lines-last all last free last_free some =
     lines-text_of-append all last free ∙ ap (λ x. all ++ x) (lines_after-last [] last (omega arith) last_free)
 
 -- a word before a space, and the last word
-pieces_after-piece : (mark : ℕ) (read piece rest : List ℕ) → IsFreeOf mark piece → pieces_after mark read (piece ++ mark ∷ rest) ≡ (read ++ piece) ∷ pieces_after mark [] rest
+pieces_after-piece : (mark : ℕ) (read piece rest : List ℕ) → IsFreeOf mark piece
+    → pieces_after mark read (piece ++ mark ∷ rest) ≡ (read ++ piece) ∷ pieces_after mark [] rest
 pieces_after-piece mark read [] rest free =
-    ap (λ t. cond t (read ∷ pieces_after mark [] rest) (pieces_after mark (read ++ mark ∷ []) rest)) (eq-eqb mark mark refl)
+    ap (λ t. cond t (read ∷ pieces_after mark [] rest) (pieces_after mark (read ++ mark ∷ []) rest))
+    (eq-eqb mark mark refl)
     ∙ ap (λ x. x ∷ pieces_after mark [] rest) (sym (append-nil read))
 pieces_after-piece mark read (b ∷ piece) rest free =
-    ap (λ t. cond t (read ∷ pieces_after mark [] (piece ++ mark ∷ rest)) (pieces_after mark (read ++ b ∷ []) (piece ++ mark ∷ rest))) (ne_eqb b mark (IsFreeOf-head mark b piece free))
+    ap (λ t. cond t (read ∷ pieces_after mark [] (piece ++ mark ∷ rest))
+    (pieces_after mark (read ++ b ∷ []) (piece ++ mark ∷ rest))) (ne_eqb b mark (IsFreeOf-head mark b piece free))
     ∙ pieces_after-piece mark (read ++ b ∷ []) piece rest (IsFreeOf-tail mark b piece free)
     ∙ ap (λ x. x ∷ pieces_after mark [] rest) (append_assoc read (b ∷ []) piece)
 
-pieces_after-last : (mark : ℕ) (read piece : List ℕ) → IsFreeOf mark piece → pieces_after mark read piece ≡ (read ++ piece) ∷ []
+pieces_after-last : (mark : ℕ) (read piece : List ℕ) → IsFreeOf mark piece
+    → pieces_after mark read piece ≡ (read ++ piece) ∷ []
 pieces_after-last mark read [] free = ap (λ x. x ∷ []) (sym (append-nil read))
 pieces_after-last mark read (b ∷ piece) free =
-    ap (λ t. cond t (read ∷ pieces_after mark [] piece) (pieces_after mark (read ++ b ∷ []) piece)) (ne_eqb b mark (IsFreeOf-head mark b piece free))
+    ap (λ t. cond t (read ∷ pieces_after mark [] piece) (pieces_after mark (read ++ b ∷ []) piece))
+    (ne_eqb b mark (IsFreeOf-head mark b piece free))
     ∙ pieces_after-last mark (read ++ b ∷ []) piece (IsFreeOf-tail mark b piece free)
     ∙ ap (λ x. x ∷ []) (append_assoc read (b ∷ []) piece)
 
@@ -97,7 +108,8 @@ number-IsNumeral : (ds : List ℕ) → IsNumeral ds → number ds ≡ Some (digi
 number-IsNumeral [] is = absurd (omega (arith, is.some))
 number-IsNumeral (b ∷ bs) is =
     ap (λ t. cond t (Some (digits_value 10 (b ∷ bs))) None) (
-    and_from _ _ is.digits (no_leading_zero b (length bs) (eqb b 48) refl (λ e. let one : suc (length bs) ≡ 1 = is.zero_alone e in omega arith)))
+    and_from _ _ is.digits (no_leading_zero b (length bs) (eqb b 48) refl
+    (λ e. let one : suc (length bs) ≡ 1 = is.zero_alone e in omega arith)))
 
 decimal_zero_alone : (n : ℕ) → n < 2 ^ 64 → get_or (decimal n) 0 0 ≡ 48 → length (decimal n) ≡ 1
 decimal_zero_alone zero small e = ap length (decimal_digit 0 (omega arith))
@@ -105,7 +117,12 @@ decimal_zero_alone (suc n) small e = absurd (omega (arith, first_decimal (suc n)
 
 pub number-decimal : (n : ℕ) → n < 2 ^ 64 → number (decimal n) ≡ Some n
 number-decimal n small =
-    number-IsNumeral (decimal n) (record { some = decimal_nonempty n small; digits = digits_decimal numerals n small; zero_alone = decimal_zero_alone n small })
+    number-IsNumeral (decimal n) (record {
+      some = decimal_nonempty n small;
+      digits =
+          digits_decimal numerals n small;
+      zero_alone = decimal_zero_alone n small;
+    })
     ∙ ap Some (digits_value-decimal numerals n small)
 
 leading_zero_alone : (b n : ℕ) → (not (eqb b 48) || eqb n 0) ≡ true → b ≡ 48 → n ≡ 0
@@ -115,11 +132,20 @@ leading_zero_alone b n holds is =
       | inr none ↦ eqb-true n 0 none
     ]
 
-numeral_by_test : (b : ℕ) (bs : List ℕ) (n : ℕ) (t : Bool) → (all_ascii_digits (b ∷ bs) && (not (eqb b 48) || eqb (length bs) 0)) ≡ t → cond t (Some (digits_value 10 (b ∷ bs))) None ≡ Some n → IsNumeral (b ∷ bs) × (digits_value 10 (b ∷ bs) ≡ n)
+numeral_by_test : (b : ℕ) (bs : List ℕ) (n : ℕ) (t : Bool) →
+    (all_ascii_digits (b ∷ bs) && (not (eqb b 48) || eqb (length bs) 0)) ≡ t
+    → cond t (Some (digits_value 10 (b ∷ bs))) None ≡ Some n → IsNumeral (b ∷ bs) × (digits_value 10 (b ∷ bs) ≡ n)
 numeral_by_test b bs n false is e = absurd cc
 numeral_by_test b bs n true is e =
-    let parts = and_parts _ _ is in
-    (record { some = omega arith; digits = parts.0; zero_alone = λ zero. ap suc (leading_zero_alone b (length bs) parts.1 zero) }, cc)
+    let parts = and_parts _ _ is in (
+      record {
+        some = omega arith;
+        digits = parts.0;
+        zero_alone = λ zero. ap suc
+            (leading_zero_alone b (length bs) parts.1 zero);
+      },
+      cc,
+    )
 
 numeral_of_number : (word : List ℕ) (n : ℕ) → number word ≡ Some n → IsNumeral word × (digits_value 10 word ≡ n)
 numeral_of_number [] n e = absurd cc

@@ -58,7 +58,8 @@ ending s p = shares_text s p.counted ++ standing_text (standing s p)
 
 -- the whole answer
 abbrev pub answer : Inquiry → List ℕ
-answer q = budget_text q.setup ++ fates_text q.setup at_start q.runs ++ ending q.setup (after_all q.setup at_start q.runs)
+answer q = budget_text q.setup ++ fates_text q.setup at_start q.runs ++ ending q.setup
+    (after_all q.setup at_start q.runs)
 
 -- the answer to an input's bytes, or the number of the first line outside the form
 abbrev pub judged : List ℕ → Result (List ℕ) ℕ

@@ -42,7 +42,8 @@ search_line c d line = option_and_then (search_of c d) (keyword_numbers (codes "
 
 -- `run R K pass` or `run R K fail`: run R was at position K
 abbrev pub verdict_word : List ℕ → Option Verdict
-verdict_word w = if bytes_eq w (codes "pass") then Some Pass else (if bytes_eq w (codes "fail") then Some Fail else None)
+verdict_word w = if bytes_eq w (codes "pass") then Some Pass else
+    (if bytes_eq w (codes "fail") then Some Fail else None)
 
 -- A run's number is at most one greater than the greatest so far; where it is at most that, the line is a repeat.
 -- Its position is a suspect's

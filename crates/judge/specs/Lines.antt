@@ -16,4 +16,5 @@ next_number reader = reader.number
 abbrev pub GivesLine : Lines → Option Line → Lines → Type 0
 GivesLine old given new =
     MatchOption given ((lines_left old ≡ []) × (lines_left new ≡ []) × (next_number new ≡ next_number old))
-    (λ line. (lines_left old ≡ line.text.now ∷ lines_left new) × (line.number ≡ next_number old) × (next_number new ≡ next_number old + 1))
+    (λ line. (lines_left old ≡ line.text.now ∷ lines_left new) × (line.number ≡ next_number old) ×
+    (next_number new ≡ next_number old + 1))

@@ -6,7 +6,8 @@ use Rattle.std.specs.Str.Parse.{digits_value}
 -- the pieces of a text between the bytes `mark`, `piece` being what was read of the first
 abbrev pub pieces_after : ℕ → List ℕ → List ℕ → List (List ℕ)
 pieces_after mark piece [] = piece ∷ []
-pieces_after mark piece (b ∷ bs) = if b == mark then piece ∷ pieces_after mark [] bs else pieces_after mark (piece ++ b ∷ []) bs
+pieces_after mark piece (b ∷ bs) = if b == mark then piece ∷ pieces_after mark [] bs else pieces_after mark
+    (piece ++ b ∷ []) bs
 
 -- the words of a line: one space stands between two
 abbrev pub words : List ℕ → List (List ℕ)

@@ -3,8 +3,8 @@
 //!
 //! `specs/` says it whole, from bytes to bytes: lines, words and numbers (`Text`), the form of an input (`Form`), the
 //! fate of each run line (`Fates`) and the text of the answer (`Answer`), over the definitions of the inference in
-//! `weight_exact`. The code reads the input once and keeps a `posterior::Belief` in place of the runs; limits and lowest
-//! terms are those of `flake_rate`, and line feeds are found by `memchr`. The layer above may use [`judge`], whose
+//! `weight_exact`. The code reads the input once and keeps a `posterior::Belief` in place of the runs; limits are those
+//! of `flake_rate` and `weight_exact`, and line feeds are found by `memchr`. The layer above may use [`judge`], whose
 //! contract is that definition, and cite the laws over it ([`laws`]).
 #![tactic(auto)]
 
@@ -20,8 +20,6 @@ mod report;
 mod run_line;
 mod search;
 mod standing;
-#[cfg(test)]
-mod tests;
 mod trial;
 mod words;
 

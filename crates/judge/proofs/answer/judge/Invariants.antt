@@ -8,4 +8,5 @@ use Rattle.judge.proofs.answer.judge.Given as goal
 
 abbrev pub invariant-loop-line : goal.invariant-loop-line
 invariant-loop-line l =
-    (progress : Progress) × IsAt l.trial progress × GoesOn (judged l.input) (setup_in l.trial) (string_bytes l.output) progress (next_number l.line-iterator) (lines_left l.line-iterator)
+    (progress : Progress) × IsAt l.trial progress × GoesOn (judged l.input) (setup_in l.trial)
+    (string_bytes l.output) progress (next_number l.line-iterator) (lines_left l.line-iterator)

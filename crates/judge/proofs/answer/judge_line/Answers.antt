@@ -13,5 +13,11 @@ returns-clause-ok c = λ progress at.
     let reads : run_line (suspects (setup_in c.args.trial.now)) progress.greatest line ≡ Some run =
     ap (λ n. run_line n progress.greatest line) same_suspects
     ∙ ap (λ greatest. run_line c.suspects.result greatest line) (sym (c.greatest.ensures progress at))
-    ∙ sym c.parse.ensures ∙ c.in_ok-run.ensures.ok_part in
-    (run, reads, c.judge-fate.ensures.after progress at, c.in_ok-write_fate.ensures ∙ ap (λ fate. string_bytes c.args.output.now ++ fate_text run.number fate) (c.judge-fate.ensures.fate progress at))
+    ∙ sym c.parse.ensures ∙ c.in_ok-run.ensures.ok_part in (
+      run,
+      reads,
+      c.judge-fate.ensures.after progress at,
+      c.in_ok-write_fate.ensures
+          ∙ ap (λ fate. string_bytes c.args.output.now ++ fate_text run.number fate)
+          (c.judge-fate.ensures.fate progress at),
+    )

@@ -6,7 +6,8 @@ use Rattle.judge.proofs.lines.split_line.Goals as goal
 pub returns-in-Some-clause-lines : goal.returns-in-Some-clause-lines
 returns-in-Some-clause-lines c =
     let found = c.in-Some.ensures in
-    lines_at c.args.text.now c.in-Some.end found.0.high (eqb-true _ _ found.1) (λ k below e. found.0.before k (omega arith) below (eq-eqb _ _ e))
+    lines_at c.args.text.now c.in-Some.end found.0.high (eqb-true _ _ found.1)
+    (λ k below e. found.0.before k (omega arith) below (eq-eqb _ _ e))
 
 pub returns-in-None-clause-lines : goal.returns-in-None-clause-lines
 returns-in-None-clause-lines c =

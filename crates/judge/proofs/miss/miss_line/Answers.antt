@@ -18,4 +18,5 @@ miss_above c (d ∷ n ∷ ns) large = refl
 
 pub returns-in_err-c : goal.returns-in_err-c
 returns-in_err-c c =
-    rw (c.from_residual-in_err-c.ensures, ← c.in_ok-words.ensures) (sym (formed-lacks miss_of (record { empty = refl; large = miss_above }) c.in_err-c.ensures.none))
+    rw (c.from_residual-in_err-c.ensures, ← c.in_ok-words.ensures)
+    (sym (formed-lacks miss_of (record { empty = refl; large = miss_above }) c.in_err-c.ensures.none))

@@ -14,7 +14,8 @@ weights_after read others = option_and_then as_weights (option_map (λ ns. read 
 
 abbrev pub invariant-loop-word : goal.invariant-loop-word
 invariant-loop-word l = record {
-  same : option_and_then as_weights (numbers (words_left l.fn.words)) ≡ weights_after l.weights.items (numbers (words_left l.word-iterator));
+  same : option_and_then as_weights (numbers (words_left l.fn.words)) ≡ weights_after l.weights.items
+      (numbers (words_left l.word-iterator));
   each : list_all is_weight l.weights.items ≡ true;
   few : vec_len l.weights ≤ MAX_SUSPECTS;
 }
