@@ -1,10 +1,8 @@
-//! Tests of the crates of values, inference and rules, of what no clause says: each public call once with ample memory,
+//! Tests of the crates of values and of exact weights, of what no clause says: each public call once with ample memory,
 //! the limits of each value, numbers that were worked out by hand, and the texts of refusals. They stand here, since a
 //! crate with tests is proved twice. Nothing stands on this crate.
 #![tactic(auto)]
 
-#[cfg(test)]
-mod due_runs;
 #[cfg(test)]
 mod fractions;
 #[cfg(test)]
@@ -12,14 +10,8 @@ mod ids;
 #[cfg(test)]
 mod lists;
 #[cfg(test)]
-mod orders;
-#[cfg(test)]
-mod plans;
-#[cfg(test)]
 mod ranges;
 #[cfg(test)]
 mod values;
-#[cfg(test)]
-mod verifications;
 #[cfg(test)]
 mod weights;

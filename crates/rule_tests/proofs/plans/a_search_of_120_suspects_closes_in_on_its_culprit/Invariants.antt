@@ -1,4 +1,4 @@
-use Rattle.value_tests.proofs.plans.a_search_of_120_suspects_closes_in_on_its_culprit.Given as goal
+use Rattle.rule_tests.proofs.plans.a_search_of_120_suspects_closes_in_on_its_culprit.Given as goal
 
 abbrev pub ghosts-plan : goal.ghosts-plan
 ghosts-plan g a = record { name = a.blank.name; parts = a.blank.parts }

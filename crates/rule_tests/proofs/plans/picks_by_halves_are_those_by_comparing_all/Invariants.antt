@@ -1,4 +1,4 @@
-use Rattle.value_tests.proofs.plans.picks_by_halves_are_those_by_comparing_all.Given as goal
+use Rattle.rule_tests.proofs.plans.picks_by_halves_are_those_by_comparing_all.Given as goal
 
 abbrev pub ghosts-compare : goal.ghosts-compare
 ghosts-compare g a = record { name = a.blank.name; parts = a.blank.parts }

@@ -1,6 +1,6 @@
 use Rattle.std.proofs.Common.{◌-◌, ◌^◌, ◌<◌, arith}
 use Rattle.threshold_pick.specs.Sums.{suspects_in}
-use Rattle.value_tests.proofs.plans.picked.Goals as goal
+use Rattle.rule_tests.proofs.plans.picked.Goals as goal
 
 pub returns : goal.returns
 returns g c =
