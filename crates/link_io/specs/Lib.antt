@@ -1,5 +1,6 @@
 pub mod Counts
 pub mod FaultPlan
+pub mod MemClock
 pub mod MemSink
 pub mod MemSource
 pub mod Pieces

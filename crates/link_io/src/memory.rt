@@ -1,10 +1,12 @@
-//! Sources and sinks in memory, for tests and for runs that touch nothing outside. They tell their bytes, and fail at
-//! the calls that they are told to.
+//! Sources, sinks and a clock in memory, for tests and for runs that touch nothing outside. They tell their bytes and
+//! their moment; sources and sinks fail at the calls that they are told to.
 
 mod fault_plan;
+mod mem_clock;
 mod mem_sink;
 mod mem_source;
 mod pieces;
 
+pub use mem_clock::MemClock;
 pub use mem_sink::MemSink;
 pub use mem_source::MemSource;

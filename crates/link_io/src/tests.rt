@@ -3,8 +3,10 @@
 ghost use Rattle.std.specs.Prelude.{◌≤◌, IfOk, Some};
 
 use crate::{
-    InputSource, MemSink, MemSource, OutputSink, Put, PutFault, Sink, Source, Took, put_all,
+    Clock, InputSource, MemClock, MemSink, MemSource, OutputSink, Put, PutFault, Sink, Source,
+    SystemClock, Took, put_all,
 };
+use farm_types::{Moment, MomentFault};
 use std::alloc::{AllocError, Global};
 use std::io::{Error, ErrorKind, Read, Write};
 use std::test::Fail;
@@ -176,4 +178,21 @@ fn an_interrupted_write_is_made_again_and_an_error_is_counted(rt: HostRuntime) {
     // A writer that takes no byte of a piece has failed too.
     assert_eq!(rt; output.put(b"c"), Put::Failed);
     assert_eq!(rt; output.faults(), 2);
+}
+
+#[test]
+fn a_clock_in_memory_stands_still(rt: HostRuntime) -> Result<(), MomentFault> {
+    let clock = MemClock::at(Moment::of(100_000_000)?);
+    assert_eq!(rt; clock.now().ms(), 100_000_000);
+    assert_eq!(rt; clock.now().ms(), 100_000_000);
+    Ok(())
+}
+
+#[test]
+fn the_clock_of_the_machine_shows_this_century(rt: HostRuntime) {
+    let clock = SystemClock::new(&rt);
+    let now = clock.now();
+    // 2026-01-01 in UTC, and the last moment that there is.
+    assert!(rt; now.ms() >= 1_767_225_600_000);
+    assert!(rt; now.ms() < 4_102_444_800_000);
 }
