@@ -10,7 +10,8 @@ use Rattle.farm_disk.specs.Model.{synced, least, greatest, MayBeLeft, IsRun}
 
 -- lists that have one front agree at each index of it
 front-index : (n i : ℕ) (c d : List ℕ) → take n c ≡ take n d → i < n → get_or c i 0 ≡ get_or d i 0
-front-index n i c d same below = sym (get_or-take n c i 0 below) ∙ ap (λ (l : List ℕ). get_or l i 0) same ∙ get_or-take n d i 0 below
+front-index n i c d same below =
+    sym (get_or-take n c i 0 below) ∙ ap (λ (l : List ℕ). get_or l i 0) same ∙ get_or-take n d i 0 below
 
 front-length : (n : ℕ) (c d : List ℕ) → take n c ≡ take n d → min n (length c) ≡ min n (length d)
 front-length n c d same = sym (length-take n c) ∙ ap length same ∙ length-take n d
@@ -18,7 +19,8 @@ front-length n c d same = sym (length-take n c) ∙ ap length same ∙ length-ta
 back-index : (n i : ℕ) (c d : List ℕ) → drop n c ≡ drop n d → n ≤ i → get_or c i 0 ≡ get_or d i 0
 back-index n i c d same above =
     let at : n + (i - n) ≡ i = omega (arith, above) in
-    let here : get_or c (n + (i - n)) 0 ≡ get_or d (n + (i - n)) 0 = sym (get_or-drop n c (i - n) 0) ∙ ap (λ (l : List ℕ). get_or l (i - n) 0) same ∙ get_or-drop n d (i - n) 0 in
+    let here : get_or c (n + (i - n)) 0 ≡ get_or d (n + (i - n)) 0 =
+    sym (get_or-drop n c (i - n) 0) ∙ ap (λ (l : List ℕ). get_or l (i - n) 0) same ∙ get_or-drop n d (i - n) 0 in
     subst (λ (k : ℕ). get_or c k 0 ≡ get_or d k 0) at here
 
 back-length : (n : ℕ) (c d : List ℕ) → drop n c ≡ drop n d → length c - n ≡ length d - n
@@ -26,8 +28,16 @@ back-length n c d same = sym (length-drop n c) ∙ ap length same ∙ length-dro
 
 -- each image is allowed
 pub image-may_be_left : (steps : List Step) (c : List ℕ) → IsImage steps c → MayBeLeft steps c
-image-may_be_left [] c image = let size : length c ≡ 0 = ap length image in record { no_shorter = omega arith; no_longer = omega (arith, size); same = λ i within held untouched. absurd (omega (arith, within, size)) }
-image-may_be_left (still ∷ older) c image = let m = image-may_be_left older c image in record { no_shorter = m.no_shorter; no_longer = m.no_longer; same = m.same }
+image-may_be_left [] c image = let size : length c ≡ 0 = ap length image in record {
+  no_shorter = omega arith;
+  no_longer = omega (arith, size);
+  same = λ i within held untouched. absurd (omega (arith, within, size));
+}
+image-may_be_left (still ∷ older) c image = let m = image-may_be_left older c image in record {
+  no_shorter = m.no_shorter;
+  no_longer = m.no_longer;
+  same = m.same;
+}
 image-may_be_left (write at n ∷ older) c image =
     let d = image.0 in
     let m = image-may_be_left older d image.1 in
@@ -66,7 +76,11 @@ image-may_be_left (cut n ∷ older) c image =
     }
 image-may_be_left (sync bytes ∷ older) c image =
     let size : length c ≡ length bytes = ap length image in
-    record { no_shorter = omega (arith, size); no_longer = omega (arith, size); same = λ i within held untouched. ap (λ (l : List ℕ). get_or l i 0) image }
+    record {
+      no_shorter = omega (arith, size);
+      no_longer = omega (arith, size);
+      same = λ i within held untouched. ap (λ (l : List ℕ). get_or l i 0) image;
+    }
 
 -- the least size is no greater than the greatest
 pub least-le-greatest : (steps : List Step) → least steps ≤ greatest steps
@@ -92,24 +106,31 @@ pick-behind : (low high i x y : ℕ) → high ≤ i → pick low high i x y ≡ 
 unfolding pick
 pick-behind low high i x y behind = grind (arith, nat_tests, behind)
 
-same-front : (n : ℕ) (c d : List ℕ) → min n (length c) ≡ min n (length d) → ((i : ℕ) → i < n → i < length c → get_or c i 0 ≡ get_or d i 0) → take n c ≡ take n d
-same-front n c d size same = ext_get_or 0 (take n c) (take n d) (length-take n c ∙ size ∙ sym (length-take n d)) (λ i within.
+same-front : (n : ℕ) (c d : List ℕ) → min n (length c) ≡ min n (length d)
+    → ((i : ℕ) → i < n → i < length c → get_or c i 0 ≡ get_or d i 0) → take n c ≡ take n d
+same-front n c d size same =
+    ext_get_or 0 (take n c) (take n d) (length-take n c ∙ size ∙ sym (length-take n d)) (λ i within.
     let below : i < n = omega (arith, within, length-take n c) in
     let held : i < length c = omega (arith, within, length-take n c) in
     get_or-take n c i 0 below ∙ same i below held ∙ sym (get_or-take n d i 0 below))
 
-same-back : (n : ℕ) (c d : List ℕ) → length c - n ≡ length d - n → ((i : ℕ) → n ≤ i → i < length c → get_or c i 0 ≡ get_or d i 0) → drop n c ≡ drop n d
-same-back n c d size same = ext_get_or 0 (drop n c) (drop n d) (length-drop n c ∙ size ∙ sym (length-drop n d)) (λ i within.
-    get_or-drop n c i 0 ∙ same (n + i) (omega arith) (omega (arith, within, length-drop n c)) ∙ sym (get_or-drop n d i 0))
+same-back : (n : ℕ) (c d : List ℕ) → length c - n ≡ length d - n
+    → ((i : ℕ) → n ≤ i → i < length c → get_or c i 0 ≡ get_or d i 0) → drop n c ≡ drop n d
+same-back n c d size same =
+    ext_get_or 0 (drop n c) (drop n d) (length-drop n c ∙ size ∙ sym (length-drop n d)) (λ i within.
+    get_or-drop n c i 0 ∙ same (n + i) (omega arith) (omega (arith, within, length-drop n c))
+    ∙ sym (get_or-drop n d i 0))
 
 -- before the write there was an image that it tears to this one
-untorn : (at n : ℕ) (older : List Step) (c : List ℕ) → at ≤ greatest older → MayBeLeft (write at n ∷ older) c → (d : List ℕ) × MayBeLeft older d × Torn at n d c
+untorn : (at n : ℕ) (older : List Step) (c : List ℕ) → at ≤ greatest older → MayBeLeft (write at n ∷ older) c
+    → (d : List ℕ) × MayBeLeft older d × Torn at n d c
 untorn at n older c begins m =
     let size = min (length c) (greatest older) in
     let f : ℕ → ℕ = λ i. pick at (at + n) i (get_or (synced older) i 0) (get_or c i 0) in
     let d = map f (range_with_len 0 size) in
     let len : length d ≡ size = length-map-range_with_len f 0 size in
-    let at_index : (i : ℕ) → i < size → get_or d i 0 ≡ f i = λ i within. get_or-map-range_with_len f 0 size i i 0 within (omega arith) in
+    let at_index : (i : ℕ) → i < size → get_or d i 0 ≡ f i =
+    λ i within. get_or-map-range_with_len f 0 size i i 0 within (omega arith) in
     let low = least-le-greatest older in (
       d,
       record {
@@ -121,34 +142,40 @@ untorn at n older c begins m =
             at_index i here ∙ ⊎_elim
             (λ (below : i < at).
             pick-below at (at + n) i (get_or (synced older) i 0) (get_or c i 0) below
-            ∙ m.same i in_c held (λ t. ⊎_elim (λ (r : (at ≤ i) × (i < at + n)). absurd (omega (arith, r.0, below))) untouched t))
+            ∙ m.same i in_c held
+            (λ t. ⊎_elim (λ (r : (at ≤ i) × (i < at + n)). absurd (omega (arith, r.0, below))) untouched t))
             (λ (above : at ≤ i).
             ⊎_elim
             (λ (inside : i < at + n). pick-inside at (at + n) i (get_or (synced older) i 0) (get_or c i 0) above inside)
             (λ (behind : at + n ≤ i).
             pick-behind at (at + n) i (get_or (synced older) i 0) (get_or c i 0) behind
-            ∙ m.same i in_c held (λ t. ⊎_elim (λ (r : (at ≤ i) × (i < at + n)). absurd (omega (arith, r.1, behind))) untouched t))
+            ∙ m.same i in_c held
+            (λ t. ⊎_elim (λ (r : (at ≤ i) × (i < at + n)). absurd (omega (arith, r.1, behind))) untouched t))
             (cases_lt i (at + n)))
             (cases_lt i at);
       },
       record {
         before = same-front at c d (omega (arith, len, begins)) (λ i below within.
-            sym (at_index i (omega (arith, below, begins, within)) ∙ pick-below at (at + n) i (get_or (synced older) i 0) (get_or c i 0) below));
+            sym (at_index i (omega (arith, below, begins, within))
+            ∙ pick-below at (at + n) i (get_or (synced older) i 0) (get_or c i 0) below));
         after = same-back (at + n) c d (omega (arith, len, m.no_longer)) (λ i behind within.
-            sym (at_index i (omega (arith, behind, within, m.no_longer)) ∙ pick-behind at (at + n) i (get_or (synced older) i 0) (get_or c i 0) behind));
+            sym (at_index i (omega (arith, behind, within, m.no_longer))
+            ∙ pick-behind at (at + n) i (get_or (synced older) i 0) (get_or c i 0) behind));
         no_shorter = omega (arith, len);
         no_longer = omega (arith, len, m.no_longer);
       },
     )
 
 -- before the cut there was an image that it shortens to this one
-uncut : (n : ℕ) (older : List Step) (c : List ℕ) → MayBeLeft (cut n ∷ older) c → (d : List ℕ) × MayBeLeft older d × Shortened n d c
+uncut : (n : ℕ) (older : List Step) (c : List ℕ) → MayBeLeft (cut n ∷ older) c
+    → (d : List ℕ) × MayBeLeft older d × Shortened n d c
 uncut n older c m =
     let size = max (length c) (least older) in
     let f : ℕ → ℕ = λ i. pick 0 n i (get_or c i 0) (get_or (synced older) i 0) in
     let d = map f (range_with_len 0 size) in
     let len : length d ≡ size = length-map-range_with_len f 0 size in
-    let at_index : (i : ℕ) → i < size → get_or d i 0 ≡ f i = λ i within. get_or-map-range_with_len f 0 size i i 0 within (omega arith) in
+    let at_index : (i : ℕ) → i < size → get_or d i 0 ≡ f i =
+    λ i within. get_or-map-range_with_len f 0 size i i 0 within (omega arith) in
     let low = least-le-greatest older in (
       d,
       record {
@@ -159,13 +186,15 @@ uncut n older c m =
             at_index i here ∙ ⊎_elim
             (λ (below : i < n).
             pick-inside 0 n i (get_or c i 0) (get_or (synced older) i 0) (omega arith) below
-            ∙ m.same i (omega (arith, here, below, m.no_shorter)) held (λ t. ⊎_elim (λ (r : n ≤ i). absurd (omega (arith, r, below))) untouched t))
+            ∙ m.same i (omega (arith, here, below, m.no_shorter)) held
+            (λ t. ⊎_elim (λ (r : n ≤ i). absurd (omega (arith, r, below))) untouched t))
             (λ (behind : n ≤ i). pick-behind 0 n i (get_or c i 0) (get_or (synced older) i 0) behind)
             (cases_lt i n);
       },
       record {
         below = same-front n c d (omega (arith, len, m.no_shorter)) (λ i below within.
-            sym (at_index i (omega (arith, within)) ∙ pick-inside 0 n i (get_or c i 0) (get_or (synced older) i 0) (omega arith) below));
+            sym (at_index i (omega (arith, within))
+            ∙ pick-inside 0 n i (get_or c i 0) (get_or (synced older) i 0) (omega arith) below));
         no_longer = omega (arith, len);
       },
     )
@@ -177,7 +206,11 @@ may_be_left-image [] c run m = empty c m.no_longer
     empty : (c : List ℕ) → length c ≤ 0 → c ≡ []
     empty [] none = refl
     empty (x ∷ xs) none = absurd (omega (arith, none))
-may_be_left-image (still ∷ older) c run m = may_be_left-image older c run (record { no_shorter = m.no_shorter; no_longer = m.no_longer; same = m.same })
+may_be_left-image (still ∷ older) c run m = may_be_left-image older c run (record {
+  no_shorter = m.no_shorter;
+  no_longer = m.no_longer;
+  same = m.same;
+})
 may_be_left-image (write at n ∷ older) c run m =
     let from = untorn at n older c run.0 m in
     (from.0, may_be_left-image older from.0 run.1 from.1, from.2)

@@ -14,17 +14,22 @@ leaves-here [] P each = each
 leaves-here (step ∷ older) P each = (each, λ le. absurd (omega (arith, le)))
 
 -- a weaker fact
-pub leaves-weaker : (t : ℕ) (steps : List Step) (P Q : List ℕ → Type 0) → ((c : List ℕ) → P c → Q c) → LeavesSince t steps P → LeavesSince t steps Q
+pub leaves-weaker : (t : ℕ) (steps : List Step) (P Q : List ℕ → Type 0) → ((c : List ℕ) → P c → Q c)
+    → LeavesSince t steps P → LeavesSince t steps Q
 leaves-weaker t [] P Q weaker leaves = λ c image. weaker c (leaves c image)
-leaves-weaker t (step ∷ older) P Q weaker leaves = (λ c image. weaker c (leaves.0 c image), λ le. leaves-weaker t older P Q weaker (leaves.1 le))
+leaves-weaker t (step ∷ older) P Q weaker leaves =
+    (λ c image. weaker c (leaves.0 c image), λ le. leaves-weaker t older P Q weaker (leaves.1 le))
 
 -- a later start
-pub leaves-later : (t u : ℕ) (steps : List Step) (P : List ℕ → Type 0) → t ≤ u → LeavesSince t steps P → LeavesSince u steps P
+pub leaves-later : (t u : ℕ) (steps : List Step) (P : List ℕ → Type 0) → t ≤ u → LeavesSince t steps P
+    → LeavesSince u steps P
 leaves-later t u [] P later leaves = leaves
-leaves-later t u (step ∷ older) P later leaves = (leaves.0, λ le. leaves-later t u older P later (leaves.1 (omega (arith, later, le))))
+leaves-later t u (step ∷ older) P later leaves =
+    (leaves.0, λ le. leaves-later t u older P later (leaves.1 (omega (arith, later, le))))
 
 -- a run and then another one
-pub leaves-append : (t : ℕ) (more steps : List Step) (P : List ℕ → Type 0) → LeavesSince t steps P → LeavesSince (length steps) (more ++ steps) P → LeavesSince t (more ++ steps) P
+pub leaves-append : (t : ℕ) (more steps : List Step) (P : List ℕ → Type 0) → LeavesSince t steps P
+    → LeavesSince (length steps) (more ++ steps) P → LeavesSince t (more ++ steps) P
 leaves-append t [] steps P first then_ = first
 leaves-append t (step ∷ more) steps P first then_ = (
   then_.0,
@@ -36,7 +41,8 @@ pub leaves_only-start : (disk : DiskState) (P : List ℕ → Type 0) → EachIma
 leaves_only-start disk P each = record { since = []; extends = refl; each = leaves-here disk.steps P each }
 
 -- one call more
-pub leaves_only-step : (old mid new : DiskState) (P : List ℕ → Type 0) (step : Step) → LeavesOnly old mid P → new.steps ≡ step ∷ mid.steps → EachImage (step ∷ mid.steps) P → LeavesOnly old new P
+pub leaves_only-step : (old mid new : DiskState) (P : List ℕ → Type 0) (step : Step) → LeavesOnly old mid P
+    → new.steps ≡ step ∷ mid.steps → EachImage (step ∷ mid.steps) P → LeavesOnly old new P
 leaves_only-step old mid new P step so_far is each =
     let both : LeavesSince (moment old) (step ∷ mid.steps) P = (each, λ le. so_far.each) in
     record {
@@ -50,20 +56,27 @@ pub leaves_only-now : (old new : DiskState) (P : List ℕ → Type 0) → Leaves
 leaves_only-now old new P leaves = leaves-now (moment old) new.steps P leaves.each
 
 -- one call more, which changed nothing
-pub leaves_only-rested : (old mid new : DiskState) (P : List ℕ → Type 0) → LeavesOnly old mid P → new ≡ rested mid → LeavesOnly old new P
-leaves_only-rested old mid new P so_far is = leaves_only-step old mid new P still so_far (ap (λ (d : DiskState). d.steps) is) (leaves_only-now old mid P so_far)
+pub leaves_only-rested : (old mid new : DiskState) (P : List ℕ → Type 0) → LeavesOnly old mid P → new ≡ rested mid
+    → LeavesOnly old new P
+leaves_only-rested old mid new P so_far is =
+    leaves_only-step old mid new P still so_far (ap (λ (d : DiskState). d.steps) is) (leaves_only-now old mid P so_far)
 
 -- two runs
-pub leaves_only-trans : (old mid new : DiskState) (P : List ℕ → Type 0) → LeavesOnly old mid P → LeavesOnly mid new P → LeavesOnly old new P
+pub leaves_only-trans : (old mid new : DiskState) (P : List ℕ → Type 0) → LeavesOnly old mid P → LeavesOnly mid new P
+    → LeavesOnly old new P
 leaves_only-trans old mid new P first second =
-    let last : LeavesSince (moment mid) (second.since ++ mid.steps) P = subst (λ (l : List Step). LeavesSince (moment mid) l P) second.extends second.each in
+    let last : LeavesSince (moment mid) (second.since ++ mid.steps) P =
+    subst (λ (l : List Step). LeavesSince (moment mid) l P) second.extends second.each in
     record {
       since = second.since ++ first.since;
-      extends = second.extends ∙ ap (λ (l : List Step). second.since ++ l) first.extends ∙ sym (append_assoc second.since first.since old.steps);
-      each = subst (λ (l : List Step). LeavesSince (moment old) l P) (sym second.extends) (leaves-append (moment old) second.since mid.steps P first.each last);
+      extends = second.extends ∙ ap (λ (l : List Step). second.since ++ l) first.extends
+          ∙ sym (append_assoc second.since first.since old.steps);
+      each = subst (λ (l : List Step). LeavesSince (moment old) l P) (sym second.extends)
+          (leaves-append (moment old) second.since mid.steps P first.each last);
     }
 
-pub leaves_only-weaker : (old new : DiskState) (P Q : List ℕ → Type 0) → ((c : List ℕ) → P c → Q c) → LeavesOnly old new P → LeavesOnly old new Q
+pub leaves_only-weaker : (old new : DiskState) (P Q : List ℕ → Type 0) → ((c : List ℕ) → P c → Q c)
+    → LeavesOnly old new P → LeavesOnly old new Q
 leaves_only-weaker old new P Q weaker leaves = record {
   since = leaves.since;
   extends = leaves.extends;
@@ -71,7 +84,8 @@ leaves_only-weaker old new P Q weaker leaves = record {
 }
 
 -- what a write leaves of a disk whose one image is what a read gives
-pub torn-settled : (disk : DiskState) (at n : ℕ) → IsSettled disk → EachImage (write at n ∷ disk.steps) (λ c. Torn at n disk.bytes c)
+pub torn-settled : (disk : DiskState) (at n : ℕ) → IsSettled disk
+    → EachImage (write at n ∷ disk.steps) (λ c. Torn at n disk.bytes c)
 torn-settled disk at n settled = λ c image. subst (λ (d : List ℕ). Torn at n d c) (settled image.0 image.1) image.2
 
 -- after a sync that was done the one image is what a read gives
@@ -88,14 +102,19 @@ synced-le [] t held = absurd held
 synced-le (still ∷ older) t held = omega (arith, synced-le older t held)
 synced-le (write at n ∷ older) t held = omega (arith, synced-le older t held)
 synced-le (cut n ∷ older) t held = omega (arith, synced-le older t held)
-synced-le (sync bytes ∷ older) t held = ⊎_elim (λ (here : t ≡ length older + 1). omega (arith, here)) (λ (before : IsSyncedAt older t). omega (arith, synced-le older t before)) held
+synced-le (sync bytes ∷ older) t held =
+    ⊎_elim (λ (here : t ≡ length older + 1). omega (arith, here))
+    (λ (before : IsSyncedAt older t). omega (arith, synced-le older t before)) held
 
 -- a call that changed nothing is no sync
 pub since_sync-rested : (old new : DiskState) (P : List ℕ → Type 0) → new ≡ rested old → LeavesSinceSync old new P
-since_sync-rested old new P is = subst (λ (d : DiskState). LeavesSinceSync old d P) (sym is) (λ t later held. absurd (omega (arith, later, synced-le old.steps t held)))
+since_sync-rested old new P is =
+    subst (λ (d : DiskState). LeavesSinceSync old d P) (sym is)
+    (λ t later held. absurd (omega (arith, later, synced-le old.steps t held)))
 
 -- what holds since the moment after the first call
-pub since_sync-run : (old mid new : DiskState) (P : List ℕ → Type 0) → mid.steps ≡ sync old.bytes ∷ old.steps → LeavesOnly mid new P → LeavesSinceSync old new P
+pub since_sync-run : (old mid new : DiskState) (P : List ℕ → Type 0) → mid.steps ≡ sync old.bytes ∷ old.steps
+    → LeavesOnly mid new P → LeavesSinceSync old new P
 since_sync-run old mid new P is leaves t later held =
     let after : moment mid ≡ length old.steps + 1 = ap length is ∙ one_more (length old.steps) in
     leaves-later (moment mid) t new.steps P (omega (arith, after, later)) leaves.each

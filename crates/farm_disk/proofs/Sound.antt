@@ -1,5 +1,5 @@
 -- What a read gives is one of the images.
-use Rattle.std.proofs.Common.{◌≡◌, ℕ, ◌+◌, ◌-◌, ◌≤◌, List, [], ◌∷◌, ◌++◌, length, take, drop, refl, sym, ◌∙◌, ap, subst, arith, append_assoc, length-append, length-drop}
+use Rattle.std.proofs.Common.{◌≡◌, ℕ, ◌+◌, ◌-◌, ◌≤◌, List, [], ◌∷◌, ◌++◌, length, take, drop, refl, sym, ◌∙◌, ap, subst, arith, append_assoc, length-append, length-drop, drop-drop}
 use Rattle.std.proofs.lemmas.List.{take_at, take_all, take-take, drop_at, length-take}
 use Rattle.farm_disk.specs.Images.{Step, still, write, cut, sync, Torn, Shortened, IsImage, overwritten}
 use Rattle.farm_disk.specs.Model.{IsRun, CallsKeepSound, SomeImage, greatest}
@@ -9,14 +9,39 @@ pub torn_whole : (at : ℕ) (bytes old : List ℕ) → at ≤ length old → Tor
 torn_whole at bytes old within =
     let rest = drop (at + length bytes) old in
     let front : length (take at old) ≡ at = omega (arith, length-take at old, within) in
-    let both : length (take at old ++ bytes) ≡ at + length bytes = omega (arith, front, length-append (take at old) bytes) in
-    let size : length (overwritten at bytes old) ≡ at + length bytes + (length old - (at + length bytes)) = omega (arith, both, length-append (take at old ++ bytes) rest, length-drop (at + length bytes) old) in
+    let both : length (take at old ++ bytes) ≡ at + length bytes =
+    omega (arith, front, length-append (take at old) bytes) in
+    let size : length (overwritten at bytes old) ≡ at + length bytes + (length old - (at + length bytes)) =
+    omega (arith, both, length-append (take at old ++ bytes) rest, length-drop (at + length bytes) old) in
     record {
-      before = ap (λ (l : List ℕ). take at l) (append_assoc (take at old) bytes rest) ∙ take_at (take at old) (bytes ++ rest) at front;
+      before = ap (λ (l : List ℕ). take at l) (append_assoc (take at old) bytes rest)
+          ∙ take_at (take at old) (bytes ++ rest) at front;
       after = drop_at (take at old ++ bytes) rest (at + length bytes) both;
       no_shorter = omega (arith, size);
       no_longer = omega (arith, size, within);
     }
+
+-- so is one of which only a front went through
+pub torn_part : (at n : ℕ) (bytes old : List ℕ) → at ≤ length old → length bytes ≤ n
+    → Torn at n old (overwritten at bytes old)
+torn_part at n bytes old within part =
+    let whole = torn_whole at bytes old within in
+    let left = n - length bytes in
+    let behind : (l : List ℕ) → drop left (drop (at + length bytes) l) ≡ drop (at + n) l =
+    λ l. drop-drop left (at + length bytes) l ∙ ap (λ (k : ℕ). drop k l) (omega (arith, part)) in
+    record {
+      before = whole.before;
+      after = sym (behind (overwritten at bytes old)) ∙ ap (λ (l : List ℕ). drop left l) whole.after ∙ behind old;
+      no_shorter = whole.no_shorter;
+      no_longer = omega (arith, whole.no_longer, part);
+    }
+
+-- a cut to a size, or to more
+pub shortened : (n size : ℕ) (old : List ℕ) → n ≤ size → Shortened n old (take size old)
+shortened n size old above = record {
+  below = take-take n size old above;
+  no_longer = omega (arith, length-take size old);
+}
 
 pub calls-keep-sound : CallsKeepSound
 calls-keep-sound = record {
@@ -31,7 +56,8 @@ calls-keep-sound = record {
       };
   fails_write = λ old new at n within failed sound.
       let run : IsRun (write at n ∷ old.steps) = (omega (arith, within, sound.size), sound.run) in
-      let size : length new.bytes ≤ greatest (write at n ∷ old.steps) = omega (arith, failed.bytes.no_longer, sound.size) in
+      let size : length new.bytes ≤ greatest (write at n ∷ old.steps) =
+      omega (arith, failed.bytes.no_longer, sound.size) in
       let image : IsImage (write at n ∷ old.steps) new.bytes = (old.bytes, sound.image, failed.bytes) in
       record {
         run = subst (λ (s : List Step). IsRun s) (sym failed.steps) run;
@@ -39,14 +65,18 @@ calls-keep-sound = record {
         image = subst (λ (s : List Step). IsImage s new.bytes) (sym failed.steps) image;
       };
   cuts = λ disk n sound.
-      let short : Shortened n disk.bytes (take n disk.bytes) = record { below = take_twice n disk.bytes; no_longer = omega (arith, length-take n disk.bytes) } in
+      let short : Shortened n disk.bytes (take n disk.bytes) = record {
+        below = take_twice n disk.bytes;
+        no_longer = omega (arith, length-take n disk.bytes);
+      } in
       record {
         run = sound.run;
         size = omega (arith, length-take n disk.bytes, sound.size);
         image = (disk.bytes, sound.image, short);
       };
   fails_cut = λ old new n failed sound.
-      let length_is : length new.bytes ≡ failed.size = ap length failed.bytes ∙ length-take failed.size old.bytes ∙ omega (arith, failed.most) in
+      let length_is : length new.bytes ≡ failed.size =
+      ap length failed.bytes ∙ length-take failed.size old.bytes ∙ omega (arith, failed.most) in
       let short : Shortened n old.bytes new.bytes = record {
         below = ap (λ (l : List ℕ). take n l) failed.bytes ∙ take-take n failed.size old.bytes failed.least;
         no_longer = omega (arith, length_is, failed.most);
@@ -69,8 +99,19 @@ pub some-image : SomeImage
 some-image [] = ([], refl)
 some-image (still ∷ older) = some-image older
 some-image (write at n ∷ older) =
-    let before = some-image older in
-    (before.0, (before.0, before.1, record { before = refl; after = refl; no_shorter = omega arith; no_longer = omega arith }))
+    let before = some-image older in (
+      before.0,
+      (
+        before.0,
+        before.1,
+        record {
+          before = refl;
+          after = refl;
+          no_shorter = omega arith;
+          no_longer = omega arith;
+        },
+      ),
+    )
 some-image (cut n ∷ older) =
     let before = some-image older in
     (before.0, (before.0, before.1, record { below = refl; no_longer = omega arith }))

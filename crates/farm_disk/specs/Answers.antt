@@ -14,7 +14,10 @@ rested disk = record disk { steps = still ∷ disk.steps }
 
 -- a write was done
 abbrev pub after_write : ℕ → List ℕ → DiskState → DiskState
-after_write at bytes disk = record { bytes = overwritten at bytes disk.bytes; steps = write at (length bytes) ∷ disk.steps }
+after_write at bytes disk = record {
+  bytes = overwritten at bytes disk.bytes;
+  steps = write at (length bytes) ∷ disk.steps;
+}
 
 -- a cut was done
 abbrev pub after_cut : ℕ → DiskState → DiskState

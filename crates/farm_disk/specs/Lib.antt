@@ -1,4 +1,5 @@
 pub mod Answers
+pub mod CalmDiskKept
 pub mod Certain
 pub mod DiskFault
 pub mod Images

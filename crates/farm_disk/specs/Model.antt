@@ -41,7 +41,8 @@ greatest (sync bytes ∷ older) = length bytes
 pub record MayBeLeft (steps : List Step) (c : List ℕ) : Type 0 where
   pub no_shorter : least steps ≤ length c
   pub no_longer : length c ≤ greatest steps
-  pub same : (i : ℕ) → i < length c → i < length (synced steps) → (IsTouched steps i → ⊥) → slice_index c i ≡ slice_index (synced steps) i
+  pub same : (i : ℕ) → i < length c → i < length (synced steps) → (IsTouched steps i → ⊥)
+      → slice_index c i ≡ slice_index (synced steps) i
 
 -- no write began past the greatest size
 abbrev pub IsRun : List Step → Type 0
@@ -72,8 +73,10 @@ pub record IsSound (disk : DiskState) : Type 0 where
 pub record CallsKeepSound : Type 0 where
   pub fresh : (bytes : List ℕ) → IsSound (record { bytes = bytes; steps = sync bytes ∷ [] })
   pub rests : (disk : DiskState) → IsSound disk → IsSound (rested disk)
-  pub writes : (disk : DiskState) (at : ℕ) (bytes : List ℕ) → at ≤ length disk.bytes → IsSound disk → IsSound (after_write at bytes disk)
-  pub fails_write : (old new : DiskState) (at n : ℕ) → at ≤ length old.bytes → FailedWrite at n old new → IsSound old → IsSound new
+  pub writes : (disk : DiskState) (at : ℕ) (bytes : List ℕ) → at ≤ length disk.bytes → IsSound disk
+      → IsSound (after_write at bytes disk)
+  pub fails_write : (old new : DiskState) (at n : ℕ) → at ≤ length old.bytes → FailedWrite at n old new → IsSound old
+      → IsSound new
   pub cuts : (disk : DiskState) (n : ℕ) → IsSound disk → IsSound (after_cut n disk)
   pub fails_cut : (old new : DiskState) (n : ℕ) → FailedCut n old new → IsSound old → IsSound new
   pub syncs : (disk : DiskState) → IsSound disk → IsSound (after_sync disk)

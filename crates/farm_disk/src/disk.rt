@@ -2,6 +2,7 @@
 ghost use Rattle.std.specs.Prelude.{◌≡◌, ◌≤◌, ◌+◌, ℕ, Bool, true, length, take, drop};
 ghost use Rattle.told_list.specs.Counts.{Rose};
 ghost use Rattle.farm_disk.specs.Images.{DiskState};
+ghost use Rattle.farm_disk.specs.Model.{IsSound};
 ghost use Rattle.farm_disk.specs.Answers.{
   rested,
   Writes,
@@ -69,6 +70,8 @@ pub trait Disk {
     /// How many bytes it holds.
     fn size(&mut self) -> Size
         ensures same { tells self.new ≡ tells self.old }
+        // What a read gives is one of the images that a crash may leave.
+        ensures sound { tells self.old ≡ true → IsSound (told self.old) }
         ensures size { tells self.old ≡ true → IfSize result (λ n. n ≡ length (told self.old).bytes) }
         ensures still { tells self.old ≡ true → told self.new ≡ rested (told self.old) }
         ensures cause { OnSizeFailed result (Rose (count self.old) (count self.new)) }
@@ -78,6 +81,7 @@ pub trait Disk {
     fn read(&mut self, at: u64, buf: &mut [u8]) -> Did
         requires { tells self.old ≡ true → at + length buf.old ≤ length (told self.old).bytes }
         ensures same { tells self.new ≡ tells self.old }
+        ensures sound { tells self.old ≡ true → IsSound (told self.old) }
         ensures bytes { tells self.old ≡ true
             → OnDid result (buf.new ≡ take (length buf.old) (drop at (told self.old).bytes)) }
         ensures still { tells self.old ≡ true → told self.new ≡ rested (told self.old) }

@@ -10,7 +10,8 @@
 //! - `FileDisk`, over a file of the system: the trusted edge, since no contract says what a real file keeps;
 //! - `laws`, on what the definitions come to.
 //!
-//! Clauses above cite `specs/` (`Images`, `Answers`), and proofs above the lemmas of `proofs/Moments` and `proofs/Sound`.
+//! Clauses above cite `specs/` (`Images`, `Answers`), and proofs above the lemmas of `proofs/Moments` and
+//! `proofs/Sound`.
 #![tactic(auto)]
 
 mod call;

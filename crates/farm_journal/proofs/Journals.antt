@@ -24,42 +24,58 @@ err-is e f same =
     let answer : DiskFault → Result (Unit {0}) DiskFault = λ x. Err x in
     ap answer same
 
-module _ {D : Type 0} (tells : D → Bool) (told : D → DiskState) (d e : D) (same : d ≡ e) (ps qs : List (List ℕ)) (is : ps ≡ qs) (v gate : ℕ) (p : List ℕ) where
+module _ {D : Type 0} (tells : D → Bool) (told : D → DiskState) (d e : D) (same : d ≡ e) (ps qs : List (List ℕ))
+    (is : ps ≡ qs) (v gate : ℕ) (p : List ℕ) where
   -- the images of each moment of a call
-  pub any-moment : (now : DiskState) → (tells d ≡ true → Rests v ps gate (told d)) → (tells d ≡ true → (rs : List (List ℕ)) → Rests v rs gate (told d) → LeavesOnly (told d) now (IsEither 1 rs gate p)) → tells e ≡ true → LeavesOnly (told e) now (IsBeforeOrAfter qs p)
+  pub any-moment : (now : DiskState) → (tells d ≡ true → Rests v ps gate (told d))
+      → (tells d ≡ true → (rs : List (List ℕ)) → Rests v rs gate (told d)
+      → LeavesOnly (told d) now (IsEither 1 rs gate p)) → tells e ≡ true
+      → LeavesOnly (told e) now (IsBeforeOrAfter qs p)
   any-moment now rests leaves = subst (λ (x : D). tells x ≡ true → LeavesOnly (told x) now (IsBeforeOrAfter qs p)) same
-      (λ t. subst (λ (l : List (List ℕ)). LeavesOnly (told d) now (IsBeforeOrAfter l p)) is (leaves-public 1 ps gate p (told d) now (leaves t ps (rests t))))
+      (λ t. subst (λ (l : List (List ℕ)). LeavesOnly (told d) now (IsBeforeOrAfter l p)) is
+      (leaves-public 1 ps gate p (told d) now (leaves t ps (rests t))))
 
   -- before the first call
-  pub no-moment : (tells d ≡ true → Rests v ps gate (told d)) → tells e ≡ true → LeavesOnly (told e) (told e) (IsBeforeOrAfter qs p)
+  pub no-moment : (tells d ≡ true → Rests v ps gate (told d)) → tells e ≡ true
+      → LeavesOnly (told e) (told e) (IsBeforeOrAfter qs p)
   no-moment rests = subst (λ (x : D). tells x ≡ true → LeavesOnly (told x) (told x) (IsBeforeOrAfter qs p)) same
-      (λ t. subst (λ (l : List (List ℕ)). LeavesOnly (told d) (told d) (IsBeforeOrAfter l p)) is (leaves-public v ps gate p (told d) (told d) (started v ps gate p (told d) (rests t)).images))
+      (λ t. subst (λ (l : List (List ℕ)). LeavesOnly (told d) (told d) (IsBeforeOrAfter l p)) is
+      (leaves-public v ps gate p (told d) (told d) (started v ps gate p (told d) (rests t)).images))
 
   -- what is held still
   pub still-held : (w : ℕ) (now : DiskState) → (tells d ≡ true → Rests w ps gate now) → tells e ≡ true → IsHeld qs now
-  still-held w now rests = subst (λ (x : D). tells x ≡ true → IsHeld qs now) same (λ t. subst (λ (l : List (List ℕ)). IsHeld l now) is (rests-public w ps gate now (rests t)))
+  still-held w now rests =
+      subst (λ (x : D). tells x ≡ true → IsHeld qs now) same
+      (λ t. subst (λ (l : List (List ℕ)). IsHeld l now) is (rests-public w ps gate now (rests t)))
 
   -- what is held before a call
   pub now-held : (tells d ≡ true → Rests v ps gate (told d)) → tells e ≡ true → IsHeld qs (told e)
-  now-held rests = subst (λ (x : D). tells x ≡ true → IsHeld qs (told x)) same (λ t. subst (λ (l : List (List ℕ)). IsHeld l (told d)) is (rests-public v ps gate (told d) (rests t)))
+  now-held rests =
+      subst (λ (x : D). tells x ≡ true → IsHeld qs (told x)) same
+      (λ t. subst (λ (l : List (List ℕ)). IsHeld l (told d)) is (rests-public v ps gate (told d) (rests t)))
 
   -- what is held with the new payload
-  pub held-more : (gate' : ℕ) (now : DiskState) → (tells d ≡ true → Rests 2 (ps ++ p ∷ []) gate' now) → tells e ≡ true → IsHeld (qs ++ p ∷ []) now
+  pub held-more : (gate' : ℕ) (now : DiskState) → (tells d ≡ true → Rests 2 (ps ++ p ∷ []) gate' now) → tells e ≡ true
+      → IsHeld (qs ++ p ∷ []) now
   held-more gate' now rests = subst (λ (x : D). tells x ≡ true → IsHeld (qs ++ p ∷ []) now) same
-      (λ t. subst (λ (l : List (List ℕ)). IsHeld (l ++ p ∷ []) now) is (rests-public 2 (ps ++ p ∷ []) gate' now (rests t)))
+      (λ t. subst (λ (l : List (List ℕ)). IsHeld (l ++ p ∷ []) now) is
+      (rests-public 2 (ps ++ p ∷ []) gate' now (rests t)))
 
   -- what is pending
-  pub now-pending : (w : ℕ) (now : DiskState) → (tells d ≡ true → Waits w ps gate p now) → tells e ≡ true → IsPending qs p now
+  pub now-pending : (w : ℕ) (now : DiskState) → (tells d ≡ true → Waits w ps gate p now) → tells e ≡ true
+      → IsPending qs p now
   now-pending w now waits = subst (λ (x : D). tells x ≡ true → IsPending qs p now) same
       (λ t. subst (λ (l : List (List ℕ)). IsPending l p now) is (waits-public w ps gate p now (waits t)))
 
 -- the invariant after an append
-pub kept-appended : {D : Type 0} (tells : D → Bool) (told : D → DiskState) (d e : D) (past past' : List (List ℕ)) (copy p : List ℕ) (pending : Option (List ℕ)) (gate v w : ℕ)
+pub kept-appended : {D : Type 0} (tells : D → Bool) (told : D → DiskState) (d e : D) (past past' : List (List ℕ))
+    (copy p : List ℕ) (pending : Option (List ℕ)) (gate v w : ℕ)
     → past' ≡ copy ∷ past → copy ≡ p → pending ≡ None → gate ≡ gate_of (in_order past) → tells e ≡ tells d → w ≡ 2
     → (tells d ≡ true → Rests 2 (in_order past ++ p ∷ []) (gate + 5 + length p) (told e))
     → IsKept tells told (in_order past') pending (gate + (5 + length p)) w e
 kept-appended tells told d e past past' copy p pending gate v w told_is copied idle gate_is same two rests =
-    let ps : in_order past ++ p ∷ [] ≡ in_order past' = sym (ap in_order told_is ∙ ap (λ (q : List ℕ). in_order past ++ q ∷ []) copied) in
+    let ps : in_order past ++ p ∷ [] ≡ in_order past' =
+    sym (ap in_order told_is ∙ ap (λ (q : List ℕ). in_order past ++ q ∷ []) copied) in
     let at : gate + 5 + length p ≡ gate + (5 + length p) = omega arith in
     record {
       gate_is = sum gate_is (gate_of-push (in_order past) p) ∙ ap gate_of ps;
@@ -71,12 +87,15 @@ kept-appended tells told d e past past' copy p pending gate v w told_is copied i
       fits = λ q some. absurd (none-some pending q idle some);
     }
   where
-    sum : gate ≡ gate_of (in_order past) → gate_of (in_order past ++ p ∷ []) ≡ gate_of (in_order past) + 5 + length p → gate + (5 + length p) ≡ gate_of (in_order past ++ p ∷ [])
+    sum : gate ≡ gate_of (in_order past) → gate_of (in_order past ++ p ∷ []) ≡ gate_of (in_order past) + 5 + length p
+        → gate + (5 + length p) ≡ gate_of (in_order past ++ p ∷ [])
     sum here more = omega (arith, here, more)
 
 -- the invariant after want of memory
-pub kept-same : {D : Type 0} (tells : D → Bool) (told : D → DiskState) (d e : D) (ps : List (List ℕ)) (pending : Option (List ℕ)) (gate w : ℕ)
-    → pending ≡ None → gate ≡ gate_of ps → tells e ≡ tells d → (tells d ≡ true → Rests w ps gate (told e)) → IsKept tells told ps pending gate w e
+pub kept-same : {D : Type 0} (tells : D → Bool) (told : D → DiskState) (d e : D) (ps : List (List ℕ))
+    (pending : Option (List ℕ)) (gate w : ℕ)
+    → pending ≡ None → gate ≡ gate_of ps → tells e ≡ tells d → (tells d ≡ true → Rests w ps gate (told e))
+    → IsKept tells told ps pending gate w e
 kept-same tells told d e ps pending gate w idle gate_is same rests = record {
   gate_is = gate_is;
   rests = λ none t. rests (sym same ∙ t);
@@ -85,7 +104,8 @@ kept-same tells told d e ps pending gate w idle gate_is same rests = record {
 }
 
 -- the invariant after a repair that found the payload kept
-pub kept-kept : {D : Type 0} (tells : D → Bool) (told : D → DiskState) (d e : D) (past past' : List (List ℕ)) (p : List ℕ) (none : Option (List ℕ)) (gate : ℕ)
+pub kept-kept : {D : Type 0} (tells : D → Bool) (told : D → DiskState) (d e : D) (past past' : List (List ℕ))
+    (p : List ℕ) (none : Option (List ℕ)) (gate : ℕ)
     → past' ≡ p ∷ past → none ≡ None → gate ≡ gate_of (in_order past) → tells e ≡ tells d
     → (tells d ≡ true → Rests 2 (in_order past ++ p ∷ []) (gate + 5 + length p) (told e))
     → IsKept tells told (in_order past') none (gate + (5 + length p)) 2 e
@@ -98,9 +118,11 @@ some-value None is = let no : ⊥ = cc in absurd no
 some-value (Some p) is = (p, refl)
 
 -- the invariant after a repair that failed
-pub kept-waiting : {D : Type 0} (tells : D → Bool) (told : D → DiskState) (d e : D) (ps : List (List ℕ)) (pending : Option (List ℕ)) (gate v : ℕ)
+pub kept-waiting : {D : Type 0} (tells : D → Bool) (told : D → DiskState) (d e : D) (ps : List (List ℕ))
+    (pending : Option (List ℕ)) (gate v : ℕ)
     → IsSome pending → IsKept tells told ps pending gate v d → tells e ≡ tells d
-    → (tells d ≡ true → (p : List ℕ) → Waits v ps gate p (told d) → Waits v ps gate p (told e)) → IsKept tells told ps pending gate v e
+    → (tells d ≡ true → (p : List ℕ) → Waits v ps gate p (told d) → Waits v ps gate p (told e))
+    → IsKept tells told ps pending gate v e
 kept-waiting tells told d e ps pending gate v is kept same waits =
     let some = some-value pending is in
     record {
@@ -110,21 +132,28 @@ kept-waiting tells told d e ps pending gate v is kept same waits =
       fits = kept.fits;
     }
 
-module _ {D : Type 0} (tells : D → Bool) (told : D → DiskState) (d e : D) (same : d ≡ e) (ps qs : List (List ℕ)) (is : ps ≡ qs) (v gate : ℕ) (p : List ℕ) (waits : tells d ≡ true → Waits v ps gate p (told d)) where
+module _ {D : Type 0} (tells : D → Bool) (told : D → DiskState) (d e : D) (same : d ≡ e) (ps qs : List (List ℕ))
+    (is : ps ≡ qs) (v gate : ℕ) (p : List ℕ) (waits : tells d ≡ true → Waits v ps gate p (told d)) where
   -- the images of each moment of a repair
-  pub mend-moment : (now : DiskState) → (tells d ≡ true → Waits v ps gate p (told d) → LeavesOnly (told d) now (IsEither v ps gate p)) → tells e ≡ true → LeavesOnly (told e) now (IsBeforeOrAfter qs p)
+  pub mend-moment : (now : DiskState)
+      → (tells d ≡ true → Waits v ps gate p (told d) → LeavesOnly (told d) now (IsEither v ps gate p)) → tells e ≡ true
+      → LeavesOnly (told e) now (IsBeforeOrAfter qs p)
   mend-moment now leaves = subst (λ (x : D). tells x ≡ true → LeavesOnly (told x) now (IsBeforeOrAfter qs p)) same
-      (λ t. subst (λ (l : List (List ℕ)). LeavesOnly (told d) now (IsBeforeOrAfter l p)) is (leaves-public v ps gate p (told d) now (leaves t (waits t))))
+      (λ t. subst (λ (l : List (List ℕ)). LeavesOnly (told d) now (IsBeforeOrAfter l p)) is
+      (leaves-public v ps gate p (told d) now (leaves t (waits t))))
 
   -- what waits still
-  pub still-waits : (now : DiskState) → (tells d ≡ true → Waits v ps gate p (told d) → Waits v ps gate p now) → tells e ≡ true → IsPending qs p now
+  pub still-waits : (now : DiskState) → (tells d ≡ true → Waits v ps gate p (told d) → Waits v ps gate p now)
+      → tells e ≡ true → IsPending qs p now
   still-waits now still = subst (λ (x : D). tells x ≡ true → IsPending qs p now) same
       (λ t. subst (λ (l : List (List ℕ)). IsPending l p now) is (waits-public v ps gate p now (still t (waits t))))
 
 -- the invariant of a journal that was opened
-pub kept-opened : {D : Type 0} (tells : D → Bool) (told : D → DiskState) (e : D) (bytes : List ℕ) (ps past : List (List ℕ)) (none : Option (List ℕ)) (gate version : ℕ)
+pub kept-opened : {D : Type 0} (tells : D → Bool) (told : D → DiskState) (e : D) (bytes : List ℕ)
+    (ps past : List (List ℕ)) (none : Option (List ℕ)) (gate version : ℕ)
     → none ≡ None → in_order past ≡ ps → gate ≡ gate_of ps → version ≡ version_of bytes
-    → (tells e ≡ true → opens bytes ≡ holds ps) → (tells e ≡ true → (told e).bytes ≡ bytes) → (tells e ≡ true → IsSettled (told e))
+    → (tells e ≡ true → opens bytes ≡ holds ps) → (tells e ≡ true → (told e).bytes ≡ bytes)
+    → (tells e ≡ true → IsSettled (told e))
     → IsKept tells told (in_order past) none gate version e
 kept-opened tells told e bytes ps past none gate version idle order gate_is version_is opened same settled = record {
   gate_is = gate_is ∙ ap gate_of (sym order);
@@ -158,4 +187,5 @@ answered fresh = Ok fresh
 pub created-held : (new : DiskState) (fresh : Bool) (p q : List ℕ) → fresh ≡ true → p ≡ q
     → (answered fresh ≡ answered true → Rests 2 (p ∷ []) (gate_of (p ∷ [])) new) → IsHeld (q ∷ []) new
 created-held new fresh p q is same rests =
-    subst (λ (l : List ℕ). IsHeld (l ∷ []) new) same (rests-public 2 (p ∷ []) (gate_of (p ∷ [])) new (rests (ap answered is)))
+    subst (λ (l : List ℕ). IsHeld (l ∷ []) new) same
+    (rests-public 2 (p ∷ []) (gate_of (p ∷ [])) new (rests (ap answered is)))

@@ -1,5 +1,6 @@
 pub mod Births
 pub mod Bytes
+pub mod Damages
 pub mod Journals
 pub mod Once
 pub mod Openings

@@ -1,18 +1,20 @@
 -- What each step of opening leaves.
-use Rattle.std.proofs.Common.{◌≡◌, ◌<◌, ◌≤◌, ℕ, List, ◌∷◌, length, Result, Ok, Err, refl, sym, ◌∙◌, ap, subst}
-use Rattle.farm_disk.specs.Images.{DiskState, Step, still, sync, IsSyncedAt, LeavesSince, LeavesOnly, LeavesSinceSync, IsSettled, moment}
-use Rattle.farm_disk.specs.Answers.{rested, after_sync}
+use Rattle.std.proofs.Common.{◌≡◌, ℕ, List, ◌∷◌, Result, Ok, Err, sym, ◌∙◌, ap, subst}
+use Rattle.farm_disk.specs.Images.{DiskState, sync, LeavesSinceSync, IsSettled}
+use Rattle.farm_disk.specs.Answers.{rested}
 use Rattle.farm_disk.proofs.Moments.{leaves-now, leaves_only-start, leaves_only-step, leaves_only-rested, since_sync-rested, since_sync-run, settled-sync}
 use Rattle.farm_journal.specs.ReadsOnly.{ReadsOnly}
 use Rattle.farm_journal.specs.Outcome.{SyncEnds}
 use Rattle.farm_journal.specs.declared.disk_calls.DiskFault.{DiskFault}
 
 -- a call that changed nothing, later
-since_sync-still : (old mid new : DiskState) (P : List ℕ → Type 0) → LeavesSinceSync old mid P → new ≡ rested mid → LeavesSinceSync old new P
+since_sync-still : (old mid new : DiskState) (P : List ℕ → Type 0) → LeavesSinceSync old mid P → new ≡ rested mid
+    → LeavesSinceSync old new P
 since_sync-still old mid new P leaves is = subst (λ (d : DiskState). LeavesSinceSync old d P) (sym is) more
   where
     more : LeavesSinceSync old (rested mid) P
-    more t later held = let before = leaves t later held in (λ c image. leaves-now t mid.steps P before c image, λ le. before)
+    more t later held =
+        let before = leaves t later held in (λ c image. leaves-now t mid.steps P before c image, λ le. before)
 
 pub reads-rested : (old mid new : DiskState) → ReadsOnly old mid → new ≡ rested mid → ReadsOnly old new
 reads-rested old mid new reads is = record {
@@ -28,11 +30,14 @@ reads-sync old new (Ok u) is =
     let same : new.bytes ≡ old.bytes = ap (λ (d : DiskState). d.bytes) is in
     record {
       bytes = same;
-      since_sync = since_sync-run old new new (λ c. c ≡ old.bytes) steps (leaves_only-start new (λ c. c ≡ old.bytes) (λ c image. settled c image ∙ same));
-      any_moment = λ before. leaves_only-step old old new (λ c. c ≡ old.bytes) (sync old.bytes) (leaves_only-start old (λ c. c ≡ old.bytes) before) steps (λ c image. image);
+      since_sync = since_sync-run old new new (λ c. c ≡ old.bytes) steps
+          (leaves_only-start new (λ c. c ≡ old.bytes) (λ c image. settled c image ∙ same));
+      any_moment = λ before. leaves_only-step old old new (λ c. c ≡ old.bytes) (sync old.bytes)
+          (leaves_only-start old (λ c. c ≡ old.bytes) before) steps (λ c image. image);
     }
 reads-sync old new (Err e) is = record {
   bytes = ap (λ (d : DiskState). d.bytes) is;
   since_sync = since_sync-rested old new (λ c. c ≡ old.bytes) is;
-  any_moment = λ before. leaves_only-rested old old new (λ c. c ≡ old.bytes) (leaves_only-start old (λ c. c ≡ old.bytes) before) is;
+  any_moment = λ before. leaves_only-rested old old new (λ c. c ≡ old.bytes)
+      (leaves_only-start old (λ c. c ≡ old.bytes) before) is;
 }

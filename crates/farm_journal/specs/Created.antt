@@ -30,7 +30,8 @@ abbrev pub disk_created : {D : Type 0} → CreatingResult D → D
 disk_created (Ok journal) = journal.disk
 disk_created (Err missed) = missed.0
 
--- why nothing was created: something was created there before, and then only; a fault and want of memory say nothing of that
+-- Why nothing was created: something was created there before, and then only. A fault and want of memory say nothing of
+-- that.
 abbrev pub Refuses : List ℕ → CreateFault → Type 0
 Refuses bytes AlreadyBorn = is_unborn bytes ≡ false
 Refuses bytes (StoreFault before after) = ⊤

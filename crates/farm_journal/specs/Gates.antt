@@ -1,6 +1,6 @@
 -- A file that holds payloads, by its parts.
 use Rattle.std.specs.Prelude.{ℕ, ◌≡◌, ◌≢◌, ◌+◌, ◌⊎◌, List, [], ◌∷◌, ◌++◌, length}
-use Rattle.farm_disk.specs.Images.{DiskState, EachImage, IsSettled, LeavesOnly}
+use Rattle.farm_disk.specs.Images.{DiskState, EachImage, IsSettled}
 use Rattle.std.specs.Int.{from_be_bytes, w32}
 use Rattle.farm_journal.specs.Layout.{IsPayload}
 use Rattle.farm_journal.specs.declared.layout.TheConstants.{MAGIC, VERSION_1}
@@ -20,7 +20,9 @@ pub record IsRecord (p written : List ℕ) : Type 0 where
 -- open gates, each with its record, of these payloads
 abbrev pub Chain : List (List ℕ) → List ℕ → Type 0
 Chain [] bytes = bytes ≡ []
-Chain (p ∷ ps) bytes = (gate : ℕ) × (written : List ℕ) × (rest : List ℕ) × (gate ≢ 0) × IsRecord p written × (bytes ≡ gate ∷ written ++ rest) × Chain ps rest
+Chain (p ∷ ps) bytes =
+    (gate : ℕ) × (written : List ℕ) × (rest : List ℕ) × (gate ≢ 0) × IsRecord p written
+    × (bytes ≡ gate ∷ written ++ rest) × Chain ps rest
 
 -- the header and the records of these payloads
 pub record Front (version : ℕ) (ps : List (List ℕ)) (front : List ℕ) : Type 0 where

@@ -1,4 +1,5 @@
 pub mod Created
+pub mod Damage
 pub mod Faults
 pub mod Found
 pub mod Gates

@@ -15,6 +15,11 @@ abbrev pub payloads_after : Repaired → List (List ℕ) → List ℕ → List (
 payloads_after Kept ps p = ps ++ p ∷ []
 payloads_after Dropped ps p = ps
 
+-- the version after a repair: a payload is only kept in a file of version 2
+abbrev pub version_after : Repaired → ℕ → ℕ
+version_after Kept version = 2
+version_after Dropped version = version
+
 -- what a repair named is what a read gives, and each crash leaves it; the gate reads so
 abbrev pub Mends : ℕ → List (List ℕ) → ℕ → List ℕ → Repaired → DiskState → Type 0
 Mends known ps gate p Kept disk = Rests 2 (ps ++ p ∷ []) (gate + 5 + length p) disk × (slice_index disk.bytes gate ≢ 0)

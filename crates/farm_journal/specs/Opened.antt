@@ -1,7 +1,7 @@
 -- What opening a journal answers.
-use Rattle.std.specs.Prelude.{ℕ, ◌≡◌, List, Option, None, Result, Ok, Err, ⊤}
+use Rattle.std.specs.Prelude.{ℕ, ◌≡◌, List, Result, Ok, Err, ⊤}
 use Rattle.told_list.specs.Counts.{Rose}
-use Rattle.farm_journal.specs.Layout.{Opening, unborn, damaged, holds, opens}
+use Rattle.farm_journal.specs.Layout.{Opening, unborn, damaged, holds}
 use Rattle.farm_journal.specs.State.{JournalState}
 use Rattle.farm_journal.specs.declared.fault.OpeningFault.{OpeningFault}
 use Rattle.farm_journal.specs.declared.fault.OpeningFault.TheVariants.{Unborn, Damaged, StoreFault, Memory}

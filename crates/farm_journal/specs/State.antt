@@ -1,5 +1,5 @@
 -- What contracts see of a journal, and what its disk holds.
-use Rattle.std.specs.Prelude.{ℕ, ◌≡◌, ◌≤◌, ◌<◌, ◌⊎◌, List, [], ◌∷◌, ◌++◌, Option, Some, None, Bool, true}
+use Rattle.std.specs.Prelude.{ℕ, ◌≡◌, ◌<◌, ◌⊎◌, List, [], ◌∷◌, ◌++◌, Option, Some, None, Bool, true}
 use Rattle.farm_disk.specs.Images.{DiskState, EachImage, IsSettled}
 use Rattle.farm_journal.specs.Layout.{IsPayload, holds, opens, version_of, gate_of}
 use Rattle.farm_journal.specs.Gates.{Rests, Waits}
@@ -21,13 +21,15 @@ pub record IsHeld (ps : List (List ℕ)) (disk : DiskState) : Type 0 where
   pub reads : opens disk.bytes ≡ holds ps
   pub settled : IsSettled disk
 
--- an append was begun and failed: each crash leaves the payloads before it, or these and the new one, and so does a read
+-- An append was begun and failed: each crash leaves the payloads before it, or these and the new one, and a read gives
+-- one of the two.
 pub record IsPending (ps : List (List ℕ)) (p : List ℕ) (disk : DiskState) : Type 0 where
   pub reads : IsBeforeOrAfter ps p disk.bytes
   pub images : EachImage disk.steps (IsBeforeOrAfter ps p)
 
 -- what holds of a journal at any time
-pub record IsKept {D : Type 0} (tells : D → Bool) (told : D → DiskState) (ps : List (List ℕ)) (pending : Option (List ℕ)) (gate version : ℕ) (disk : D) : Type 0 where
+pub record IsKept {D : Type 0} (tells : D → Bool) (told : D → DiskState) (ps : List (List ℕ))
+    (pending : Option (List ℕ)) (gate version : ℕ) (disk : D) : Type 0 where
   pub gate_is : gate ≡ gate_of ps
   pub rests : pending ≡ None → tells disk ≡ true → Rests version ps gate (told disk)
   pub waits : (p : List ℕ) → pending ≡ Some p → tells disk ≡ true → Waits version ps gate p (told disk)

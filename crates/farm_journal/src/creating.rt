@@ -1,5 +1,21 @@
 //! Creating a journal on a disk.
-ghost use Rattle.std.specs.Prelude.{◌≡◌, ◌≤◌, ◌<◌, ◌+◌, ◌++◌, ◌∷◌, [], true, false, Ok, length, slice_index, IfOk, OnOk, IsErrOf};
+ghost use Rattle.std.specs.Prelude.{
+  ◌≡◌,
+  ◌≤◌,
+  ◌<◌,
+  ◌+◌,
+  ◌++◌,
+  ◌∷◌,
+  [],
+  true,
+  false,
+  Ok,
+  length,
+  slice_index,
+  IfOk,
+  OnOk,
+  IsErrOf,
+};
 ghost use Rattle.told_list.specs.Counts.{Rose};
 ghost use Rattle.farm_disk.specs.Images.{EachImage, IsSettled, LeavesOnly, LeavesSinceSync};
 ghost use Rattle.farm_journal.specs.Layout.{framed, gate_of, is_unborn, IsPayload};

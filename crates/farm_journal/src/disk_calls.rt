@@ -80,7 +80,8 @@ pub(super) fn sync<D: Disk>(disk: &mut D) -> Result<(), DiskFault>
 pub(super) fn read<D: Disk>(disk: &mut D, at: u64, buf: &mut [u8]) -> Result<(), DiskFault>
     requires { D.tells disk.old ≡ true → at + length buf.old ≤ length (D.told disk.old).bytes }
     ensures same { D.tells disk.new ≡ D.tells disk.old }
-    ensures bytes { D.tells disk.old ≡ true → OnOk result (buf.new ≡ take (length buf.old) (drop at (D.told disk.old).bytes)) }
+    ensures bytes { D.tells disk.old ≡ true
+        → OnOk result (buf.new ≡ take (length buf.old) (drop at (D.told disk.old).bytes)) }
     ensures still { D.tells disk.old ≡ true → D.told disk.new ≡ rested (D.told disk.old) }
     ensures memory { IsErrOf result DiskFault.Memory → ⊥ }
     ensures cause { IsErrOf result DiskFault.Failed → Rose (D.count disk.old) (D.count disk.new) }

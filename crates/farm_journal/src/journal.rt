@@ -9,6 +9,7 @@ ghost use Rattle.std.specs.Prelude.{
   [],
   ◌↔◌,
   ◌≢◌,
+  ◌⊎◌,
   ℕ,
   List,
   true,
@@ -24,12 +25,19 @@ ghost use Rattle.std.specs.Prelude.{
   slice_index,
 };
 ghost use Rattle.farm_disk.specs.Images.{EachImage, LeavesOnly, LeavesSinceSync, moment};
-ghost use Rattle.farm_journal.specs.Created.{disk_created, Creates, CreatingCause, IsUnborn, IsUnbornOrFirst, OnCreatingMemory};
+ghost use Rattle.farm_journal.specs.Created.{
+  disk_created,
+  Creates,
+  CreatingCause,
+  IsUnborn,
+  IsUnbornOrFirst,
+  OnCreatingMemory,
+};
 ghost use Rattle.farm_journal.specs.Faults.{OnStoreFault, OnMemory, HasCause};
-ghost use Rattle.farm_journal.specs.Layout.{IsPayload, gate_of, is_unborn, opens, version_of};
+ghost use Rattle.farm_journal.specs.Layout.{IsPayload, IsVersion, gate_of, is_unborn, opens, version_of};
 ghost use Rattle.farm_journal.specs.Opened.{disk_after, Answers, OpeningCause};
 ghost use Rattle.farm_journal.specs.ReadsOnly.{ReadsOnly};
-ghost use Rattle.farm_journal.specs.Mended.{Reads, payloads_after};
+ghost use Rattle.farm_journal.specs.Mended.{Reads, payloads_after, version_after};
 ghost use Rattle.farm_journal.specs.State.{IsBeforeOrAfter, IsHeld, IsPending};
 ghost use Rattle.farm_journal.specs.declared.layout.TheConstants.{GATE_LIMIT};
 
@@ -92,8 +100,8 @@ impl<D: Disk> Journal<D> {
         ensures born { D.tells disk ≡ true → is_unborn (D.told disk).bytes ≡ false
             → (D.told (disk_created result)).bytes ≡ (D.told disk).bytes }
 
-        // A crash since the first sync that was done leaves an unborn file, or the journal of the one payload. Where each
-        // image was unborn before the call, this holds from its start.
+        // A crash since the first sync that was done leaves an unborn file, or the journal of the one payload. Where
+        // each image was unborn before the call, this holds from its start.
         ensures since_sync { D.tells disk ≡ true → is_unborn (D.told disk).bytes ≡ true
             → LeavesSinceSync (D.told disk) (D.told (disk_created result)) (IsUnbornOrFirst payload.items) }
         ensures any_moment { D.tells disk ≡ true → is_unborn (D.told disk).bytes ≡ true
@@ -130,16 +138,20 @@ impl<D: Disk> Journal<D> {
         }
     }
 
-    /// Opens the journal on a disk, and gives all its payloads. It syncs first, and changes nothing. An error hands the
-    /// disk back.
+    /// Opens the journal on a disk, and gives all its payloads. It syncs first, and changes nothing: that takes one
+    /// sync, one look at the size and one read. An error hands the disk back.
     pub fn open_on(alloc: Global, disk: D) -> Result<(Journal<D>, Payloads), (D, OpeningFault)>
         ensures same { D.tells (disk_after result) ≡ D.tells disk }
         ensures answers { D.tells disk ≡ true → Answers (opens (D.told disk).bytes) result }
         ensures payloads { IfOk result (λ opened. opened.0.payloads ≡ opened.1) }
         ensures idle { IfOk result (λ opened. opened.0.pending ≡ None) }
-        ensures version { IfOk result (λ opened. D.tells disk ≡ true → opened.0.version ≡ version_of (D.told disk).bytes) }
+        ensures version { IfOk result (λ opened. D.tells disk ≡ true
+            → opened.0.version ≡ version_of (D.told disk).bytes) }
+        ensures one_or_two { IfOk result (λ opened. IsVersion opened.0.version) }
         ensures held { IfOk result (λ opened. D.tells disk ≡ true → IsHeld opened.1 (D.told opened.0.disk)) }
         ensures only { D.tells disk ≡ true → ReadsOnly (D.told disk) (D.told (disk_after result)) }
+        ensures three_calls { IfOk result (λ opened. D.tells disk ≡ true
+            → moment (D.told opened.0.disk) ≡ moment (D.told disk) + 3) }
         ensures cause { IfErr result (λ missed. OpeningCause missed.1 (D.count disk) (D.count missed.0)) }
         ensures never_falls { D.count disk ≤ D.count (disk_after result) }
     {
@@ -208,6 +220,8 @@ impl<D: Disk> Journal<D> {
         ensures still_held { OnMemory result (D.tells self.old.disk ≡ true
             → IsHeld self.old.payloads (D.told self.new.disk)) }
 
+        ensures upgrades { (self.new.version ≡ self.old.version) ⊎ (self.new.version ≡ 2) }
+
         ensures cause { HasCause result (D.count self.old.disk) (D.count self.new.disk) }
         ensures never_falls { D.count self.old.disk ≤ D.count self.new.disk }
     {
@@ -230,8 +244,8 @@ impl<D: Disk> Journal<D> {
         }
     }
 
-    /// Finds out whether the pending payload was kept: after a sync it was where the gate reads other than 0. Nothing is
-    /// cut. After a `StoreFault` the payload is still pending, and the repair may be tried again. It takes no memory.
+    /// Finds out whether the pending payload was kept: after a sync it was where the gate reads other than 0. Nothing
+    /// is cut. After a `StoreFault` the payload is still pending, and the repair may be tried again. It takes no memory.
     pub fn repair(&mut self) -> Result<Repaired, JournalFault>
         requires { IsSome self.old.pending }
 
@@ -244,6 +258,7 @@ impl<D: Disk> Journal<D> {
         ensures named { (p : List ℕ) → self.old.pending ≡ Some p
             → IfOk result (λ found. self.new.payloads ≡ payloads_after found self.old.payloads p) }
         ensures idle { OnOk result (self.new.pending ≡ None) }
+        ensures version { IfOk result (λ found. self.new.version ≡ version_after found self.old.version) }
         ensures held { OnOk result (D.tells self.old.disk ≡ true → IsHeld self.new.payloads (D.told self.new.disk)) }
         ensures by_the_gate { IfOk result (λ found. D.tells self.old.disk ≡ true
             → Reads found (slice_index (D.told self.new.disk).bytes (gate_of self.old.payloads))) }
@@ -309,7 +324,8 @@ impl<D: Disk> Journal<D> {
 
 // The version of a file whose header is sound.
 fn version_of_byte(bytes: &[u8]) -> u8
-    ensures { result ≡ version_of bytes.now }
+    ensures byte { result ≡ version_of bytes.now }
+    ensures one_or_two { IsVersion result }
 {
     match bytes.get(15) {
         Some(byte) if *byte == VERSION_1 => 1,

@@ -1,8 +1,8 @@
 //! A journal on a disk: a file of payloads, each of which stays once it was acknowledged, wherever a crash comes.
 //!
-//! A file begins with a header; then come gates, one byte each. Behind an open gate stands a record, and behind that the
-//! next gate; what follows a closed gate means nothing. A payload is appended by writing its record behind the closed
-//! gate with a closed gate behind it, syncing, opening the gate and syncing. So a crash at any moment leaves the
+//! A file begins with a header; then come gates, one byte each. Behind an open gate stands a record, and behind that
+//! the next gate; what follows a closed gate means nothing. A payload is appended by writing its record behind the
+//! closed gate with a closed gate behind it, syncing, opening the gate and syncing. So a crash at any moment leaves the
 //! payloads from before, or these and the new one, whatever it makes of the bytes that were being written.
 //!
 //! The crate stands on `farm_disk` and the base crates `told_list` and `item_list`. The layers above may use

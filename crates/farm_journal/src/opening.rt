@@ -1,7 +1,7 @@
 //! Reading a disk whole.
-ghost use Rattle.std.specs.Prelude.{◌≡◌, ◌≤◌, ℕ, true, length, vec_len, IfOk, OnOk, IsErrOf};
+ghost use Rattle.std.specs.Prelude.{◌≡◌, ◌≤◌, ◌+◌, ℕ, true, length, vec_len, IfOk, OnOk, IsErrOf};
 ghost use Rattle.told_list.specs.Counts.{Rose};
-ghost use Rattle.farm_disk.specs.Images.{IsSettled};
+ghost use Rattle.farm_disk.specs.Images.{IsSettled, moment};
 ghost use Rattle.farm_journal.specs.ReadsOnly.{ReadsOnly};
 
 use crate::disk_calls::{DiskFault, read, size, sync};
@@ -21,6 +21,8 @@ pub(super) fn read_whole<D: Disk>(alloc: Global, disk: &mut D) -> Result<Vec<u8>
     ensures bytes { IfOk result (λ bytes. D.tells disk.old ≡ true → bytes.items ≡ (D.told disk.old).bytes) }
     ensures settled { OnOk result (D.tells disk.old ≡ true → IsSettled (D.told disk.new)) }
     ensures only { D.tells disk.old ≡ true → ReadsOnly (D.told disk.old) (D.told disk.new) }
+    ensures three_calls { OnOk result (D.tells disk.old ≡ true
+        → moment (D.told disk.new) ≡ moment (D.told disk.old) + 3) }
     ensures cause { IsErrOf result DiskFault.Failed → Rose (D.count disk.old) (D.count disk.new) }
     ensures never_falls { D.count disk.old ≤ D.count disk.new }
 {

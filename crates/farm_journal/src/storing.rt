@@ -1,5 +1,5 @@
 //! Storing a payload on a disk of either version.
-ghost use Rattle.std.specs.Prelude.{◌≡◌, ◌≤◌, ◌<◌, ◌+◌, ◌++◌, ◌∷◌, [], ◌^◌, ℕ, List, true, length, OnOk, IsErrOf};
+ghost use Rattle.std.specs.Prelude.{◌≡◌, ◌≤◌, ◌<◌, ◌+◌, ◌⊎◌, ◌++◌, ◌∷◌, [], ◌^◌, ℕ, List, true, length, OnOk, IsErrOf};
 ghost use Rattle.told_list.specs.Counts.{Rose};
 ghost use Rattle.farm_disk.specs.Images.{LeavesOnly, moment};
 ghost use Rattle.farm_journal.specs.Layout.{IsPayload};
@@ -30,6 +30,7 @@ pub(super) fn store<D: Disk>(
         → LeavesOnly (D.told disk.old) (D.told disk.new) (IsEither 1 ps gate payload.now) }
 
     ensures new_version { OnOk result (version.new ≡ 2) }
+    ensures upgrades { (version.new ≡ version.old) ⊎ (version.new ≡ 2) }
     ensures done { OnOk result (D.tells disk.old ≡ true → (ps : List (List ℕ))
         → Rests version.old ps gate (D.told disk.old)
         → Rests 2 (ps ++ payload.now ∷ []) (gate + 5 + length payload.now) (D.told disk.new)) }

@@ -2,6 +2,7 @@
 ghost use Rattle.std.specs.Prelude.{◌≡◌, ◌≤◌, ◌+◌, ◌∷◌, [], true, length, take, drop};
 ghost use Rattle.farm_disk.specs.Answers.{rested, after_cut, after_sync, Writes, OnWriteFailed, OnWriteMemory};
 ghost use Rattle.farm_disk.specs.Images.{sync};
+ghost use Rattle.farm_disk.specs.Model.{IsSound};
 
 use super::overwrite::overwrite;
 use crate::{Call, Did, Disk, Size, Written};
@@ -24,6 +25,10 @@ impl Model for CalmDisk {
     ghost Value = { DiskState };
 
     ghost view = { λ d. record { bytes = d.bytes.items; steps = map step_of d.past } };
+
+    ghost use Rattle.farm_disk.specs.CalmDiskKept.{IsKept};
+
+    ghost invariant = { IsKept };
 }
 
 impl CalmDisk {
@@ -56,6 +61,7 @@ impl Disk for CalmDisk {
     }
 
     fn size(&mut self) -> Size
+        ensures sound { IsSound self.old }
         ensures size { result ≡ Size.Size (length self.old.bytes) }
         ensures still { self.new ≡ rested self.old }
     {
@@ -65,6 +71,7 @@ impl Disk for CalmDisk {
 
     fn read(&mut self, at: u64, buf: &mut [u8]) -> Did
         requires { at + length buf.old ≤ length self.old.bytes }
+        ensures sound { IsSound self.old }
         ensures done { result ≡ Did.Did }
         ensures bytes { buf.new ≡ take (length buf.old) (drop at self.old.bytes) }
         ensures still { self.new ≡ rested self.old }

@@ -27,7 +27,7 @@ ghost use Rattle.told_list.specs.Counts.{Rose};
 ghost use Rattle.farm_disk.specs.Images.{sync, write, overwritten, IsImage};
 ghost use Rattle.farm_disk.specs.DiskFault.{kept_next, plan_after};
 ghost use Rattle.farm_disk.specs.Certain.{certain};
-ghost use Rattle.farm_disk.specs.Model.{least, greatest};
+ghost use Rattle.farm_disk.specs.Model.{least, greatest, IsSound};
 ghost use Rattle.farm_disk.specs.Answers.{
   rested,
   Writes,
@@ -147,6 +147,7 @@ impl Disk for MemDisk {
     }
 
     fn size(&mut self) -> Size
+        ensures sound { IsSound self.old.disk }
         ensures fails { (result ≡ Size.Failed) ↔ IsSome (kept_next self.old.plan) }
         ensures counted { self.new.plan ≡ plan_after (kept_next self.old.plan) self.old.plan }
         ensures size { IfSize result (λ n. n ≡ length self.old.disk.bytes) }
@@ -162,6 +163,7 @@ impl Disk for MemDisk {
 
     fn read(&mut self, at: u64, buf: &mut [u8]) -> Did
         requires { at + length buf.old ≤ length self.old.disk.bytes }
+        ensures sound { IsSound self.old.disk }
         ensures fails { (result ≡ Did.Failed) ↔ IsSome (kept_next self.old.plan) }
         ensures counted { self.new.plan ≡ plan_after (kept_next self.old.plan) self.old.plan }
         ensures bytes { OnDid result (buf.new ≡ take (length buf.old) (drop at self.old.disk.bytes)) }

@@ -1,5 +1,20 @@
 //! What a disk in memory keeps, as data, for the images that it makes.
-ghost use Rattle.std.specs.Prelude.{◌≡◌, ◌≤◌, ◌<◌, ◌+◌, ◌∷◌, ◌^◌, ℕ, List, IfOk, max, min, length, slice_index, unwrap_or};
+ghost use Rattle.std.specs.Prelude.{
+  ◌≡◌,
+  ◌≤◌,
+  ◌<◌,
+  ◌+◌,
+  ◌∷◌,
+  ◌^◌,
+  ℕ,
+  List,
+  IfOk,
+  max,
+  min,
+  length,
+  slice_index,
+  unwrap_or,
+};
 ghost use Rattle.farm_disk.specs.Images.{Step, sync, write, cut};
 ghost use Rattle.farm_disk.specs.Certain.{certain};
 ghost use Rattle.farm_disk.specs.Model.{least, greatest, IsRun};

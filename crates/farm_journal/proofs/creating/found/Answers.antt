@@ -8,26 +8,33 @@ use Rattle.farm_journal.proofs.Births.{since_sync-none, each-start, synced-run, 
 use Rattle.farm_journal.proofs.creating.found.Goals as goal
 
 pub returns-in_err-frame-clause-since_sync : goal.returns-in_err-frame-clause-since_sync
-returns-in_err-frame-clause-since_sync g c tells test = since_sync-none (g.D.Disk.told c.args.disk.now) (IsUnbornOrFirst c.args.payload.now)
+returns-in_err-frame-clause-since_sync g c tells test =
+    since_sync-none (g.D.Disk.told c.args.disk.now) (IsUnbornOrFirst c.args.payload.now)
 
 pub returns-in_err-frame-clause-any_moment : goal.returns-in_err-frame-clause-any_moment
-returns-in_err-frame-clause-any_moment g c tells test each = each-start c.args.payload.now (g.D.Disk.told c.args.disk.now) each
+returns-in_err-frame-clause-any_moment g c tells test each =
+    each-start c.args.payload.now (g.D.Disk.told c.args.disk.now) each
 
 pub returns-in_err-sync-clause-since_sync : goal.returns-in_err-sync-clause-since_sync
-returns-in_err-sync-clause-since_sync g c tells test = since_sync-rested _ _ (IsUnbornOrFirst c.args.payload.now) (c.in_err-sync.ensures.ends tells)
+returns-in_err-sync-clause-since_sync g c tells test =
+    since_sync-rested _ _ (IsUnbornOrFirst c.args.payload.now) (c.in_err-sync.ensures.ends tells)
 
 pub returns-in_err-sync-clause-any_moment : goal.returns-in_err-sync-clause-any_moment
 returns-in_err-sync-clause-any_moment g c tells test each =
-    leaves_only-rested _ _ _ (IsUnbornOrFirst c.args.payload.now) (each-start c.args.payload.now (g.D.Disk.told c.args.disk.now) each) (c.in_err-sync.ensures.ends tells)
+    leaves_only-rested _ _ _ (IsUnbornOrFirst c.args.payload.now)
+    (each-start c.args.payload.now (g.D.Disk.told c.args.disk.now) each) (c.in_err-sync.ensures.ends tells)
 
 pub returns-clause-since_sync : goal.returns-clause-since_sync
 returns-clause-since_sync g c tells test =
     let synced = c.in_ok-sync.ensures.ends tells in
-    let still : is_unborn (g.D.Disk.told c.sync.new.disk).bytes ≡ true = ap (λ (d : DiskState). is_unborn d.bytes) synced ∙ test in
+    let still : is_unborn (g.D.Disk.told c.sync.new.disk).bytes ≡ true =
+    ap (λ (d : DiskState). is_unborn d.bytes) synced ∙ test in
     synced-run c.args.payload.now _ _ _ synced (c.found_synced.ensures.any_moment (c.sync.ensures.same ∙ tells) still)
 
 pub returns-clause-any_moment : goal.returns-clause-any_moment
 returns-clause-any_moment g c tells test each =
     let synced = c.in_ok-sync.ensures.ends tells in
-    let still : is_unborn (g.D.Disk.told c.sync.new.disk).bytes ≡ true = ap (λ (d : DiskState). is_unborn d.bytes) synced ∙ test in
-    synced-both c.args.payload.now (g.D.Disk.told c.args.disk.now) _ _ each test synced (c.found_synced.ensures.any_moment (c.sync.ensures.same ∙ tells) still)
+    let still : is_unborn (g.D.Disk.told c.sync.new.disk).bytes ≡ true =
+    ap (λ (d : DiskState). is_unborn d.bytes) synced ∙ test in
+    synced-both c.args.payload.now (g.D.Disk.told c.args.disk.now) _ _ each test synced
+    (c.found_synced.ensures.any_moment (c.sync.ensures.same ∙ tells) still)

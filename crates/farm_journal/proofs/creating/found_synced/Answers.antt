@@ -22,14 +22,18 @@ returns-in_err-begin-clause-any_moment g c tells test =
     let still = c.size.ensures.still tells in
     let one = unborn-start p (g.D.Disk.told c.args.disk.now) (g.D.Disk.told c.size.new.disk) old test still in
     let settled = settled-rested (g.D.Disk.told c.args.disk.now) (g.D.Disk.told c.size.new.disk) old still in
-    let two = unborn-begun p (g.D.Disk.told c.args.disk.now) (g.D.Disk.told c.size.new.disk) (g.D.Disk.told c.begin.new.disk) one (c.begin.ensures.any_moment told settled) in
+    let two = unborn-begun p (g.D.Disk.told c.args.disk.now) (g.D.Disk.told c.size.new.disk)
+    (g.D.Disk.told c.begin.new.disk) one (c.begin.ensures.any_moment told settled) in
     two
 
 pub returns-in_err-begin-clause-memory : goal.returns-in_err-begin-clause-memory
 returns-in_err-begin-clause-memory g c wanting tells test =
     let told = c.size.ensures.same ∙ tells in
-    let settled = settled-rested (g.D.Disk.told c.args.disk.now) (g.D.Disk.told c.size.new.disk) (c.requires.settled tells) (c.size.ensures.still tells) in
-    leaves_only-now (g.D.Disk.told c.size.new.disk) (g.D.Disk.told c.begin.new.disk) IsUnborn (c.begin.ensures.any_moment told settled)
+    let settled =
+    settled-rested (g.D.Disk.told c.args.disk.now) (g.D.Disk.told c.size.new.disk) (c.requires.settled tells)
+    (c.size.ensures.still tells) in
+    leaves_only-now (g.D.Disk.told c.size.new.disk) (g.D.Disk.told c.begin.new.disk) IsUnborn
+    (c.begin.ensures.any_moment told settled)
 
 pub returns-in_err-bear-clause-any_moment : goal.returns-in_err-bear-clause-any_moment
 returns-in_err-bear-clause-any_moment g c tells test =
@@ -39,8 +43,10 @@ returns-in_err-bear-clause-any_moment g c tells test =
     let still = c.size.ensures.still tells in
     let one = unborn-start p (g.D.Disk.told c.args.disk.now) (g.D.Disk.told c.size.new.disk) old test still in
     let settled = settled-rested (g.D.Disk.told c.args.disk.now) (g.D.Disk.told c.size.new.disk) old still in
-    let two = unborn-begun p (g.D.Disk.told c.args.disk.now) (g.D.Disk.told c.size.new.disk) (g.D.Disk.told c.begin.new.disk) one (c.begin.ensures.any_moment told settled) in
-    leaves_only-trans (g.D.Disk.told c.args.disk.now) (g.D.Disk.told c.begin.new.disk) (g.D.Disk.told c.bear.new.disk) (IsUnbornOrFirst p) two (c.bear.ensures.any_moment (c.begin.ensures.same ∙ told))
+    let two = unborn-begun p (g.D.Disk.told c.args.disk.now) (g.D.Disk.told c.size.new.disk)
+    (g.D.Disk.told c.begin.new.disk) one (c.begin.ensures.any_moment told settled) in
+    leaves_only-trans (g.D.Disk.told c.args.disk.now) (g.D.Disk.told c.begin.new.disk) (g.D.Disk.told c.bear.new.disk)
+    (IsUnbornOrFirst p) two (c.bear.ensures.any_moment (c.begin.ensures.same ∙ told))
 
 pub returns-then-branch-le1-clause-any_moment : goal.returns-then-branch-le1-clause-any_moment
 returns-then-branch-le1-clause-any_moment g c tells test =
@@ -50,8 +56,10 @@ returns-then-branch-le1-clause-any_moment g c tells test =
     let still = c.size.ensures.still tells in
     let one = unborn-start p (g.D.Disk.told c.args.disk.now) (g.D.Disk.told c.size.new.disk) old test still in
     let settled = settled-rested (g.D.Disk.told c.args.disk.now) (g.D.Disk.told c.size.new.disk) old still in
-    let two = unborn-begun p (g.D.Disk.told c.args.disk.now) (g.D.Disk.told c.size.new.disk) (g.D.Disk.told c.begin.new.disk) one (c.begin.ensures.any_moment told settled) in
-    leaves_only-trans (g.D.Disk.told c.args.disk.now) (g.D.Disk.told c.begin.new.disk) (g.D.Disk.told c.bear.new.disk) (IsUnbornOrFirst p) two (c.bear.ensures.any_moment (c.begin.ensures.same ∙ told))
+    let two = unborn-begun p (g.D.Disk.told c.args.disk.now) (g.D.Disk.told c.size.new.disk)
+    (g.D.Disk.told c.begin.new.disk) one (c.begin.ensures.any_moment told settled) in
+    leaves_only-trans (g.D.Disk.told c.args.disk.now) (g.D.Disk.told c.begin.new.disk) (g.D.Disk.told c.bear.new.disk)
+    (IsUnbornOrFirst p) two (c.bear.ensures.any_moment (c.begin.ensures.same ∙ told))
 
 pub returns-in_err-read-clause-any_moment : goal.returns-in_err-read-clause-any_moment
 returns-in_err-read-clause-any_moment g c tells test =
@@ -60,7 +68,8 @@ returns-in_err-read-clause-any_moment g c tells test =
     let told = c.size.ensures.same ∙ tells in
     let still = c.size.ensures.still tells in
     let one = unborn-start p (g.D.Disk.told c.args.disk.now) (g.D.Disk.told c.size.new.disk) old test still in
-    let two = leaves_only-rested (g.D.Disk.told c.args.disk.now) (g.D.Disk.told c.size.new.disk) (g.D.Disk.told c.read.new.disk) (IsUnbornOrFirst p) one (c.read.ensures.still told) in
+    let two = leaves_only-rested (g.D.Disk.told c.args.disk.now) (g.D.Disk.told c.size.new.disk)
+    (g.D.Disk.told c.read.new.disk) (IsUnbornOrFirst p) one (c.read.ensures.still told) in
     two
 
 pub returns-in_err-bear-2-clause-any_moment : goal.returns-in_err-bear-2-clause-any_moment
@@ -70,8 +79,10 @@ returns-in_err-bear-2-clause-any_moment g c tells test =
     let told = c.size.ensures.same ∙ tells in
     let still = c.size.ensures.still tells in
     let one = unborn-start p (g.D.Disk.told c.args.disk.now) (g.D.Disk.told c.size.new.disk) old test still in
-    let two = leaves_only-rested (g.D.Disk.told c.args.disk.now) (g.D.Disk.told c.size.new.disk) (g.D.Disk.told c.read.new.disk) (IsUnbornOrFirst p) one (c.read.ensures.still told) in
-    leaves_only-trans (g.D.Disk.told c.args.disk.now) (g.D.Disk.told c.read.new.disk) (g.D.Disk.told c.bear-2.new.disk) (IsUnbornOrFirst p) two (c.bear-2.ensures.any_moment (c.read.ensures.same ∙ told))
+    let two = leaves_only-rested (g.D.Disk.told c.args.disk.now) (g.D.Disk.told c.size.new.disk)
+    (g.D.Disk.told c.read.new.disk) (IsUnbornOrFirst p) one (c.read.ensures.still told) in
+    leaves_only-trans (g.D.Disk.told c.args.disk.now) (g.D.Disk.told c.read.new.disk) (g.D.Disk.told c.bear-2.new.disk)
+    (IsUnbornOrFirst p) two (c.bear-2.ensures.any_moment (c.read.ensures.same ∙ told))
 
 pub returns-clause-any_moment : goal.returns-clause-any_moment
 returns-clause-any_moment g c tells test =
@@ -80,5 +91,7 @@ returns-clause-any_moment g c tells test =
     let told = c.size.ensures.same ∙ tells in
     let still = c.size.ensures.still tells in
     let one = unborn-start p (g.D.Disk.told c.args.disk.now) (g.D.Disk.told c.size.new.disk) old test still in
-    let two = leaves_only-rested (g.D.Disk.told c.args.disk.now) (g.D.Disk.told c.size.new.disk) (g.D.Disk.told c.read.new.disk) (IsUnbornOrFirst p) one (c.read.ensures.still told) in
-    leaves_only-trans (g.D.Disk.told c.args.disk.now) (g.D.Disk.told c.read.new.disk) (g.D.Disk.told c.bear-2.new.disk) (IsUnbornOrFirst p) two (c.bear-2.ensures.any_moment (c.read.ensures.same ∙ told))
+    let two = leaves_only-rested (g.D.Disk.told c.args.disk.now) (g.D.Disk.told c.size.new.disk)
+    (g.D.Disk.told c.read.new.disk) (IsUnbornOrFirst p) one (c.read.ensures.still told) in
+    leaves_only-trans (g.D.Disk.told c.args.disk.now) (g.D.Disk.told c.read.new.disk) (g.D.Disk.told c.bear-2.new.disk)
+    (IsUnbornOrFirst p) two (c.bear-2.ensures.any_moment (c.read.ensures.same ∙ told))

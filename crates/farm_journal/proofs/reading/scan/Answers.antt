@@ -9,18 +9,21 @@ pub gates-init : goal.gates-init
 gates-init c =
     let none = sofar-start c.args.bytes.now c.requires in
     let told = subst (λ (l : List (List ℕ)). SoFar c.args.bytes.now FIRST_GATE [] l) (sym c.new-past.ensures) none in
-    subst (λ (l : List (List ℕ)). SoFar c.args.bytes.now FIRST_GATE l c.new-past.result) (sym c.new-payloads.ensures.items) told
+    subst (λ (l : List (List ℕ)). SoFar c.args.bytes.now FIRST_GATE l c.new-past.result)
+    (sym c.new-payloads.ensures.items) told
 
 pub returns-then-bytes-at-eq0 : goal.returns-then-bytes-at-eq0
 returns-then-bytes-at-eq0 c = (
   c.gates.payloads.items,
-  sofar-shut c.args.bytes.now c.gates.at c.gates.payloads.items c.gates.past c.gates.invariant c.gates-test.true c.if-bytes-at-eq0.true,
+  sofar-shut c.args.bytes.now c.gates.at c.gates.payloads.items c.gates.past c.gates.invariant c.gates-test.true
+      c.if-bytes-at-eq0.true,
   record { payloads = refl; told = c.gates.invariant.in_turn; gate = c.gates.invariant.gate },
 )
 
 pub returns-in_default : goal.returns-in_default
 returns-in_default c =
-    sofar-torn c.args.bytes.now c.gates.at c.gates.payloads.items c.gates.past c.gates.invariant c.gates-test.true c.if-bytes-at-eq0.false
+    sofar-torn c.args.bytes.now c.gates.at c.gates.payloads.items c.gates.past c.gates.invariant c.gates-test.true
+    c.if-bytes-at-eq0.false
     (subst (λ (l : List ℕ). is_whole l ≡ false) (all_behind c.args.bytes.now (c.gates.at + 1)) c.in_default.ensures)
 
 pub gates-preserved : goal.gates-preserved
@@ -29,9 +32,13 @@ gates-preserved c =
     let all = all_behind c.args.bytes.now (c.gates.at + 1) in
     let payload : c.in_ok-payload.payload ≡ take c.in-Some.length (drop (c.gates.at + 5) c.args.bytes.now) =
     c.in_ok-payload.ensures ∙ ap (λ (k : ℕ). take k (drop (c.gates.at + 5) c.args.bytes.now)) n in
-    sofar-more c.args.bytes.now c.in_ok-payload.payload c.gates.at c.in-Some.length c.gates.payloads.items c.gates.past c.push.new.self.items c.tell.new.self
+    sofar-more c.args.bytes.now c.in_ok-payload.payload c.gates.at c.in-Some.length c.gates.payloads.items c.gates.past
+    c.push.new.self.items c.tell.new.self
     c.gates.invariant c.gates-test.true c.if-bytes-at-eq0.false
-    (subst (λ (l : List ℕ). is_whole l ≡ true) all c.in-Some.ensures.0) (subst (λ (l : List ℕ). c.in-Some.length ≡ told_length l) all c.in-Some.ensures.1) payload c.in_ok-push.ensures.items c.tell.ensures
+    (subst (λ (l : List ℕ). is_whole l ≡ true) all c.in-Some.ensures.0)
+    (subst (λ (l : List ℕ). c.in-Some.length ≡ told_length l) all c.in-Some.ensures.1) payload
+    c.in_ok-push.ensures.items c.tell.ensures
 
 pub returns : goal.returns
-returns c = sofar-past c.args.bytes.now c.gates.at c.gates.payloads.items c.gates.past c.gates.invariant c.gates-test.false
+returns c = sofar-past c.args.bytes.now c.gates.at c.gates.payloads.items c.gates.past c.gates.invariant
+    c.gates-test.false

@@ -12,16 +12,19 @@ returns-then-version-eq2-clause-any_moment g c tells ps rests =
 pub returns-then-version-eq2-clause-memory : goal.returns-then-version-eq2-clause-memory
 returns-then-version-eq2-clause-memory g c wanting tells ps rests =
     let new = subst (λ (k : ℕ). Rests k ps c.args.gate (g.D.Disk.told c.args.disk.now)) c.if-version-eq2.true rests in
-    subst (λ (k : ℕ). Rests k ps c.args.gate (g.D.Disk.told c.append_record.new.disk)) (sym c.if-version-eq2.true) (c.append_record.ensures.memory wanting tells ps new)
+    subst (λ (k : ℕ). Rests k ps c.args.gate (g.D.Disk.told c.append_record.new.disk)) (sym c.if-version-eq2.true)
+    (c.append_record.ensures.memory wanting tells ps new)
 
 pub returns-in_err-upgrade-clause-any_moment : goal.returns-in_err-upgrade-clause-any_moment
 returns-in_err-upgrade-clause-any_moment g c tells ps rests =
-    leaves-same ps c.args.gate c.args.payload.now _ _ (c.upgrade.ensures.any_moment tells ps (rests-any c.args.version.now ps c.args.gate _ rests))
+    leaves-same ps c.args.gate c.args.payload.now _ _
+    (c.upgrade.ensures.any_moment tells ps (rests-any c.args.version.now ps c.args.gate _ rests))
 
 pub returns-in_err-upgrade-clause-failed : goal.returns-in_err-upgrade-clause-failed
 returns-in_err-upgrade-clause-failed g c failed tells ps rests =
     let old = rests-any c.args.version.now ps c.args.gate _ rests in
-    waits-upgrade ps c.args.gate c.args.payload.now c.args.version.now _ _ (c.upgrade.ensures.any_moment tells ps old) (c.upgrade.ensures.reads tells ps old)
+    waits-upgrade ps c.args.gate c.args.payload.now c.args.version.now _ _ (c.upgrade.ensures.any_moment tells ps old)
+    (c.upgrade.ensures.reads tells ps old)
     (λ image stands. stands-other c.args.version.now ps c.args.gate image c.if-version-eq2.false stands)
 
 pub append_record-requires-2-clause-gate : goal.append_record-requires-2-clause-gate
@@ -31,9 +34,11 @@ pub returns-clause-any_moment : goal.returns-clause-any_moment
 returns-clause-any_moment g c tells ps rests =
     let old = rests-any c.args.version.now ps c.args.gate _ rests in
     leaves-both ps c.args.gate c.args.payload.now _ _ _ (c.upgrade.ensures.any_moment tells ps old)
-    (c.append_record-2.ensures.any_moment (c.upgrade.ensures.same ∙ tells) ps (c.in_ok-upgrade.ensures.done tells ps old))
+    (c.append_record-2.ensures.any_moment (c.upgrade.ensures.same ∙ tells) ps
+    (c.in_ok-upgrade.ensures.done tells ps old))
 
 pub returns-clause-memory : goal.returns-clause-memory
 returns-clause-memory g c wanting tells ps rests =
     let old = rests-any c.args.version.now ps c.args.gate _ rests in
-    c.append_record-2.ensures.memory wanting (c.upgrade.ensures.same ∙ tells) ps (c.in_ok-upgrade.ensures.done tells ps old)
+    c.append_record-2.ensures.memory wanting (c.upgrade.ensures.same ∙ tells) ps
+    (c.in_ok-upgrade.ensures.done tells ps old)

@@ -1,5 +1,5 @@
 -- What each end of an append leaves, by the lemmas of `Journals`.
-use Rattle.std.proofs.Common.{◌≡◌, ◌∙◌, ap, None, Option, List, ℕ}
+use Rattle.std.proofs.Common.{◌∙◌, ap}
 use Rattle.farm_journal.specs.State.{JournalState}
 use Rattle.farm_journal.proofs.Journals.{any-moment, no-moment, still-held, now-held, held-more, now-pending, kept-appended, kept-same, err-is}
 use Rattle.farm_journal.proofs.journal.Journal.append.Goals as goal
@@ -9,29 +9,34 @@ returns-in_default-clause-any_moment g c =
     let disk = ap (λ (j : JournalState g.row.D.Denot). j.disk) c.self.view_is in
     let payloads = ap (λ (j : JournalState g.row.D.Denot). j.payloads) c.self.view_is in
     let idle = ap (λ (j : JournalState g.row.D.Denot). j.pending) c.self.view_is ∙ c.requires.idle in
-    no-moment g.D.Disk.tells g.D.Disk.told _ _ disk _ _ payloads c.self.inside.version c.self.inside.gate c.args.payload.now (c.self.invariant.rests idle)
+    no-moment g.D.Disk.tells g.D.Disk.told _ _ disk _ _ payloads c.self.inside.version c.self.inside.gate
+    c.args.payload.now (c.self.invariant.rests idle)
 
 pub returns-in_default-clause-still_held : goal.returns-in_default-clause-still_held
 returns-in_default-clause-still_held g c =
     let disk = ap (λ (j : JournalState g.row.D.Denot). j.disk) c.self.view_is in
     let payloads = ap (λ (j : JournalState g.row.D.Denot). j.payloads) c.self.view_is in
     let idle = ap (λ (j : JournalState g.row.D.Denot). j.pending) c.self.view_is ∙ c.requires.idle in
-    now-held g.D.Disk.tells g.D.Disk.told _ _ disk _ _ payloads c.self.inside.version c.self.inside.gate c.args.payload.now (c.self.invariant.rests idle)
+    now-held g.D.Disk.tells g.D.Disk.told _ _ disk _ _ payloads c.self.inside.version c.self.inside.gate
+    c.args.payload.now (c.self.invariant.rests idle)
 
 pub invariant_of-self : goal.invariant_of-self
 invariant_of-self g c =
     let disk = ap (λ (j : JournalState g.row.D.Denot). j.disk) c.self.view_is in
     let payloads = ap (λ (j : JournalState g.row.D.Denot). j.payloads) c.self.view_is in
     let idle = ap (λ (j : JournalState g.row.D.Denot). j.pending) c.self.view_is ∙ c.requires.idle in
-    kept-appended g.D.Disk.tells g.D.Disk.told c.self.inside.disk c.store.new.disk c.self.inside.past c.tell.new.self c.in-Ok.copy c.args.payload.now c.self.inside.pending c.self.inside.gate c.self.inside.version c.store.new.version
-    c.tell.ensures c.in-Ok.ensures idle c.self.invariant.gate_is c.store.ensures.same c.in-Ok-store.ensures.new_version (λ t. c.in-Ok-store.ensures.done t _ (c.self.invariant.rests idle t))
+    kept-appended g.D.Disk.tells g.D.Disk.told c.self.inside.disk c.store.new.disk c.self.inside.past c.tell.new.self
+    c.in-Ok.copy c.args.payload.now c.self.inside.pending c.self.inside.gate c.self.inside.version c.store.new.version
+    c.tell.ensures c.in-Ok.ensures idle c.self.invariant.gate_is c.store.ensures.same c.in-Ok-store.ensures.new_version
+    (λ t. c.in-Ok-store.ensures.done t _ (c.self.invariant.rests idle t))
 
 pub invariant_of-self-in-Memory-1 : goal.invariant_of-self-in-Memory-1
 invariant_of-self-in-Memory-1 g c =
     let disk = ap (λ (j : JournalState g.row.D.Denot). j.disk) c.self.view_is in
     let payloads = ap (λ (j : JournalState g.row.D.Denot). j.payloads) c.self.view_is in
     let idle = ap (λ (j : JournalState g.row.D.Denot). j.pending) c.self.view_is ∙ c.requires.idle in
-    kept-same g.D.Disk.tells g.D.Disk.told c.self.inside.disk c.store.new.disk _ c.self.inside.pending c.self.inside.gate c.store.new.version idle c.self.invariant.gate_is c.store.ensures.same
+    kept-same g.D.Disk.tells g.D.Disk.told c.self.inside.disk c.store.new.disk _ c.self.inside.pending
+    c.self.inside.gate c.store.new.version idle c.self.invariant.gate_is c.store.ensures.same
     (λ t. c.in-Err-Memory.ensures.memory (err-is _ _ c.in-Err-Memory.field-0-is) t _ (c.self.invariant.rests idle t))
 
 pub returns-in-Ok-store-clause-any_moment : goal.returns-in-Ok-store-clause-any_moment
@@ -39,39 +44,47 @@ returns-in-Ok-store-clause-any_moment g c =
     let disk = ap (λ (j : JournalState g.row.D.Denot). j.disk) c.self.view_is in
     let payloads = ap (λ (j : JournalState g.row.D.Denot). j.payloads) c.self.view_is in
     let idle = ap (λ (j : JournalState g.row.D.Denot). j.pending) c.self.view_is ∙ c.requires.idle in
-    any-moment g.D.Disk.tells g.D.Disk.told _ _ disk _ _ payloads c.self.inside.version c.self.inside.gate c.args.payload.now _ (c.self.invariant.rests idle) c.store.ensures.any_moment
+    any-moment g.D.Disk.tells g.D.Disk.told _ _ disk _ _ payloads c.self.inside.version c.self.inside.gate
+    c.args.payload.now _ (c.self.invariant.rests idle) c.store.ensures.any_moment
 
 pub returns-in-Err-Memory-clause-any_moment : goal.returns-in-Err-Memory-clause-any_moment
 returns-in-Err-Memory-clause-any_moment g c =
     let disk = ap (λ (j : JournalState g.row.D.Denot). j.disk) c.self.view_is in
     let payloads = ap (λ (j : JournalState g.row.D.Denot). j.payloads) c.self.view_is in
     let idle = ap (λ (j : JournalState g.row.D.Denot). j.pending) c.self.view_is ∙ c.requires.idle in
-    any-moment g.D.Disk.tells g.D.Disk.told _ _ disk _ _ payloads c.self.inside.version c.self.inside.gate c.args.payload.now _ (c.self.invariant.rests idle) c.store.ensures.any_moment
+    any-moment g.D.Disk.tells g.D.Disk.told _ _ disk _ _ payloads c.self.inside.version c.self.inside.gate
+    c.args.payload.now _ (c.self.invariant.rests idle) c.store.ensures.any_moment
 
 pub returns-in-Err-Failed-clause-any_moment : goal.returns-in-Err-Failed-clause-any_moment
 returns-in-Err-Failed-clause-any_moment g c =
     let disk = ap (λ (j : JournalState g.row.D.Denot). j.disk) c.self.view_is in
     let payloads = ap (λ (j : JournalState g.row.D.Denot). j.payloads) c.self.view_is in
     let idle = ap (λ (j : JournalState g.row.D.Denot). j.pending) c.self.view_is ∙ c.requires.idle in
-    any-moment g.D.Disk.tells g.D.Disk.told _ _ disk _ _ payloads c.self.inside.version c.self.inside.gate c.args.payload.now _ (c.self.invariant.rests idle) c.store.ensures.any_moment
+    any-moment g.D.Disk.tells g.D.Disk.told _ _ disk _ _ payloads c.self.inside.version c.self.inside.gate
+    c.args.payload.now _ (c.self.invariant.rests idle) c.store.ensures.any_moment
 
 pub returns-in-Ok-store-clause-acknowledged : goal.returns-in-Ok-store-clause-acknowledged
 returns-in-Ok-store-clause-acknowledged g c =
     let disk = ap (λ (j : JournalState g.row.D.Denot). j.disk) c.self.view_is in
     let payloads = ap (λ (j : JournalState g.row.D.Denot). j.payloads) c.self.view_is in
     let idle = ap (λ (j : JournalState g.row.D.Denot). j.pending) c.self.view_is ∙ c.requires.idle in
-    held-more g.D.Disk.tells g.D.Disk.told _ _ disk _ _ payloads c.self.inside.version c.self.inside.gate c.args.payload.now _ _ (λ t. c.in-Ok-store.ensures.done t _ (c.self.invariant.rests idle t))
+    held-more g.D.Disk.tells g.D.Disk.told _ _ disk _ _ payloads c.self.inside.version c.self.inside.gate
+    c.args.payload.now _ _ (λ t. c.in-Ok-store.ensures.done t _ (c.self.invariant.rests idle t))
 
 pub returns-in-Err-Memory-clause-still_held : goal.returns-in-Err-Memory-clause-still_held
 returns-in-Err-Memory-clause-still_held g c =
     let disk = ap (λ (j : JournalState g.row.D.Denot). j.disk) c.self.view_is in
     let payloads = ap (λ (j : JournalState g.row.D.Denot). j.payloads) c.self.view_is in
     let idle = ap (λ (j : JournalState g.row.D.Denot). j.pending) c.self.view_is ∙ c.requires.idle in
-    still-held g.D.Disk.tells g.D.Disk.told _ _ disk _ _ payloads c.self.inside.version c.self.inside.gate c.args.payload.now c.store.new.version _ (λ t. c.in-Err-Memory.ensures.memory (err-is _ _ c.in-Err-Memory.field-0-is) t _ (c.self.invariant.rests idle t))
+    still-held g.D.Disk.tells g.D.Disk.told _ _ disk _ _ payloads c.self.inside.version c.self.inside.gate
+    c.args.payload.now c.store.new.version _
+    (λ t. c.in-Err-Memory.ensures.memory (err-is _ _ c.in-Err-Memory.field-0-is) t _ (c.self.invariant.rests idle t))
 
 pub returns-in-Err-Failed-clause-waits : goal.returns-in-Err-Failed-clause-waits
 returns-in-Err-Failed-clause-waits g c =
     let disk = ap (λ (j : JournalState g.row.D.Denot). j.disk) c.self.view_is in
     let payloads = ap (λ (j : JournalState g.row.D.Denot). j.payloads) c.self.view_is in
     let idle = ap (λ (j : JournalState g.row.D.Denot). j.pending) c.self.view_is ∙ c.requires.idle in
-    now-pending g.D.Disk.tells g.D.Disk.told _ _ disk _ _ payloads c.self.inside.version c.self.inside.gate c.args.payload.now c.store.new.version _ (λ t. c.in-Err-Failed.ensures.failed (err-is _ _ c.in-Err-Failed.field-0-is) t _ (c.self.invariant.rests idle t))
+    now-pending g.D.Disk.tells g.D.Disk.told _ _ disk _ _ payloads c.self.inside.version c.self.inside.gate
+    c.args.payload.now c.store.new.version _
+    (λ t. c.in-Err-Failed.ensures.failed (err-is _ _ c.in-Err-Failed.field-0-is) t _ (c.self.invariant.rests idle t))

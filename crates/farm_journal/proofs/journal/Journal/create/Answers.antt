@@ -4,5 +4,6 @@ use Rattle.farm_journal.proofs.journal.Journal.create.Goals as goal
 
 pub returns-in-Ok-true-clause-held : goal.returns-in-Ok-true-clause-held
 returns-in-Ok-true-clause-held g c tells =
-    created-held (g.D.Disk.told c.found.new.disk) c.in-Ok-true.field-0 c.bytes.result.now c.args.payload.items c.in-Ok-true.field-0-test
+    created-held (g.D.Disk.told c.found.new.disk) c.in-Ok-true.field-0 c.bytes.result.now c.args.payload.items
+    c.in-Ok-true.field-0-test
     (c.bytes.ensures ∙ c.of-payload.ensures) (λ is. c.in-Ok-true.ensures.done is tells)

@@ -1,5 +1,5 @@
 -- What opening a journal leaves, by the lemmas of `Journals`.
-use Rattle.std.proofs.Common.{◌≡◌, ◌∙◌, ℕ, refl, sym, ap, true, None, List}
+use Rattle.std.proofs.Common.{◌∙◌, ℕ, refl, sym, ap, None, List}
 use Rattle.farm_journal.specs.Layout.{opens, version_of}
 use Rattle.farm_journal.proofs.Journals.{kept-opened}
 use Rattle.farm_journal.proofs.journal.Journal.open_on.Goals as goal
@@ -7,8 +7,10 @@ use Rattle.farm_journal.proofs.journal.Journal.open_on.Goals as goal
 pub invariant_of-journal : goal.invariant_of-journal
 invariant_of-journal g c =
     let found = c.in-Ok-find.ensures in
-    kept-opened g.D.Disk.tells g.D.Disk.told c.read_whole.new.disk c.in-Ok.bytes.items found.0 c.in-Ok-find.found.past None c.in-Ok-find.found.gate c.version_of_byte.result
-    refl found.2.told found.2.gate (c.version_of_byte.ensures ∙ ap (λ (l : List ℕ). version_of l) c.deref-in-Ok-find.ensures.value)
+    kept-opened g.D.Disk.tells g.D.Disk.told c.read_whole.new.disk c.in-Ok.bytes.items found.0 c.in-Ok-find.found.past
+    None c.in-Ok-find.found.gate c.version_of_byte.result
+    refl found.2.told found.2.gate
+    (c.version_of_byte.ensures.byte ∙ ap (λ (l : List ℕ). version_of l) c.deref-in-Ok-find.ensures.value)
     (λ t. ap (λ (l : List ℕ). opens l) (sym c.deref.ensures.value) ∙ found.1)
     (λ t.
     let told = sym c.read_whole.ensures.same ∙ t in

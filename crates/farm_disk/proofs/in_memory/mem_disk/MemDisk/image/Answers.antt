@@ -1,4 +1,4 @@
-use Rattle.std.proofs.Common.{ℕ, ◌≡◌, List, Vec, Global, map, ap, sym, subst}
+use Rattle.std.proofs.Common.{◌≡◌, List, map, ap, subst}
 use Rattle.farm_disk.specs.Images.{IsImage, Step}
 use Rattle.farm_disk.specs.InMemory.{DiskInMemory, step_of}
 use Rattle.farm_disk.proofs.MarkSteps.{filled-image}
@@ -11,4 +11,5 @@ returns-clause-image c =
     let tracks = c.self.invariant.tracks in
     let same : steps ≡ c.args.self.now.disk.steps = ap (λ (d : DiskInMemory). d.disk.steps) c.self.view_is in
     if_ok-both c.image.result c.image.ensures.size c.image.ensures.bytes (λ image size bytes.
-    subst (λ (s : List Step). IsImage s image.items) same (filled-image steps c.args.fill c.args.size image.items tracks.run (size steps tracks) (bytes steps tracks)))
+    subst (λ (s : List Step). IsImage s image.items) same
+    (filled-image steps c.args.fill c.args.size image.items tracks.run (size steps tracks) (bytes steps tracks)))
