@@ -88,11 +88,11 @@ sum_to-kept_weight_fits priors f floor fails passes n i a b c h fits =
     omega (arith, fits, mul-le-mul most same)
 
 -- and each product of the walk fits 128 bits
-pub product_fits : (priors : List ℕ) (f : Factors) (place : ℕ) (c : Counts) (load : ℕ) → place < length priors → count_of c ≡ load → Fits (sum priors) f load
-    → product f (get_or priors place 0) c < 2 ^ 128
-product_fits priors f place c load short all fits =
+pub product_fits : (priors : List ℕ) (f : Factors) (index : ℕ) (c : Counts) (load : ℕ) → index < length priors → count_of c ≡ load → Fits (sum priors) f load
+    → product f (get_or priors index 0) c < 2 ^ 128
+product_fits priors f index c load short all fits =
     let m = greatest_factor f ^ load in
-    let most : product f (get_or priors place 0) c ≤ get_or priors place 0 * m = rw all at (product-le f (get_or priors place 0) c) in
-    let prior : get_or priors place 0 ≤ sum priors = omega (arith, get_or-le-counted priors place short, sum_to-slice_index priors) in
-    let bounded : get_or priors place 0 * m ≤ sum priors * m = mul-le-mul prior (let same : m ≤ m = omega arith in same) in
+    let most : product f (get_or priors index 0) c ≤ get_or priors index 0 * m = rw all at (product-le f (get_or priors index 0) c) in
+    let prior : get_or priors index 0 ≤ sum priors = omega (arith, get_or-le-counted priors index short, sum_to-slice_index priors) in
+    let bounded : get_or priors index 0 * m ≤ sum priors * m = mul-le-mul prior (let same : m ≤ m = omega arith in same) in
     omega (arith, fits)

@@ -7,7 +7,7 @@ use Rattle.weight_exact.specs.Weights.{sum_to}
 use Rattle.weight_exact.specs.declared.run.Run.{Run}
 use Rattle.weight_exact.proofs.SumTo.{sum_to-same, sum_to-zero}
 
--- a single mark at place k, summed up to m
+-- a single mark at index k, summed up to m
 sum_to-mark : (k m : ℕ) → 1 ≤ k → sum_to (λ p. cond (k == p) 1 0) m ≡ cond (nat_le k m) 1 0
 sum_to-mark k zero low = grind (arith, nat_tests)
 sum_to-mark k (suc m) low = let rest = sum_to-mark k m low in grind (arith, nat_tests, rest)

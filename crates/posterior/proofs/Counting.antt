@@ -6,7 +6,7 @@ use Rattle.weight_exact.proofs.SumTo.{sum_to-zero, sum_to-same, sum_to_more, mem
 use Rattle.posterior.specs.Kept.{at}
 use Rattle.posterior.specs.Counted.{AreCleared, counted_to, counted}
 
--- a write at place i leaves the other places
+-- a write at index i leaves the other places
 pub at-set_other : (xs : List ℕ) (i v p : ℕ) → 1 ≤ i → 1 ≤ p → p ≢ i → at (set xs (i - 1) v) p ≡ at xs p
 at-set_other xs i v p low here apart =
     let other : p - 1 ≢ i - 1 = λ e. apart (omega arith) in
@@ -15,7 +15,7 @@ at-set_other xs i v p low here apart =
 pub at-set_same : (xs : List ℕ) (i v : ℕ) → 1 ≤ i → i ≤ length xs → at (set xs (i - 1) v) i ≡ v
 at-set_same xs i v low high = get_or-set_same xs (i - 1) v 0 (omega arith)
 
--- a write at place i leaves the counts below it
+-- a write at index i leaves the counts below it
 pub counted_to-set_below : (xs : List ℕ) (i v m : ℕ) → 1 ≤ i → m < i → counted_to (set xs (i - 1) v) m ≡ counted_to xs m
 counted_to-set_below xs i v m low below =
     sum_to-same (at (set xs (i - 1) v)) (at xs) m (λ p first last. at-set_other xs i v p low first (λ e. (let h : p ≡ i = e in omega arith)))
@@ -38,7 +38,7 @@ counted_to-set xs i v (suc m) low high upto =
     omega arith)
     (cases_lt m i)
 
--- a write at place i changes what is counted
+-- a write at index i changes what is counted
 pub counted-set : (xs : List ℕ) (i v : ℕ) → 1 ≤ i → i ≤ length xs → counted (set xs (i - 1) v) + at xs i ≡ counted xs + v
 counted-set xs i v low high =
     let long : counted (set xs (i - 1) v) ≡ counted_to (set xs (i - 1) v) (length xs) = ap (counted_to (set xs (i - 1) v)) (length-set xs (i - 1) v) in
@@ -63,44 +63,44 @@ counted-zeros n = sum_to-zero (at (replicate n 0)) (length (replicate n 0)) (λ 
 pub counted-cleared : (xs : List ℕ) → AreCleared (length xs) xs → counted xs ≡ 0
 counted-cleared xs cleared = sum_to-zero (at xs) (length xs) cleared
 
--- the same at a place counted from 0, as code writes it
-pub place-is : (place : ℕ) → place + 1 - 1 ≡ place
-place-is place = omega arith
+-- the same at an index counted from 0, as code writes it
+pub index-is : (index : ℕ) → index + 1 - 1 ≡ index
+index-is index = omega arith
 
-pub counted-write : (xs : List ℕ) (place v : ℕ) → place < length xs → counted (set xs place v) + get_or xs place 0 ≡ counted xs + v
-counted-write xs place v short =
-    let e = place-is place in
-    let h : counted (set xs (place + 1 - 1) v) + get_or xs (place + 1 - 1) 0 ≡ counted xs + v = counted-set xs (place + 1) v (omega arith) (omega arith) in
+pub counted-write : (xs : List ℕ) (index v : ℕ) → index < length xs → counted (set xs index v) + get_or xs index 0 ≡ counted xs + v
+counted-write xs index v short =
+    let e = index-is index in
+    let h : counted (set xs (index + 1 - 1) v) + get_or xs (index + 1 - 1) 0 ≡ counted xs + v = counted-set xs (index + 1) v (omega arith) (omega arith) in
     rw e at h
 
-pub at-write_other : (xs : List ℕ) (place v p : ℕ) → 1 ≤ p → p ≢ place + 1 → at (set xs place v) p ≡ at xs p
-at-write_other xs place v p low apart =
-    let e = place-is place in
-    let h : at (set xs (place + 1 - 1) v) p ≡ at xs p = at-set_other xs (place + 1) v p (omega arith) low apart in
+pub at-write_other : (xs : List ℕ) (index v p : ℕ) → 1 ≤ p → p ≢ index + 1 → at (set xs index v) p ≡ at xs p
+at-write_other xs index v p low apart =
+    let e = index-is index in
+    let h : at (set xs (index + 1 - 1) v) p ≡ at xs p = at-set_other xs (index + 1) v p (omega arith) low apart in
     rw e at h
 
-pub at-write_same : (xs : List ℕ) (place v p : ℕ) → place < length xs → p ≡ place + 1 → at (set xs place v) p ≡ v
-at-write_same xs place v p short here =
-    let e : p - 1 ≡ place = omega arith in
-    rw e (get_or-set_same xs place v 0 short)
+pub at-write_same : (xs : List ℕ) (index v p : ℕ) → index < length xs → p ≡ index + 1 → at (set xs index v) p ≡ v
+at-write_same xs index v p short here =
+    let e : p - 1 ≡ index = omega arith in
+    rw e (get_or-set_same xs index v 0 short)
 
-pub get_or-le-counted : (xs : List ℕ) (place : ℕ) → place < length xs → get_or xs place 0 ≤ counted xs
-get_or-le-counted xs place short =
-    let e = place-is place in
-    let h : get_or xs (place + 1 - 1) 0 ≤ counted xs = at-le-counted xs (place + 1) (omega arith) (omega arith) in
+pub get_or-le-counted : (xs : List ℕ) (index : ℕ) → index < length xs → get_or xs index 0 ≤ counted xs
+get_or-le-counted xs index short =
+    let e = index-is index in
+    let h : get_or xs (index + 1 - 1) 0 ≤ counted xs = at-le-counted xs (index + 1) (omega arith) (omega arith) in
     rw e at h
 
--- the count up to the next place
-pub counted_to-next : (xs : List ℕ) (place : ℕ) → counted_to xs (place + 1) ≡ counted_to xs place + get_or xs place 0
-counted_to-next xs place =
-    let e : suc place - 1 ≡ place = omega arith in
-    let here : at xs (suc place) ≡ get_or xs place 0 = rw e in
-    rw (add-one place) (omega (arith, here))
+-- the count up to the next index
+pub counted_to-next : (xs : List ℕ) (index : ℕ) → counted_to xs (index + 1) ≡ counted_to xs index + get_or xs index 0
+counted_to-next xs index =
+    let e : suc index - 1 ≡ index = omega arith in
+    let here : at xs (suc index) ≡ get_or xs index 0 = rw e in
+    rw (add-one index) (omega (arith, here))
 
--- what is counted at a place is at most what is counted from there on
-pub get_or-le-rest : (xs : List ℕ) (place rest : ℕ) → rest + counted_to xs place ≡ counted xs → get_or xs place 0 ≤ rest
-get_or-le-rest xs place rest whole =
+-- what is counted at an index is at most what is counted from there on
+pub get_or-le-rest : (xs : List ℕ) (index rest : ℕ) → rest + counted_to xs index ≡ counted xs → get_or xs index 0 ≤ rest
+get_or-le-rest xs index rest whole =
     ⊎_elim
-    (λ (within : place < length xs). omega (arith, counted_to-next xs place, sum_to_more (at xs) (place + 1) (length xs) (omega arith)))
-    (λ (past : length xs ≤ place). omega (arith, get_or_past xs place 0 past))
-    (cases_lt place (length xs))
+    (λ (within : index < length xs). omega (arith, counted_to-next xs index, sum_to_more (at xs) (index + 1) (length xs) (omega arith)))
+    (λ (past : length xs ≤ index). omega (arith, get_or_past xs index 0 past))
+    (cases_lt index (length xs))

@@ -11,19 +11,19 @@ use Rattle.weight_exact.proofs.SumTo.{members-le-sum_to}
 use Rattle.weight_exact.proofs.Shares.{bar_once, last_to-only, last_to-none, at_bar-from_test, is_at_bar-true}
 use Rattle.posterior.specs.Counted.{counted_to, counted}
 use Rattle.posterior.specs.KeptWeight.{kept_weight}
-use Rattle.posterior.proofs.Counting.{place-is}
+use Rattle.posterior.proofs.Counting.{index-is}
 
--- the weight that the walk makes at a place is the kept weight of its hypothesis
-pub kept_weight-here : (priors : List ℕ) (f : Factors) (floor : ℕ) (fails passes : List ℕ) (place : ℕ) (c : Counts)
-    → c.fail_out ≡ counted_to fails place → c.fail_in + c.fail_out ≡ counted fails
-    → c.pass_out ≡ counted_to passes place → c.pass_in + c.pass_out ≡ counted passes
-    → kept_weight priors f floor fails passes (place + 1) ≡ (if nat_le (place + 1) floor then 0 else product f (get_or priors place 0) c)
-kept_weight-here priors f floor fails passes place c fo fi po pi =
-    let e = place-is place in
-    let a : counted fails - counted_to fails place ≡ c.fail_in = omega arith in
-    let b : counted_to fails place ≡ c.fail_out = omega arith in
-    let d : counted passes - counted_to passes place ≡ c.pass_in = omega arith in
-    let h : counted_to passes place ≡ c.pass_out = omega arith in
+-- the weight that the walk makes at an index is the kept weight of its hypothesis
+pub kept_weight-here : (priors : List ℕ) (f : Factors) (floor : ℕ) (fails passes : List ℕ) (index : ℕ) (c : Counts)
+    → c.fail_out ≡ counted_to fails index → c.fail_in + c.fail_out ≡ counted fails
+    → c.pass_out ≡ counted_to passes index → c.pass_in + c.pass_out ≡ counted passes
+    → kept_weight priors f floor fails passes (index + 1) ≡ (if nat_le (index + 1) floor then 0 else product f (get_or priors index 0) c)
+kept_weight-here priors f floor fails passes index c fo fi po pi =
+    let e = index-is index in
+    let a : counted fails - counted_to fails index ≡ c.fail_in = omega arith in
+    let b : counted_to fails index ≡ c.fail_out = omega arith in
+    let d : counted passes - counted_to passes index ≡ c.pass_in = omega arith in
+    let h : counted_to passes index ≡ c.pass_out = omega arith in
     rw (e, a, b, d, h)
 
 -- a product is positive only where its first factor is

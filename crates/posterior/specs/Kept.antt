@@ -12,7 +12,7 @@ pub record Kept : Type 0 where
   pub passes : List ℕ
   pub sums : List ℕ
 
--- the number at place i of a list, counted from 1
+-- the i-th number of a list, counted from 1
 abbrev pub at : List ℕ → ℕ → ℕ
 at xs i = slice_index xs (i - 1)
 

@@ -118,7 +118,8 @@ impl Belief {
         );
     }
 
-    /// Takes in a run at a position from 1 to n. It takes no memory, and a run that changes no weight takes no walk.
+    /// Takes in a run at a position from 1 to n. It takes no memory. A run at or below the floor counts and changes
+    /// nothing, at no step.
     pub fn note<L: Ledger>(
         &mut self,
         position: u16,
@@ -132,8 +133,11 @@ impl Belief {
         ensures unchanged { result ≡ Noted.Over → self.new ≡ self.old }
         ensures counted { (runs : List Run) → StandsFor self.old runs → result ≡ Noted.Counted
             → StandsFor self.new (runs ++ record { position = position; verdict = verdict } ∷ []) }
+        ensures settled { position ≤ self.old.floor → self.new ≡ self.old }
+        ensures settled_counts { position ≤ self.old.floor → result ≡ Noted.Counted }
         ensures setup { self.new.setup ≡ self.old.setup }
         ensures cost { steps.new ≤ steps.old + 2 * hypotheses self.old.setup }
+        ensures rises { steps.old ≤ steps.new }
         ensures free { position ≤ self.old.floor → steps.new ≡ steps.old }
     {
         if position <= self.tallies.floor {
@@ -158,6 +162,8 @@ impl Belief {
         ensures unchanged { result ≡ Noted.Over → self.new ≡ self.old }
         ensures counted { (runs : List Run) → StandsFor self.old runs → result ≡ Noted.Counted
             → StandsFor self.new (runs ++ record { position = position; verdict = verdict } ∷ []) }
+        ensures settled { position ≤ self.old.floor → self.new ≡ self.old }
+        ensures settled_counts { position ≤ self.old.floor → result ≡ Noted.Counted }
         ensures setup { self.new.setup ≡ self.old.setup }
     {
         self.note_on::<Brand>(position, verdict, Blank::new(1))
@@ -173,6 +179,8 @@ impl Belief {
         ensures unchanged { result ≡ Noted.Over → self.new ≡ self.old }
         ensures counted { (runs : List Run) → StandsFor self.old runs → result ≡ Noted.Counted
             → StandsFor self.new (runs ++ record { position = position; verdict = verdict } ∷ []) }
+        ensures settled { position ≤ self.old.floor → self.new ≡ self.old }
+        ensures settled_counts { position ≤ self.old.floor → result ≡ Noted.Counted }
         ensures setup { self.new.setup ≡ self.old.setup }
     {
         self.note(position, verdict, &mut Steps::<L>::new(blank))
@@ -198,6 +206,7 @@ impl Belief {
             → StandsFor self.new (runs ++ record { position = position; verdict = Verdict.Pass } ∷ []) }
         ensures setup { self.new.setup ≡ self.old.setup }
         ensures cost { steps.new ≤ steps.old + 2 * hypotheses self.old.setup }
+        ensures rises { steps.old ≤ steps.new }
     {
         if self.keeps_factors(position) {
             self.strike(position, steps);
@@ -227,6 +236,7 @@ impl Belief {
             → StandsFor self.new (runs ++ record { position = position; verdict = Verdict.Pass } ∷ []) }
         ensures setup { self.new.setup ≡ self.old.setup }
         ensures cost { steps.new ≤ steps.old + 2 * hypotheses self.old.setup }
+        ensures rises { steps.old ≤ steps.new }
     {
         let floor = self.tallies.floor;
         self.tallies.raise_floor(position);
@@ -245,6 +255,7 @@ impl Belief {
             → StandsFor self.new (runs ++ record { position = position; verdict = Verdict.Pass } ∷ []) }
         ensures setup { self.new.setup ≡ self.old.setup }
         ensures cost { steps.new ≤ steps.old + 2 * hypotheses self.old.setup }
+        ensures rises { steps.old ≤ steps.new }
     {
         self.tallies.raise_floor(position);
         self.reached = weigh(
@@ -267,6 +278,7 @@ impl Belief {
             → StandsFor self.new (runs ++ record { position = position; verdict = verdict } ∷ []) }
         ensures setup { self.new.setup ≡ self.old.setup }
         ensures cost { steps.new ≤ steps.old + 2 * hypotheses self.old.setup }
+        ensures rises { steps.old ≤ steps.new }
     {
         let floor = self.tallies.floor;
         let (inside, outside) = self.factors.of_verdict(verdict);

@@ -46,6 +46,7 @@ pub fn at_bar<L: Ledger>(sums: &Sums, floor: u16, bar: Bar, steps: &mut Steps<L>
     requires middle { HasMiddle floor sums.now }
     ensures bar { (w : ℕ → ℕ) → AreSumsOf w sums.now → result ≡ reaching bar w sums.now }
     ensures cost { steps.new ≤ steps.old + (length sums.now - floor) }
+    ensures rises { steps.old ≤ steps.new }
 {
     let last = sums.suspects() as u16 + 1;
     let whole = sums.at(usize::from(last), steps);

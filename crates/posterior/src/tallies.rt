@@ -144,9 +144,9 @@ fn clear_between(counts: &mut [u32], all: u32, start: usize, end: usize) -> u32
     ensures fewer { result ≤ all }
 {
     let mut left = all;
-    for place in start..end {
-        left -= counts[place];
-        counts[place] = 0;
+    for index in start..end {
+        left -= counts[index];
+        counts[index] = 0;
     }
     left
 }

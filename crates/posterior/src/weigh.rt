@@ -35,11 +35,11 @@ fn weight_of<L: Ledger>(
     }
 }
 
-/// How many are counted at a place, of which the last hypothesis has none.
-fn count_in(counts: &[u32], place: usize) -> u32
-    ensures { result ≡ slice_index counts.now place }
+/// How many are counted at an index, of which the last hypothesis has none.
+fn count_in(counts: &[u32], index: usize) -> u32
+    ensures { result ≡ slice_index counts.now index }
 {
-    counts.get(place).copied().unwrap_or(0)
+    counts.get(index).copied().unwrap_or(0)
 }
 
 /// The counts for the next hypothesis: the runs at the position just passed had its culprit out.
@@ -76,6 +76,7 @@ pub fn weigh<L: Ledger>(
     ensures sums { AreSumsOf (tallied_weight priors.now powers.now.factors tallies.now) sums.new }
     ensures reached { result ≡ reaching bar (tallied_weight priors.now powers.now.factors tallies.now) sums.new }
     ensures cost { steps.new ≤ steps.old + 2 * length priors.now }
+    ensures rises { steps.old ≤ steps.new }
 {
     let mut counts = Counts {
         fail_in: tallies.failed,
@@ -88,16 +89,16 @@ pub fn weigh<L: Ledger>(
         weight: 0,
     };
     let mut whole = 0;
-    for place in 0..priors.len() {
-        let cleared = place + 1 <= tallies.floor as usize;
-        let weight = weight_of(powers, priors[place], cleared, counts, steps);
+    for index in 0..priors.len() {
+        let cleared = index + 1 <= tallies.floor as usize;
+        let weight = weight_of(powers, priors[index], cleared, counts, steps);
         whole += weight;
-        sums.set(place + 1, whole, steps);
-        heaviest = heaviest.or(place as u16 + 1, weight);
+        sums.set(index + 1, whole, steps);
+        heaviest = heaviest.or(index as u16 + 1, weight);
         counts = past(
             counts,
-            count_in(&tallies.fails, place),
-            count_in(&tallies.passes, place),
+            count_in(&tallies.fails, index),
+            count_in(&tallies.passes, index),
         );
     }
     heaviest.at_bar(bar, whole)

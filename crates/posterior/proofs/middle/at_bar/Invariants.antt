@@ -15,6 +15,7 @@ invariant-loop-span g l = record {
   part : l.span.upto ≤ last_of l.sums;
   sums : (w : ℕ → ℕ) → AreSumsOf w l.sums → (l.span.before ≡ sum_to w l.span.low) × (l.span.upto ≡ sum_to w l.span.high);
   cost : l.steps + (l.span.high - l.span.low) ≤ l.fn.steps + 1 + (length l.sums - l.floor);
+  rises : l.fn.steps ≤ l.steps;
 }
 
 abbrev pub decreases-loop-span : goal.decreases-loop-span

@@ -5,22 +5,22 @@ use Rattle.posterior.proofs.tallies.clear_between.Goals as goal
 
 pub overflow_sub-left : goal.overflow_sub-left
 overflow_sub-left c =
-    let short : c.loop-place.place < length c.loop-place.counts = omega arith in
-    omega (arith, get_or-le-counted c.loop-place.counts c.loop-place.place short, c.loop-place.invariant.all)
+    let short : c.loop-index.index < length c.loop-index.counts = omega arith in
+    omega (arith, get_or-le-counted c.loop-index.counts c.loop-index.index short, c.loop-index.invariant.all)
 
-pub loop-place-preserved : goal.loop-place-preserved
-loop-place-preserved c =
-    let i = c.loop-place.invariant in
-    let xs = c.loop-place.counts in
-    let place = c.loop-place.place in
-    let short : place < length xs = omega arith in
+pub loop-index-preserved : goal.loop-index-preserved
+loop-index-preserved c =
+    let i = c.loop-index.invariant in
+    let xs = c.loop-index.counts in
+    let index = c.loop-index.index in
+    let short : index < length xs = omega arith in
     record {
       cleared = λ p low high.
           ⊎_elim
-          (λ (before : p < place + 1). at-write_other xs place 0 p low (λ e. (let h : p ≡ place + 1 = e in omega arith)) ∙ i.cleared p low (omega arith))
-          (λ (here : place + 1 ≤ p). at-write_same xs place 0 p short (omega arith))
-          (cases_lt p (place + 1));
-      above = λ p high. at-write_other xs place 0 p (omega arith) (λ e. (let h : p ≡ place + 1 = e in omega arith)) ∙ i.above p (omega arith);
-      all = omega (arith, counted-write xs place 0 short, get_or-le-counted xs place short, i.all);
+          (λ (before : p < index + 1). at-write_other xs index 0 p low (λ e. (let h : p ≡ index + 1 = e in omega arith)) ∙ i.cleared p low (omega arith))
+          (λ (here : index + 1 ≤ p). at-write_same xs index 0 p short (omega arith))
+          (cases_lt p (index + 1));
+      above = λ p high. at-write_other xs index 0 p (omega arith) (λ e. (let h : p ≡ index + 1 = e in omega arith)) ∙ i.above p (omega arith);
+      all = omega (arith, counted-write xs index 0 short, get_or-le-counted xs index short, i.all);
       fewer = omega (arith, i.fewer);
     }
