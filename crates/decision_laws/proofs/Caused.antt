@@ -1,7 +1,8 @@
 -- A decision that refuses has the refusal's cause, and a cause has its refusal.
 use Rattle.std.proofs.Common.{◌≡◌, ℕ, ◌+◌, nat_le, Bool, true, false, List, length, slice_get, if◌then◌else◌, Option, Some, None, Result, Ok, Err, refl, sym, ap, subst, ◌∙◌, true≢false}
 use Rattle.std.specs.Option.{option_map}
-use Rattle.std.proofs.lemmas.Option.{none-some}
+use Rattle.std.proofs.lemmas.Bool.{false_from_ne_true}
+use Rattle.std.proofs.lemmas.Option.{none-some, same_Some}
 use Rattle.weight_exact.specs.declared.run.Verdict.{Verdict}
 use Rattle.farm_types.specs.declared.key.Key.{Key}
 use Rattle.farm_types.specs.declared.moment.Moment.{Moment}
@@ -35,7 +36,7 @@ use Rattle.farm_entry.specs.declared.refusal.Refusal.TheVariants.{BadOpen, Daily
 use Rattle.farm_laws.proofs.Made.{is_made}
 use Rattle.farm_laws.proofs.Repeats.{Placed, all-placed}
 use Rattle.decision_laws.specs.Causes.{AsksTheSame, CauseOf, IsClash, IsFull, IsOutside, IsWellFormed, IsWhat, IsWithinLimits}
-use Rattle.decision_laws.proofs.Held.{at-key, at-report, asked-what, some-same, what-asked}
+use Rattle.decision_laws.proofs.Held.{at-key, at-report, asked-what, what-asked}
 use Rattle.decision_laws.proofs.Own.{caused, ended-refuses, many-refused, no_lease-refused, no_revert-refused, no_run-refused, no_search-refused, over_day-refused, own-refused}
 use Rattle.decision_laws.proofs.Parts.{FullSays, KnownSays, ShapeSays, Speaks, clashes, formed, full, full-decides, full-says, full-some, is_new, is_taken, known, known-decides, known-none, known-says, own, repeats, reported, shape, shape-decides, shape-none, shape-says, speaks, taken-decides}
 
@@ -121,16 +122,12 @@ keyed-at H q key place e b keyed found there asks =
     ∙ ap (λ (x : Bool). Some (if x then Repeat place else Refuse (KeyClash place))) (asked-there H q place e there
     ∙ asks)
 
-false-if : (b : Bool) → (b ≡ true → ⊥) → b ≡ false
-false-if true h = absurd (h refl)
-false-if false h = refl
-
 clash-refused : (H : List Entry) (q : Command) (m : Moment) (place : ℕ) → IsLegal H → IsClash H q place →
     decide H q m ≡ Refuse (KeyClash place)
 clash-refused H q m place legal c =
     let placed = all-placed H legal place c.entry c.there in
     let no : asks_for c.entry.what q ≡ false =
-    false-if (asks_for c.entry.what q) (λ t. c.other
+    false_from_ne_true (asks_for c.entry.what q) (λ t. c.other
     (asked-what H place c.entry q c.key legal c.there c.holds c.keyed t)) in
     known-decides H q m (Refuse (KeyClash place)) (shape-none q c.formed)
     (keyed-at H q c.key place c.entry false c.keyed (placed.by_key c.key c.holds) c.there no)
@@ -266,30 +263,30 @@ keyed-same p q what key holds keyed same = by_key key holds (ap key_of (sym same
 finds : (what : What) (p q : Command) → command_of what ≡ Some p → AsksTheSame p q → Finds what q
 finds (Founded settings) p q names same = absurd (none-some p names)
 finds (Opened o) p q names same =
-    let first : p ≡ command.Open (ask_of o) = sym (some-same (command.Open (ask_of o)) p names) in
+    let first : p ≡ command.Open (ask_of o) = sym (same_Some (command.Open (ask_of o)) p names) in
     let here : AsksTheSame (command.Open (ask_of o)) q = subst (λ (x : Command). AsksTheSame x q) first same in
     let mine : o.key ≡ here.2.key = (is_made (ask_of o) 0 here.2 here.3).key in
     let other : here.0.key ≡ here.2.key = (is_made here.0 0 here.2 here.4).key in
     by_key o.key refl (ap key_of here.1 ∙ ap Some (other ∙ sym mine))
 finds (Leased k worker run search stage position deadline) p q names same =
-    let first : p ≡ command.Lease k worker = sym (some-same (command.Lease k worker) p names) in
+    let first : p ≡ command.Lease k worker = sym (same_Some (command.Lease k worker) p names) in
     keyed-same (command.Lease k worker) q (Leased k worker run search stage position deadline) k refl refl
     (subst (λ (x : Command). AsksTheSame x q) first same)
 finds (Reported run verdict fate) p q names same =
-    let first : p ≡ command.Report run verdict = sym (some-same (command.Report run verdict) p names) in
+    let first : p ≡ command.Report run verdict = sym (same_Some (command.Report run verdict) p names) in
     let here : AsksTheSame (command.Report run verdict) q = subst (λ (x : Command). AsksTheSame x q) first same in
     by_run run verdict here.0 fate refl here.1
 finds (Cancelled k search) p q names same =
-    let first : p ≡ command.Cancel k search = sym (some-same (command.Cancel k search) p names) in
+    let first : p ≡ command.Cancel k search = sym (same_Some (command.Cancel k search) p names) in
     keyed-same (command.Cancel k search) q (Cancelled k search) k refl refl (subst (λ (x : Command).
     AsksTheSame x q) first same)
 finds (Ordered k agent order commit search day) p q names same =
-    let first : p ≡ command.TakeRevert k agent = sym (some-same (command.TakeRevert k agent) p names) in
+    let first : p ≡ command.TakeRevert k agent = sym (same_Some (command.TakeRevert k agent) p names) in
     keyed-same (command.TakeRevert k agent) q (Ordered k agent order commit search day) k refl refl
     (subst (λ (x : Command). AsksTheSame x q) first same)
 
 -- a command that asks for what was asked before is well formed
-open-formed : (p q : Command) → AsksTheSame p q → (ask : OpenAsk) → q ≡ command.Open ask → IsWithinLimits ask
+pub open-formed : (p q : Command) → AsksTheSame p q → (ask : OpenAsk) → q ≡ command.Open ask → IsWithinLimits ask
 open-formed (command.Open first) q same ask is =
     let both : command.Open same.0 ≡ command.Open ask = sym same.1 ∙ is in
     let equal : same.0 ≡ ask = cc in

@@ -3,7 +3,7 @@ use Rattle.std.proofs.Common.{◌≡◌, ℕ, ◌<◌, ◌==◌, Bool, true, fal
 use Rattle.std.specs.Str.{bytes_eq}
 use Rattle.std.proofs.lemmas.Bool.Decides.{nat_tests, Decides-eqb}
 use Rattle.std.proofs.lemmas.List.Quantifiers.{position-Some}
-use Rattle.std.proofs.lemmas.Option.{none-some, slice_get-get_or}
+use Rattle.std.proofs.lemmas.Option.{none-some, same_Some, slice_get-get_or}
 use Rattle.std.proofs.lemmas.Slice.Eq.{bytes_eq-Decides}
 use Rattle.weight_exact.specs.declared.run.Verdict.{Verdict}
 use Rattle.farm_types.specs.declared.key.Key.{Key}
@@ -21,12 +21,11 @@ use Rattle.farm_entry.specs.declared.entry.What.TheVariants.{Founded, Opened, Le
 use Rattle.farm_entry.specs.declared.lease.ReportedRun.{ReportedRun}
 use Rattle.farm_entry.specs.declared.opening.Opening.{Opening}
 use Rattle.farm_entry.specs.declared.refusal.OpenFault.{OpenFault}
-use Rattle.farm_laws.proofs.Again.{made_again, under}
+use Rattle.farm_laws.proofs.Again.{all_there, made_again, under}
 use Rattle.farm_laws.proofs.Made.{is_made}
-use Rattle.farm_laws.proofs.Repeats.{Placed, all-placed}
+use Rattle.farm_laws.proofs.Repeats.{Placed, all-placed, same_text}
 use Rattle.farm_laws.proofs.SameEntries.{same_opening-Decides}
 use Rattle.decision_laws.specs.Causes.{AsksTheSame, IsWhat}
-use Rattle.decision_laws.proofs.Own.{there_again}
 
 -- The entry at a place.
 
@@ -97,7 +96,7 @@ made_under ask search number o h =
     let made = is_made ask search o h in
     let same_key : ask.key ≡ o.key = made.key in
     let same_test : ask.test ≡ o.test = made.test in
-    there_again ask.key ask.test number o (asked_range ask) (asked_rate ask) (asked_miss ask) (asked_bar ask)
+    all_there ask.key ask.test number o (asked_range ask) (asked_rate ask) (asked_miss ask) (asked_bar ask)
     (asked_width ask) (asked_reruns ask)
     made.range made.rate made.miss made.bar made.width made.reruns
     ∙ (λ i. Ok (record {
@@ -125,7 +124,7 @@ makes-same : (o : Opening) (r : Result Opening OpenFault) → makes_opening o r 
 makes-same o (Ok made) h = ap Ok ((same_opening-Decides made o).0 h)
 makes-same o (Err f) h = absurd (true≢false (sym h))
 
-ok-same : (r : Result Opening OpenFault) (a b : Opening) → r ≡ Ok a → r ≡ Ok b → a ≡ b
+pub ok-same : (r : Result Opening OpenFault) (a b : Opening) → r ≡ Ok a → r ≡ Ok b → a ≡ b
 ok-same r a b h k = cc
 
 -- an open that an opening is what it asks for asks for the same as the opening's own
@@ -147,9 +146,6 @@ asks-open o x ask own mine other =
     let again : opening_of ask o.search ≡ Ok o = made ∙ ap (λ (y : Opening). Ok (under y o.search)) (sym same) in
     ap (makes_opening o) again ∙ (same_opening-Decides o o).1 refl
 
-pub some-same : {X : Type 0} (a b : X) → Some a ≡ Some b → a ≡ b
-some-same a b h = cc
-
 -- what an entry records is what a command asks for, where both hold one key
 asked-as : (what : What) (q : Command) (key : Key) → ((o : Opening) → what ≡ Opened o →
     opening_of (ask_of o) o.search ≡ Ok o) →
@@ -158,15 +154,15 @@ asked-as : (what : What) (q : Command) (key : Key) → ((o : Opening) → what �
 asked-as (Opened o) (command.Open ask) key own holds keyed asks =
     (command.Open (ask_of o), refl, open-asks o ask (own o refl) asks)
 asked-as (Leased k worker run search stage position deadline) (command.Lease k' worker') key own holds keyed asks =
-    let same_key : k ≡ k' = some-same k k' (holds ∙ sym keyed) in
+    let same_key : k ≡ k' = same_Some k k' (holds ∙ sym keyed) in
     let same : worker ≡ worker' = (bytes_eq-Decides worker worker').0 asks in
     (command.Lease k worker, refl, cc)
 asked-as (Cancelled k search) (command.Cancel k' search') key own holds keyed asks =
-    let same_key : k ≡ k' = some-same k k' (holds ∙ sym keyed) in
+    let same_key : k ≡ k' = same_Some k k' (holds ∙ sym keyed) in
     let same : search ≡ search' = (Decides-eqb search search').0 asks in
     (command.Cancel k search, refl, cc)
 asked-as (Ordered k agent order commit search day) (command.TakeRevert k' agent') key own holds keyed asks =
-    let same_key : k ≡ k' = some-same k k' (holds ∙ sym keyed) in
+    let same_key : k ≡ k' = same_Some k k' (holds ∙ sym keyed) in
     let same : agent ≡ agent' = (bytes_eq-Decides agent agent').0 asks in
     (command.TakeRevert k agent, refl, cc)
 asked-as what q key own holds keyed asks = absurd (true≢false (sym asks))
@@ -177,31 +173,28 @@ pub asked-what : (H : List Entry) (place : ℕ) (e : Entry) (q : Command) (key :
 asked-what H place e q key legal there holds keyed asks =
     asked-as e.what q key (λ o holds_it. own-open H place e o legal there holds_it) holds keyed asks
 
-same_text : (text : List ℕ) → bytes_eq text text ≡ true
-same_text text = (bytes_eq-Decides text text).1 refl
-
 -- and back: what names a command that asks for the same is what is asked for
 what-as : (what : What) (p q : Command) (key : Key) → ((o : Opening) → what ≡ Opened o →
     opening_of (ask_of o) o.search ≡ Ok o) →
     key_in what ≡ Some key → command_of what ≡ Some p → AsksTheSame p q → asks_for what q ≡ true
 what-as (Founded settings) p q key own holds names same = absurd (none-some key holds)
 what-as (Opened o) p q key own holds names same =
-    let first : p ≡ command.Open (ask_of o) = sym (some-same (command.Open (ask_of o)) p names) in
+    let first : p ≡ command.Open (ask_of o) = sym (same_Some (command.Open (ask_of o)) p names) in
     let here : AsksTheSame (command.Open (ask_of o)) q = subst (λ (x : Command). AsksTheSame x q) first same in
     subst (λ (x : Command). asks_for (Opened o) x ≡ true) (sym here.1)
     (asks-open o here.2 here.0 (own o refl) here.3 here.4)
 what-as (Leased k worker run search stage position deadline) p q key own holds names same =
-    let first : p ≡ command.Lease k worker = sym (some-same (command.Lease k worker) p names) in
+    let first : p ≡ command.Lease k worker = sym (same_Some (command.Lease k worker) p names) in
     let here : command.Lease k worker ≡ q = subst (λ (x : Command). AsksTheSame x q) first same in
     subst (λ (x : Command). asks_for (Leased k worker run search stage position deadline) x ≡ true) here
     (same_text worker)
 what-as (Reported run verdict _) p q key own holds names same = absurd (none-some key holds)
 what-as (Cancelled k search) p q key own holds names same =
-    let first : p ≡ command.Cancel k search = sym (some-same (command.Cancel k search) p names) in
+    let first : p ≡ command.Cancel k search = sym (same_Some (command.Cancel k search) p names) in
     let here : command.Cancel k search ≡ q = subst (λ (x : Command). AsksTheSame x q) first same in
     subst (λ (x : Command). asks_for (Cancelled k search) x ≡ true) here ((Decides-eqb search search).1 refl)
 what-as (Ordered k agent order commit search day) p q key own holds names same =
-    let first : p ≡ command.TakeRevert k agent = sym (some-same (command.TakeRevert k agent) p names) in
+    let first : p ≡ command.TakeRevert k agent = sym (same_Some (command.TakeRevert k agent) p names) in
     let here : command.TakeRevert k agent ≡ q = subst (λ (x : Command). AsksTheSame x q) first same in
     subst (λ (x : Command). asks_for (Ordered k agent order commit search day) x ≡ true) here (same_text agent)
 

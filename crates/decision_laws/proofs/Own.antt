@@ -1,6 +1,7 @@
 -- What a command's own case refuses, and why.
 use Rattle.std.proofs.Common.{◌≡◌, ℕ, ◌+◌, ◌<◌, ◌≤◌, ◌⊎◌, Bool, true, false, not, nat_le, nat_lt, List, [], ◌∷◌, length, map, filter, Contains, if◌then◌else◌, Option, Some, None, Result, Ok, Err, refl, sym, ap, subst, ◌||◌, inl, inr, ◌∙◌, ⊎_elim, arith, true≢false}
 use Rattle.std.specs.List.{filter_map, list_any}
+use Rattle.std.proofs.lemmas.Bool.{false_from_ne_true, not-false, not-true}
 use Rattle.std.proofs.lemmas.Bool.Decides.{nat_tests}
 use Rattle.std.proofs.lemmas.Option.{none-some}
 use Rattle.flake_rate.specs.declared.bar.Bar.{Bar}
@@ -19,6 +20,7 @@ use Rattle.farm_types.specs.Moment.{moment_ms}
 use Rattle.farm_types.specs.declared.commit_id.CommitId.{CommitId}
 use Rattle.farm_types.specs.declared.key.Key.{Key}
 use Rattle.farm_types.specs.declared.moment.Moment.{Moment}
+use Rattle.farm_rules.proofs.Earliest.{earliest-contained, earliest-none}
 use Rattle.farm_entry.specs.Ask.{and_then, asked_bar, asked_miss, asked_range, asked_rate, asked_reruns, asked_width, opening_of}
 use Rattle.farm_entry.specs.Decision.{add_opening, cancel_decision, decide, lease_decision, moment_used, open_decision, own_decision, page_decision, report_decision, revert_decision}
 use Rattle.farm_entry.specs.Due.{due, due_runs, next_run, sooner, soonest}
@@ -43,10 +45,11 @@ use Rattle.farm_entry.specs.declared.refusal.Refusal.{Refusal}
 use Rattle.farm_entry.specs.declared.refusal.Refusal.TheVariants.{BadOpen, DailyLimit, NoRevert, NoRun, SearchEnded, TooManySearches, UnknownRun, UnknownSearch}
 use Rattle.farm_entry.specs.declared.standing.Standing.{Standing}
 use Rattle.farm_entry.specs.declared.standing.Standing.TheVariants as standings
+use Rattle.farm_laws.proofs.Again.{all_there}
 use Rattle.farm_laws.proofs.Known.{MadeFrom, made-from}
+use Rattle.farm_laws.proofs.Lists.{contains-head, contains-nil, contains-cons, contains-tail, filter-nil, filter-there, filter_map-nil, filter_map-there, nil-filter, nil-filter_map, there-filter}
 use Rattle.farm_laws.proofs.Made.{is_made}
 use Rattle.decision_laws.specs.Causes.{CauseOf, HasEnded, HasManySearches, HasNoRevert, HasNoRun, IsOfNoLease, IsOfNoSearch, IsOrdered, IsOverDay, IsTaken, IsWithinLimits}
-use Rattle.decision_laws.proofs.Lists.{contains-head, contains-nil, contains-cons, contains-tail, filter-nil, filter-there, filter_map-nil, filter_map-there, nil-filter, nil-filter_map, there-filter}
 
 -- a decision that refuses, and one that doesn't
 new-refuse : (e : Entry) (r : Refusal) → New e ≡ Refuse r → ⊥
@@ -62,38 +65,13 @@ caused H q m r s cause e = let same : r ≡ s = cc in subst (λ (x : Refusal). C
 
 -- Opens.
 
--- the opening of its parts
-abbrev pub of_parts : Key → List ℕ → ℕ → RangeView → Rate → Miss → Bar → ℕ → ℕ → Opening
-of_parts key test number range rate miss bar width reruns = record {
-  key = key;
-  search = number;
-  test = test;
-  range = range;
-  rate = rate;
-  miss = miss;
-  bar = bar;
-  width = width;
-  reruns = reruns;
-}
-
-pub there_again : (key : Key) (test : List ℕ) (number : ℕ) (o : Opening) (range : Result RangeView OpenFault)
-    (rate : Result Rate OpenFault)
-    (miss : Rate → Result Miss OpenFault) (bar : Result Bar OpenFault) (width reruns : Result ℕ OpenFault) →
-    range ≡ Ok o.range → rate ≡ Ok o.rate → miss o.rate ≡ Ok o.miss → bar ≡ Ok o.bar → width ≡ Ok o.width →
-    reruns ≡ Ok o.reruns →
-    and_then range (λ r. and_then rate (λ a. and_then (miss a) (λ m. and_then bar (λ b. and_then width (λ w.
-    and_then reruns
-    (λ n. Ok (of_parts key test number r a m b w n)))))))
-    ≡ Ok (of_parts key test number o.range o.rate o.miss o.bar o.width o.reruns)
-there_again key test number o range rate miss bar width reruns e1 e2 e3 e4 e5 e6 = rw (e1, e2, e3, e4, e5, e6)
-
 -- what can be opened under one number can be opened under each
 pub renumbered : (ask : OpenAsk) (search number : ℕ) (o : Opening) → opening_of ask search ≡ Ok o →
     (x : Opening) × (opening_of ask number ≡ Ok x)
 renumbered ask search number o h =
     let made = is_made ask search o h in (
       _,
-      there_again ask.key ask.test number o (asked_range ask) (asked_rate ask) (asked_miss ask) (asked_bar ask)
+      all_there ask.key ask.test number o (asked_range ask) (asked_rate ask) (asked_miss ask) (asked_bar ask)
           (asked_width ask) (asked_reruns ask)
           made.range made.rate made.miss made.bar made.width made.reruns,
     )
@@ -300,38 +278,6 @@ there-confirmed H c there =
 abbrev is_free : List Ordered → Candidate → Bool
 is_free given c = not (has_order given c.commit)
 
-earliest-nil : (cs : List Candidate) → earliest cs ≡ None → cs ≡ []
-earliest-nil [] h = refl
-earliest-nil (c ∷ cs) h = absurd (none-some _ (sym h))
-
-earlier-if : (c : Candidate) (rest : List Candidate) (y x : Candidate) (b : Bool) → Contains rest y →
-    (if b then c else y) ≡ x → Contains (c ∷ rest) x
-earlier-if c rest y x true there h = contains-head rest c x h
-earlier-if c rest y x false there h = subst (Contains (c ∷ rest)) h (contains-tail c rest y there)
-
-earlier-there : (c : Candidate) (rest : List Candidate) (o : Option Candidate) (x : Candidate) → ((y : Candidate) →
-    o ≡ Some y → Contains rest y) →
-    earlier c o ≡ x → Contains (c ∷ rest) x
-earlier-there c rest None x later h = contains-head rest c x h
-earlier-there c rest (Some y) x later h = earlier-if c rest y x (nat_le c.search y.search) (later y refl) h
-
-earliest-there : (cs : List Candidate) (x : Candidate) → earliest cs ≡ Some x → Contains cs x
-earliest-there [] x h = absurd (none-some x h)
-earliest-there (c ∷ cs) x h =
-    let same : earlier c (earliest cs) ≡ x = cc in earlier-there c cs (earliest cs) x (earliest-there cs) same
-
-not-false : (b : Bool) → not b ≡ false → b ≡ true
-not-false true h = refl
-not-false false h = absurd (true≢false h)
-
-not-true : (b : Bool) → not b ≡ true → b ≡ false
-not-true true h = absurd (true≢false (sym h))
-not-true false h = refl
-
-unordered-false : (b : Bool) → (b ≡ true → ⊥) → b ≡ false
-unordered-false true h = absurd (h refl)
-unordered-false false h = refl
-
 -- no candidate is left where each confirmed commit has an order, and only there
 none-left : (H : List Entry) → candidates (confirmed_searches H) (orders H) ≡ [] → (o : Opening) (culprit : ℕ) →
     Contains (openings H) o →
@@ -409,7 +355,7 @@ revert-refused : (H : List Entry) (key : Key) (agent : List ℕ) (m : Moment) (r
 revert-refused H key agent m r (Err none.NoRevert) t e h =
     let day : ℕ = day_in H (moment_ms (moment_used H m)) in
     let nil =
-    earliest-nil (candidates (confirmed_searches H) (orders H)) (next-none _ (length (orders H) + 1) day (daily_limit H)
+    earliest-none (candidates (confirmed_searches H) (orders H)) (next-none _ (length (orders H) + 1) day (daily_limit H)
     (orders_of day (orders H)) e) in
     caused H (command.TakeRevert key agent) m NoRevert r
     (record { taken = t; key = key; agent = agent; takes = refl; all = none-left H nil }) h
@@ -419,7 +365,7 @@ revert-refused H key agent m r (Err (none.DailyLimit on k)) t e h =
     next-full (earliest (candidates (confirmed_searches H) (orders H))) (length (orders H) + 1) day (daily_limit H)
     (orders_of day (orders H)) on k e in
     let left =
-    some-left H says.candidate (earliest-there (candidates (confirmed_searches H) (orders H)) says.candidate says.is) in
+    some-left H says.candidate (earliest-contained (candidates (confirmed_searches H) (orders H)) says.candidate says.is) in
     caused H (command.TakeRevert key agent) m (DailyLimit on k) r
     (record {
       taken = t;
@@ -526,7 +472,7 @@ over_day-refused H q m day count c =
     let number : ℕ = orders_of today (orders H) in
     let same : number ≡ count = ap (λ (d : ℕ). orders_of d (orders H)) (sym c.today) ∙ sym c.counted in
     let free : has_order (orders H) (commit_of c.opening c.culprit) ≡ false =
-    unordered-false (has_order (orders H) (commit_of c.opening c.culprit)) (λ t.
+    false_from_ne_true (has_order (orders H) (commit_of c.opening c.culprit)) (λ t.
     c.unordered (has-is_ordered H (commit_of c.opening c.culprit) t)) in
     let left =
     filter-there (is_free (orders H)) (confirmed_searches H) _

@@ -21,6 +21,7 @@ use Rattle.farm_entry.specs.declared.refusal.OpenFault.{OpenFault}
 use Rattle.farm_entry.specs.declared.refusal.Refusal.{Refusal}
 use Rattle.farm_entry.specs.declared.refusal.Refusal.TheVariants.{BadOpen, Full, KeyClash}
 use Rattle.decision_laws.specs.Causes.{IsNew, IsTaken, IsWellFormed, IsWithinLimits}
+use Rattle.farm_laws.proofs.Stepped.{map-none}
 
 -- Which part of a decision speaks: the shape, the key or the run, the room, or the command's own case.
 pub data Speaks (H : List Entry) (q : Command) (m : Moment) (d : Decision) : Type 0 where
@@ -143,10 +144,6 @@ shape-says command.ShowFarm d h = absurd (none-some _ h)
 shape-says command.ShowOrders d h = absurd (none-some _ h)
 
 -- The key and the run.
-
-map-none : {X Y : Type 0} (f : X → Y) (o : Option X) → option_map f o ≡ None → o ≡ None
-map-none f None h = refl
-map-none f (Some x) h = absurd (none-some _ (sym h))
 
 keyed-new : (H : List Entry) (q : Command) (key : Key) → keyed_decision H q (Some key) ≡ None → (other : Key) →
     Some key ≡ Some other →

@@ -33,11 +33,11 @@ use Rattle.farm_entry.specs.declared.refusal.Refusal.{Refusal}
 use Rattle.farm_entry.specs.declared.refusal.Refusal.TheVariants.{SearchEnded, TooManySearches}
 use Rattle.farm_laws.proofs.EntryParts.{leased-facts}
 use Rattle.farm_laws.proofs.Known.{IsDueIn, MadeFrom, due_at-search, made-from, next_run-due}
-use Rattle.farm_laws.proofs.Numbered.{AreNumbered, number-at, openings-numbered}
+use Rattle.farm_laws.proofs.Lists.{contains-cons, contains-nil, filter_map-there}
+use Rattle.farm_laws.proofs.Numbered.{AreNumbered, number-at, number-at-least, openings-numbered, tail_of}
 use Rattle.farm_laws.proofs.Recorded.{recorded}
 use Rattle.farm_laws.proofs.Stepped.{passed, stepped}
 use Rattle.decision_laws.specs.Turns.{ComesBefore, HasTheTurn}
-use Rattle.decision_laws.proofs.Lists.{contains-cons, contains-nil, filter_map-there}
 
 -- Runs in the order of their searches.
 abbrev AreOrdered : List DueRun → Type 0
@@ -112,17 +112,6 @@ soonest-first H (d ∷ rest) x ordered h =
 
 -- The due runs are in the order of their searches.
 
--- each item of a list that is numbered from a on has at least the number a
-at-least : {X : Type 0} (number : X → ℕ) (a : ℕ) (xs : List X) → map number xs ≡ range_with_len a (length xs) →
-    (x : X) → Contains xs x → a ≤ number x
-at-least number a xs all x h =
-    let at : number (get_or xs h.0 x) ≡ a + h.0 = number-at number a xs all h.0 x h.1 in
-    subst (λ (y : _). a ≤ number y) h.2 (omega (arith, at))
-
-abbrev rest_of : List ℕ → List ℕ
-rest_of [] = []
-rest_of (x ∷ xs) = xs
-
 from-option : (H : List Entry) (a : ℕ) (ds : List DueRun) (o : Option DueRun) → ((d : DueRun) → o ≡ Some d →
     d.search ≡ a) →
     ((y : DueRun) → Contains ds y → a + 1 ≤ y.search) → AreOrdered ds → AreOrdered (cons_option o ds)
@@ -141,11 +130,11 @@ made-ordered : (H : List Entry) (f : Opening → Option DueRun) → ((o : Openin
     map (λ (o : Opening). o.search) os ≡ range_with_len a (length os) → AreOrdered (filter_map f os)
 made-ordered H f numbers a [] all = tt
 made-ordered H f numbers a (o ∷ os) all =
-    let rest : map (λ (x : Opening). x.search) os ≡ range_with_len (a + 1) (length os) = ap rest_of all in
+    let rest : map (λ (x : Opening). x.search) os ≡ range_with_len (a + 1) (length os) = ap tail_of all in
     let first : o.search ≡ a = at-first o os a all in
     from-option H a (filter_map f os) (f o) (λ d e. numbers o d e ∙ first)
     (λ y there. let m = made-from f os y there in
-    subst (λ (n : ℕ). a + 1 ≤ n) (sym (numbers m.from y m.makes)) (at-least (λ (x : Opening).
+    subst (λ (n : ℕ). a + 1 ≤ n) (sym (numbers m.from y m.makes)) (number-at-least (λ (x : Opening).
     x.search) (a + 1) os rest m.from m.there))
     (made-ordered H f numbers (a + 1) os rest)
 

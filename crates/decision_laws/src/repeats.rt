@@ -1,11 +1,13 @@
 //! When a command is answered as before.
-ghost use Rattle.std.specs.Prelude.{◌≡◌, ◌↔◌, ℕ, List, slice_get, Some};
+ghost use Rattle.std.specs.Prelude.{◌≡◌, ◌≢◌, ◌↔◌, ℕ, ◌≤◌, List, slice_get, Some};
 ghost use Rattle.farm_entry.specs.Decision.{decide};
-ghost use Rattle.farm_entry.specs.Legal.{IsLegal};
-ghost use Rattle.decision_laws.specs.Causes.{IsWhat};
+ghost use Rattle.farm_entry.specs.Legal.{IsLegal, command_of};
+ghost use Rattle.decision_laws.specs.Causes.{AsksTheSame, IsWhat};
+ghost use Rattle.decision_laws.specs.Spelled.{IsSpelledOtherwise};
 
-use farm_entry::{Command, Decision, Entry};
+use farm_entry::{Command, Decision, Entry, OpenAsk, Refusal};
 use farm_types::Moment;
+use weight_exact::Verdict;
 
 /// A command is answered as an earlier one was, by the place of its entry, exactly where that entry is what the command
 /// asks for: its kind, its key and its contents are the same. An open whose rates are spelled otherwise asks for the same
@@ -13,4 +15,27 @@ use farm_types::Moment;
 pub fn repeats_are_of_the_same_command()
     ensures { (H : List Entry) (q : Command) (m : Moment) (place : ℕ) → IsLegal H
         → (decide H q m ≡ Decision.Repeat place) ↔ ((e : Entry) × (slice_get H place ≡ Some e) × IsWhat e q) }
+{}
+
+/// What asks for the same as a command that is answered as before is answered as before too, by the same place and at
+/// every moment: a report of the run with either verdict, and an open with its rates spelled otherwise.
+pub fn repeats_hold_for_all_that_ask_the_same()
+    ensures same { (H : List Entry) (q p : Command) (m n : Moment) (place : ℕ) → IsLegal H → AsksTheSame q p
+        → decide H q m ≡ Decision.Repeat place → decide H p n ≡ Decision.Repeat place }
+    ensures reports { (H : List Entry) (run place : ℕ) (verdict other : Verdict) (m n : Moment) → IsLegal H
+        → decide H (Command.Report run verdict) m ≡ Decision.Repeat place
+        → decide H (Command.Report run other) n ≡ Decision.Repeat place }
+    ensures opens { (H : List Entry) (ask other : OpenAsk) (m n : Moment) (place : ℕ) → IsLegal H
+        → IsSpelledOtherwise ask other → decide H (Command.Open ask) m ≡ Decision.Repeat place
+        → decide H (Command.Open other) n ≡ Decision.Repeat place }
+{}
+
+/// Each entry past the founding names a command, which is answered by the entry's place at every moment. The founding
+/// is nobody's command: none is answered by its place, and no key is taken by it.
+pub fn entries_past_the_founding_are_repeated()
+    ensures past { (H : List Entry) (place : ℕ) (e : Entry) → IsLegal H → slice_get H place ≡ Some e → 1 ≤ place
+        → (q : Command) × (command_of e.what ≡ Some q) × ((m : Moment) → decide H q m ≡ Decision.Repeat place) }
+    ensures no_repeat { (H : List Entry) (q : Command) (m : Moment) → IsLegal H → decide H q m ≢ Decision.Repeat 0 }
+    ensures no_clash { (H : List Entry) (q : Command) (m : Moment) → IsLegal H
+        → decide H q m ≢ Decision.Refuse (Refusal.KeyClash 0) }
 {}

@@ -2,11 +2,11 @@
 use Rattle.std.proofs.Common.{◌≡◌, ◌≢◌, ℕ, zero, suc, ◌+◌, ◌-◌, ◌<◌, ◌≤◌, List, [], ◌∷◌, ◌++◌, length, take, drop, slice_get, Some, refl, sym, ap, subst, ◌∙◌, ⊎_elim, arith, length-append}
 use Rattle.std.proofs.lemmas.Bool.{cases_lt}
 use Rattle.std.proofs.lemmas.List.{append-nil, length-take-le, take-append-drop, take-append-le, take_all}
+use Rattle.std.proofs.lemmas.Option.{none-some}
 use Rattle.farm_entry.specs.Legal.{IsLegal}
 use Rattle.farm_entry.specs.Pages.{totals}
 use Rattle.farm_entry.specs.declared.entry.Entry.{Entry}
 use Rattle.farm_entry.specs.declared.reply.Totals.{Totals}
-use Rattle.farm_laws.proofs.EntryParts.{none-some}
 use Rattle.farm_laws.proofs.Induct.{IsLegal-first}
 use Rattle.farm_laws.proofs.Replies.{slice_get-first, slice_get-last}
 use Rattle.farm_core.specs.FarmInside.{AreCounted, IsFarm}

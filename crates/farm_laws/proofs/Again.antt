@@ -16,6 +16,7 @@ use Rattle.suspect_range.specs.Faults.{range_fault}
 use Rattle.suspect_range.specs.Range.{RangeView}
 use Rattle.suspect_range.specs.declared.fault.RangeFault.{RangeFault}
 use Rattle.farm_types.specs.declared.key.Key.{Key}
+use Rattle.farm_entry.proofs.Asked.{when_passed-same}
 use Rattle.farm_entry.specs.Ask.{and_then, asked_bar, asked_miss, asked_range, asked_rate, asked_reruns, asked_width, bar_of, fitting, miss_of, opening_of, rate_of, unless_fault, when_passed}
 use Rattle.farm_entry.specs.Legal.{ask_of}
 use Rattle.farm_entry.specs.declared.command.OpenAsk.{OpenAsk}
@@ -25,11 +26,6 @@ use Rattle.farm_entry.specs.declared.opening.Opening.{Opening}
 use Rattle.farm_entry.specs.declared.refusal.OpenFault.{OpenFault}
 use Rattle.farm_entry.specs.declared.refusal.OpenFault.TheVariants as fault
 use Rattle.farm_laws.proofs.Made.{fits_of, is_made, kept_of, range_of}
-
--- what is made where a test passes, if it is one value whatever the proof
-when_passed-same : {X : Type 0} (test : Bool) (make : IsTrue test → X) (x : X) → IsTrue test → ((h : IsTrue test) → make h ≡ x) → when_passed test make ≡ Some x
-when_passed-same true make x passes same = ap Some (same refl)
-when_passed-same false make x passes same = absurd (true≢false (sym passes))
 
 -- a number over a divisor that is 1 is the number
 over_one : (n d : ℕ) → d ≡ 1 → n / d ≡ n
@@ -69,7 +65,7 @@ count-again limit n m refuse h =
     subst (λ (k : ℕ). (if nat_le 1 k && nat_le k limit then Ok k else Err (refuse k)) ≡ Ok m) same h
 
 -- the opening of six parts that are there
-abbrev whole : Key → List ℕ → ℕ → RangeView → Rate → Miss → Bar → ℕ → ℕ → Opening
+abbrev pub whole : Key → List ℕ → ℕ → RangeView → Rate → Miss → Bar → ℕ → ℕ → Opening
 whole key test number range rate miss bar width reruns = record {
   key = key;
   search = number;
@@ -82,7 +78,8 @@ whole key test number range rate miss bar width reruns = record {
   reruns = reruns;
 }
 
-all_there : (key : Key) (test : List ℕ) (number : ℕ) (o : Opening) (range : Result RangeView OpenFault) (rate : Result Rate OpenFault)
+pub all_there : (key : Key) (test : List ℕ) (number : ℕ) (o : Opening) (range : Result RangeView OpenFault)
+    (rate : Result Rate OpenFault)
     (miss : Rate → Result Miss OpenFault) (bar : Result Bar OpenFault) (width reruns : Result ℕ OpenFault) →
     range ≡ Ok o.range → rate ≡ Ok o.rate → miss o.rate ≡ Ok o.miss → bar ≡ Ok o.bar → width ≡ Ok o.width → reruns ≡ Ok o.reruns →
     and_then range (λ r. and_then rate (λ a. and_then (miss a) (λ m. and_then bar (λ b. and_then width (λ w. and_then reruns

@@ -9,6 +9,18 @@ count_by-cons t x xs = sum_by-cons (λ y. cond (t y) 1 0) x xs
 pub count_by-append : {X : Type 0} (t : X → Bool) (xs ys : List X) → count_by t (xs ++ ys) ≡ count_by t xs + count_by t ys
 count_by-append t xs ys = sum_by-append (λ y. cond (t y) 1 0) xs ys
 
+-- a test that passes where another does counts no less
+mark-le : (a b : Bool) → (a ≡ true → b ≡ true) → cond a 1 0 ≤ cond b 1 0
+mark-le true true more = omega arith
+mark-le true false more = absurd (true≢false (sym (more refl)))
+mark-le false b more = omega arith
+
+pub count_by-le : {X : Type 0} (s t : X → Bool) (xs : List X) → ((x : X) → s x ≡ true → t x ≡ true) →
+    count_by s xs ≤ count_by t xs
+count_by-le s t [] more = omega arith
+count_by-le s t (x ∷ xs) more =
+    omega (arith, count_by-cons s x xs, count_by-cons t x xs, count_by-le s t xs more, mark-le (s x) (t x) (more x))
+
 -- all elements pass the test that always passes
 pub count_by-all : {X : Type 0} (xs : List X) → count_by (λ (x : X). true) xs ≡ length xs
 count_by-all [] = refl

@@ -4,14 +4,15 @@ use Rattle.std.proofs.lemmas.Bool.{eqb-true}
 use Rattle.std.proofs.lemmas.Bool.Decides.{Decides-eqb}
 use Rattle.std.proofs.lemmas.Cmp.{nat_eq_equiv}
 use Rattle.std.proofs.lemmas.List.{get_or-map, length-map}
-use Rattle.std.proofs.lemmas.List.Elements.{All-contains, All-contains_itself, All-filter, All-map}
+use Rattle.std.proofs.lemmas.List.Elements.{All-contains, All-map}
 use Rattle.std.proofs.lemmas.Map.Made.{IsDistinct-from_AllPairs, length-le_from_is_member}
 use Rattle.std.proofs.lemmas.Map.Views.{Contains-from_any, list_any-from_Contains}
-use Rattle.farm_rules.specs.Orders.{candidates, has_order}
+use Rattle.std.proofs.lemmas.Option.{none-some}
 use Rattle.farm_rules.specs.declared.orders.Candidate.{Candidate}
 use Rattle.farm_rules.specs.declared.orders.Draft.{Draft}
 use Rattle.farm_types.specs.Moment.{moment_ms}
 use Rattle.farm_types.specs.declared.commit_id.CommitId.{CommitId}
+use Rattle.farm_rules.proofs.Drafts.{next_draft-ok}
 use Rattle.farm_entry.specs.History.{daily_limit, opening_numbered, openings, order_in, order_lines}
 use Rattle.farm_entry.specs.Legal.{IsLegal}
 use Rattle.farm_entry.specs.Orders.{confirmed_at, confirmed_searches, day_in, next_order_at, orders}
@@ -22,9 +23,8 @@ use Rattle.farm_entry.specs.declared.opening.Opening.{Opening}
 use Rattle.farm_entry.specs.declared.order_page.OrderLine.{OrderLine}
 use Rattle.farm_entry.specs.declared.standing.Standing.{Standing}
 use Rattle.farm_entry.specs.declared.standing.Standing.TheVariants.{Searching, Verifying, Confirmed, Vindicated, NoCulprit, Inconclusive, Cancelled}
-use Rattle.farm_laws.proofs.Chosen.{earliest-all, is_next_order}
 use Rattle.farm_laws.proofs.Ends.{end-kept}
-use Rattle.farm_laws.proofs.EntryParts.{each_part, none-some, ordered-facts}
+use Rattle.farm_laws.proofs.EntryParts.{each_part, ordered-facts}
 use Rattle.farm_laws.proofs.Filters.{All-imp}
 use Rattle.farm_laws.proofs.Known.{MadeFrom, made-from}
 use Rattle.farm_laws.proofs.Numbered.{no_order, opening-found}
@@ -61,13 +61,8 @@ confirmed-is Cancelled o c h = absurd (none-some c h)
 best-from : (H : List Entry) (m : ℕ) (d : Draft) → next_order_at H m ≡ Ok d →
     MadeFrom (λ (o : Opening). confirmed_at (standing H o) o) (openings H) (record { search = d.search; commit = d.commit })
 best-from H m d h =
-    let f : Opening → Option Candidate = λ o. confirmed_at (standing H o) o in
-    let next = is_next_order (confirmed_searches H) (orders H) (day_in H m) (daily_limit H) d h in
-    let each : All (MadeFrom f (openings H)) (confirmed_searches H) =
-    All-imp (Contains (confirmed_searches H)) (MadeFrom f (openings H)) (confirmed_searches H) (made-from f (openings H))
-    (All-contains_itself (confirmed_searches H)) in
-    earliest-all (MadeFrom f (openings H)) (candidates (confirmed_searches H) (orders H)) _
-    (All-filter (λ (x : Candidate). not (has_order (orders H) x.commit)) (MadeFrom f (openings H)) (confirmed_searches H) each) next.best
+    made-from (λ (o : Opening). confirmed_at (standing H o) o) (openings H) (record { search = d.search; commit = d.commit })
+    (next_draft-ok (confirmed_searches H) (orders H) (day_in H m) (daily_limit H) d h).confirmed
 
 -- What an order is for.
 

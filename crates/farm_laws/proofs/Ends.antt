@@ -23,7 +23,7 @@ use Rattle.farm_laws.proofs.Standings.{inactive-searching, inactive-verifying, i
 use Rattle.farm_laws.proofs.Stepped.{Stepped}
 
 -- no runs fit every budget
-none-fits : (o : Opening) → load (setup_of o).factors [] ≤ budget_of_search o
+pub none-fits : (o : Opening) → load (setup_of o).factors [] ≤ budget_of_search o
 none-fits o = omega (arith, load-none (setup_of o).factors)
 
 -- the load of an opened search fits its budget

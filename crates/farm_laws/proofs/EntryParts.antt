@@ -1,7 +1,8 @@
 -- What a new entry says, by what it holds; and facts on each part of a legal history.
-use Rattle.std.proofs.Common.{◌≡◌, ℕ, List, [], ◌∷◌, ◌++◌, Option, Some, None, true, false, refl, sym, subst, true≢false}
+use Rattle.std.proofs.Common.{◌≡◌, ℕ, List, [], ◌∷◌, ◌++◌, Option, Some, None, refl, sym, subst}
 use Rattle.std.specs.List.{All, cons_option, filter_map}
 use Rattle.std.proofs.lemmas.List.Elements.{All-append, All-cons, All-nil}
+use Rattle.std.proofs.lemmas.Option.{none-some}
 use Rattle.farm_types.specs.declared.moment.Moment.{Moment}
 use Rattle.farm_entry.specs.History.{cancelled_in, lease_in, opening_in, order_in, report_in}
 use Rattle.farm_entry.specs.Legal.{IsFounding, IsLegal}
@@ -15,10 +16,6 @@ use Rattle.farm_entry.specs.declared.order_page.OrderLine.{OrderLine}
 use Rattle.farm_entry.proofs.Growing.{parts-grow}
 use Rattle.farm_laws.proofs.Induct.{each_legal}
 use Rattle.farm_laws.proofs.Stepped.{CancelledNext, LeasedNext, OpenedNext, OrderedNext, ReportedNext, Stepped}
-
--- nothing is no value
-pub none-some : {X : Type 0} (x : X) → None ≡ Some x → ⊥
-none-some x h = let b : true ≡ false = cc in true≢false b
 
 -- the facts of an entry that holds an opening, a lease, a report, a cancellation, an order
 

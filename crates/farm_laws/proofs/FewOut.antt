@@ -3,6 +3,7 @@ use Rattle.std.proofs.Common.{◌≡◌, ℕ, ◌<◌, ◌≤◌, Bool, true, fa
 use Rattle.std.specs.List.{cons_option}
 use Rattle.std.proofs.lemmas.Bool.{cases_eq, eqb-true}
 use Rattle.std.proofs.lemmas.List.Elements.{All-contains, All-contains_itself, All-weaker, Contains-append_left, Contains-push}
+use Rattle.std.proofs.lemmas.Option.{none-some}
 use Rattle.farm_types.specs.Moment.{moment_ms}
 use Rattle.farm_types.specs.declared.stage.Stage.{Stage}
 use Rattle.farm_entry.specs.Due.{due, open_leases}
@@ -14,7 +15,7 @@ use Rattle.farm_entry.specs.declared.lease.DueRun.{DueRun}
 use Rattle.farm_entry.specs.declared.lease.LeasedRun.{LeasedRun}
 use Rattle.farm_entry.specs.declared.opening.Opening.{Opening}
 use Rattle.farm_laws.proofs.Counts.{filter-none}
-use Rattle.farm_laws.proofs.EntryParts.{leased-facts, none-some}
+use Rattle.farm_laws.proofs.EntryParts.{leased-facts}
 use Rattle.farm_laws.proofs.Filters.{opening_numbered-stays}
 use Rattle.farm_laws.proofs.Induct.{each_legal}
 use Rattle.farm_laws.proofs.Known.{HasOpening, leases-known, next_run-due}

@@ -1,9 +1,10 @@
 -- Where runs are: those that search at a suspect's position, and those that verify at the named suspect or just below it.
-use Rattle.std.proofs.Common.{◌≡◌, ◌⊎◌, inl, inr, ℕ, zero, suc, ◌+◌, ◌-◌, ◌<◌, ◌≤◌, ◌==◌, Bool, true, false, ◌&&◌, nat_lt, if◌then◌else◌, cond, List, [], ◌∷◌, ◌++◌, length, filter, get_or, All, Contains, Option, Some, None, refl, sym, ap, subst, ◌∙◌, arith, true≢false}
+use Rattle.std.proofs.Common.{◌≡◌, ◌⊎◌, inl, inr, ℕ, ◌+◌, ◌-◌, ◌<◌, ◌≤◌, ◌==◌, Bool, true, false, ◌&&◌, nat_lt, if◌then◌else◌, cond, List, [], ◌∷◌, ◌++◌, length, get_or, All, Contains, Option, Some, None, refl, sym, ap, subst, ◌∙◌, arith, true≢false}
 use Rattle.std.specs.Option.{option_map}
 use Rattle.std.proofs.lemmas.Bool.Decides.{nat_tests}
 use Rattle.std.proofs.lemmas.List.{get_or_default}
 use Rattle.std.proofs.lemmas.List.Elements.{All-contains, All-cons, All-head, All-tail, Contains-get_or}
+use Rattle.std.proofs.lemmas.Option.{none-some}
 use Rattle.farm_rules.specs.Due.{due_search, due_verify, first_entry, strike, struck, times_at}
 use Rattle.farm_types.specs.Moment.{moment_ms}
 use Rattle.farm_types.specs.declared.stage.Stage.{Stage}
@@ -30,9 +31,10 @@ use Rattle.farm_entry.specs.declared.opening.Opening.{Opening}
 use Rattle.farm_entry.specs.declared.standing.Standing.{Standing}
 use Rattle.farm_entry.specs.declared.standing.Standing.TheVariants.{Searching, Verifying, Confirmed, Vindicated, NoCulprit, Inconclusive, Cancelled}
 use Rattle.farm_laws.proofs.Ends.{at_bar-stays}
-use Rattle.farm_laws.proofs.EntryParts.{each_part, leased-facts, none-some}
+use Rattle.farm_laws.proofs.EntryParts.{each_part, leased-facts}
 use Rattle.farm_laws.proofs.Filters.{HasLease, opening_numbered-stays}
 use Rattle.farm_laws.proofs.Known.{made-from, next_run-due, reports-known}
+use Rattle.farm_laws.proofs.Lists.{there-filter}
 use Rattle.farm_laws.proofs.Numbered.{lease-there, no_lease, opening-found, opening-there}
 use Rattle.farm_laws.proofs.OpenLimits.{open_within, setup_facts}
 use Rattle.farm_laws.proofs.RunSteps.{chosen_run, counted_run-is}
@@ -172,22 +174,9 @@ lease-fits H o l legal there known same =
     subst (λ (x : Opening). FitsStage H x l.stage l.position) it f.fits
 
 -- the leases of a search are among all
-filter-here : {X : Type 0} (p : X → Bool) (y : X) (xs : List X) (x : X) (b : Bool) → p y ≡ b →
-    (Contains (filter p xs) x → Contains xs x × (p x ≡ true)) → Contains (cond b (y ∷ filter p xs) (filter p xs)) x →
-    Contains (y ∷ xs) x × (p x ≡ true)
-filter-here p y xs x true e later (zero, below, is) = ((zero, omega arith, is), ap p (sym is) ∙ e)
-filter-here p y xs x true e later (suc k, below, is) =
-    let rest = later (k, omega arith, is) in ((suc rest.0.0, omega (arith, rest.0.1), rest.0.2), rest.1)
-filter-here p y xs x false e later h =
-    let rest = later h in ((suc rest.0.0, omega (arith, rest.0.1), rest.0.2), rest.1)
-
-filter-there : {X : Type 0} (p : X → Bool) (xs : List X) (x : X) → Contains (filter p xs) x → Contains xs x × (p x ≡ true)
-filter-there p [] x h = absurd (omega (arith, h.1))
-filter-there p (y ∷ xs) x h = filter-here p y xs x (p y) refl (filter-there p xs x) h
-
 lease-of_search : (H : List Entry) (s : ℕ) (l : LeasedRun) → Contains (leases H s) l → Contains (all_leases H) l × (l.search ≡ s)
 lease-of_search H s l h =
-    let there = filter-there (λ (x : LeasedRun). x.search == s) (all_leases H) l h in
+    let there = there-filter (λ (x : LeasedRun). x.search == s) (all_leases H) l h in
     (there.0, grind (arith, nat_tests, there.1))
 
 pub leases-fit_search : (H : List Entry) (o : Opening) (l : LeasedRun) → IsLegal H → Contains (openings H) o → Contains (leases H o.search) l →

@@ -2,6 +2,7 @@
 use Rattle.std.proofs.Common.{◌≡◌, ℕ, zero, suc, Bool, true, false, nat_le, if◌then◌else◌, List, [], ◌∷◌, Contains, All, Option, Some, None, refl, sym, ap, subst, ◌∙◌, arith}
 use Rattle.std.specs.List.{cons_option, filter_map}
 use Rattle.std.specs.Option.{option_map}
+use Rattle.std.proofs.lemmas.Option.{none-some}
 use Rattle.farm_types.specs.declared.stage.Stage.TheVariants.{Search, Verify}
 use Rattle.farm_types.specs.Moment.{moment_ms}
 use Rattle.farm_entry.specs.Due.{due, due_at, due_runs, due_searching, due_verifying, next_run, sooner, soonest}
@@ -15,17 +16,12 @@ use Rattle.farm_entry.specs.declared.lease.ReportedRun.{ReportedRun}
 use Rattle.farm_entry.specs.declared.opening.Opening.{Opening}
 use Rattle.farm_entry.specs.declared.standing.Standing.{Standing}
 use Rattle.farm_entry.specs.declared.standing.Standing.TheVariants.{Searching, Verifying, Confirmed, Vindicated, NoCulprit, Inconclusive, Cancelled}
-use Rattle.farm_laws.proofs.EntryParts.{each_part, leased-facts, none-some, reported-facts}
+use Rattle.farm_laws.proofs.EntryParts.{each_part, leased-facts, reported-facts}
 use Rattle.farm_laws.proofs.Filters.{HasLease, ReportsKnown, lease_of-stays, opening_numbered-stays}
+use Rattle.farm_laws.proofs.Lists.{contains-head, contains-tail}
 use Rattle.farm_laws.proofs.Numbered.{no_lease, no_report, opening-found}
 
 -- lists
-
-contains-tail : {X : Type 0} (y : X) (xs : List X) (x : X) → Contains xs x → Contains (y ∷ xs) x
-contains-tail y xs x h = (suc h.0, omega (arith, h.1), h.2)
-
-contains-head : {X : Type 0} (xs : List X) (x y : X) → x ≡ y → Contains (x ∷ xs) y
-contains-head xs x y e = (0, omega arith, e)
 
 -- what stands in the list of what is made comes from a member
 pub record MadeFrom {X Y : Type 0} (f : X → Option Y) (xs : List X) (y : Y) : Type 0 where

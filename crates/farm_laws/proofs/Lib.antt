@@ -1,6 +1,5 @@
 pub mod Again
 pub mod Bounds
-pub mod Chosen
 pub mod Counts
 pub mod Culprits
 pub mod DueRooms
@@ -8,9 +7,12 @@ pub mod Ends
 pub mod EntryParts
 pub mod FewOut
 pub mod Filters
+pub mod Fractions
 pub mod InRange
 pub mod Induct
 pub mod Known
+pub mod Lists
+pub mod Loads
 pub mod Made
 pub mod Moments
 pub mod Numbered
@@ -25,6 +27,7 @@ pub mod Pairs
 pub mod Recorded
 pub mod Repeats
 pub mod Replies
+pub mod ReplyDays
 pub mod RunSteps
 pub mod SameEntries
 pub mod SameValues

@@ -1,5 +1,5 @@
 -- Lists: what is left out of one, and what stands in what is made of one.
-use Rattle.std.proofs.Common.{◌≡◌, ℕ, zero, suc, ◌<◌, Bool, true, false, not, if◌then◌else◌, List, [], ◌∷◌, length, map, filter, Contains, Option, Some, None, refl, sym, ap, ◌∙◌, arith, true≢false}
+use Rattle.std.proofs.Common.{◌≡◌, ℕ, zero, suc, ◌<◌, Bool, true, false, not, if◌then◌else◌, List, [], ◌∷◌, length, map, filter, slice_get, Contains, Option, Some, None, refl, sym, ap, ◌∙◌, arith, true≢false}
 use Rattle.std.specs.List.{cons_option, filter_map, list_any}
 use Rattle.std.proofs.lemmas.Option.{none-some}
 
@@ -60,6 +60,15 @@ filter_map-there f (z ∷ xs) x y there made =
     (λ (same : z ≡ x). here_put f z xs y (f z) refl (ap f same ∙ made))
     (λ (later : Contains xs x). put-there (f z) (filter_map f xs) y (filter_map-there f xs x y later made))
     there
+
+-- and so does what is made of what stands at a place
+pub filter_map-at : {X Y : Type 0} (f : X → Option Y) (xs : List X) (place : ℕ) (x : X) (y : Y) →
+    slice_get xs place ≡ Some x → f x ≡ Some y → Contains (filter_map f xs) y
+filter_map-at f [] place x y there made = absurd (none-some x there)
+filter_map-at f (z ∷ xs) zero x y there made =
+    let same : z ≡ x = cc in here_put f z xs y (f z) refl (ap f same ∙ made)
+filter_map-at f (z ∷ xs) (suc k) x y there made =
+    put-there (f z) (filter_map f xs) y (filter_map-at f xs k x y there made)
 
 -- Of a filtered list nothing is left exactly where no member passes.
 

@@ -4,6 +4,7 @@ use Rattle.std.specs.List.{cons_option, filter_map, range_with_len}
 use Rattle.std.proofs.lemmas.Bool.Decides.{nat_tests}
 use Rattle.std.proofs.lemmas.List.{get_or-map, map-append}
 use Rattle.std.proofs.lemmas.List.FromFn.{get_or-range_with_len}
+use Rattle.std.proofs.lemmas.Option.{none-some}
 use Rattle.farm_types.specs.declared.moment.Moment.{Moment}
 use Rattle.farm_entry.specs.History.{all_leases, lease_in, lease_of, opening_in, opening_numbered, openings, order_in, order_lines, report_in}
 use Rattle.farm_entry.specs.Legal.{IsFounding, IsLegal, ask_of}
@@ -13,8 +14,8 @@ use Rattle.farm_entry.specs.declared.entry.What.TheVariants.{Founded, Opened, Le
 use Rattle.farm_entry.specs.declared.lease.LeasedRun.{LeasedRun}
 use Rattle.farm_entry.specs.declared.opening.Opening.{Opening}
 use Rattle.farm_entry.specs.declared.order_page.OrderLine.{OrderLine}
-use Rattle.farm_laws.proofs.EntryParts.{leased-facts, none-some, opened-facts, ordered-facts}
 use Rattle.farm_entry.proofs.Growing.{parts-grow}
+use Rattle.farm_laws.proofs.EntryParts.{leased-facts, opened-facts, ordered-facts}
 use Rattle.farm_laws.proofs.Induct.{each_legal}
 use Rattle.farm_laws.proofs.Made.{is_made}
 use Rattle.farm_laws.proofs.Stepped.{Stepped}
@@ -118,7 +119,16 @@ pub number-at : {X : Type 0} (number : X → ℕ) (a : ℕ) (xs : List X) → ma
 number-at number a xs all i d below =
     sym (get_or-map number xs i d 0 below) ∙ ap (λ (l : List ℕ). get_or l i 0) all ∙ get_or-range_with_len a (length xs) i 0 below
 
-abbrev tail_of : List ℕ → List ℕ
+-- each item of such a list has at least the number a
+pub number-at-least : {X : Type 0} (number : X → ℕ) (a : ℕ) (xs : List X) →
+    map number xs ≡ range_with_len a (length xs) →
+    (x : X) → Contains xs x → a ≤ number x
+number-at-least number a xs all x h =
+    let at : number (get_or xs h.0 x) ≡ a + h.0 = number-at number a xs all h.0 x h.1 in
+    subst (λ (y : _). a ≤ number y) h.2 (omega (arith, at))
+
+-- a list of numbers without its first
+abbrev pub tail_of : List ℕ → List ℕ
 tail_of [] = []
 tail_of (x ∷ xs) = xs
 

@@ -4,6 +4,7 @@ use Rattle.std.specs.List.{cons_option, filter_map}
 use Rattle.std.proofs.lemmas.Bool.{cases_Bool}
 use Rattle.std.proofs.lemmas.Bool.Decides.{nat_tests}
 use Rattle.std.proofs.lemmas.List.Elements.{All-contains, All-head, All-tail, Contains-append_cases, Contains-append_left}
+use Rattle.std.proofs.lemmas.Option.{none-some}
 use Rattle.farm_types.specs.declared.stage.Stage.{Stage}
 use Rattle.weight_exact.specs.declared.run.Run.{Run}
 use Rattle.farm_entry.specs.Decision.{run_with}
@@ -15,16 +16,16 @@ use Rattle.farm_entry.specs.declared.entry.What.TheVariants.{Founded, Opened, Le
 use Rattle.farm_entry.specs.declared.lease.LeasedRun.{LeasedRun}
 use Rattle.farm_entry.specs.declared.lease.ReportedRun.{ReportedRun}
 use Rattle.farm_entry.specs.declared.opening.Opening.{Opening}
-use Rattle.farm_laws.proofs.EntryParts.{none-some, opened-facts}
-use Rattle.farm_laws.proofs.Filters.{HasLease, counted-grow}
 use Rattle.farm_entry.proofs.Growing.{openings-grow}
+use Rattle.farm_entry.specs.Legal.{ask_of}
+use Rattle.farm_laws.proofs.EntryParts.{opened-facts}
+use Rattle.farm_laws.proofs.Filters.{HasLease, counted-grow}
 use Rattle.farm_laws.proofs.Induct.{each_legal}
 use Rattle.farm_laws.proofs.Known.{HasOpening, leases-known, reports-known}
 use Rattle.farm_laws.proofs.Made.{is_made}
 use Rattle.farm_laws.proofs.Numbered.{lease-there, no_opening, number-at, openings-numbered}
 use Rattle.farm_laws.proofs.RunSteps.{chosen_run, counted_run-is}
 use Rattle.farm_laws.proofs.Stepped.{Stepped}
-use Rattle.farm_entry.specs.Legal.{ask_of}
 
 -- an opened search stays opened
 pub opened-stays : (H : List Entry) (e : Entry) (o : Opening) → Contains (openings H) o → Contains (openings (H ++ e ∷ [])) o

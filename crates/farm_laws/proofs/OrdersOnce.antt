@@ -12,6 +12,7 @@ use Rattle.farm_types.specs.Moment.{moment_ms}
 use Rattle.farm_types.specs.declared.commit_id.CommitId.{CommitId}
 use Rattle.farm_types.specs.declared.moment.Moment.{Moment}
 use Rattle.farm_types.proofs.SameValues.{same_id-Decides}
+use Rattle.farm_rules.proofs.Drafts.{next_draft-ok}
 use Rattle.farm_entry.specs.History.{daily_limit, order_in, order_lines}
 use Rattle.farm_entry.specs.Legal.{IsFounding, IsLegal}
 use Rattle.farm_entry.specs.Orders.{confirmed_searches, day_in, ordered, orders}
@@ -19,7 +20,6 @@ use Rattle.farm_entry.specs.declared.entry.Entry.{Entry}
 use Rattle.farm_entry.specs.declared.entry.What.{What}
 use Rattle.farm_entry.specs.declared.entry.What.TheVariants.{Founded, Opened, Leased, Reported, Cancelled, Ordered}
 use Rattle.farm_entry.specs.declared.order_page.OrderLine.{OrderLine}
-use Rattle.farm_laws.proofs.Chosen.{is_next_order, next_order-free}
 use Rattle.farm_entry.proofs.Growing.{order_lines-grow}
 use Rattle.farm_laws.proofs.Induct.{each_legal}
 use Rattle.farm_laws.proofs.Pairs.{AllPairs-more, AllPairs-nil}
@@ -40,9 +40,9 @@ has_room H m (Cancelled key search) line facts holds = absurd (cc)
 has_room H m (Ordered key agent order commit search day) line facts holds =
     let made : OrderLine = record { order = order; agent = agent; commit = commit; search = search; day = day } in
     let same : made ≡ line = cc in
-    let next = is_next_order (confirmed_searches H) (orders H) (day_in H (moment_ms m)) (daily_limit H) _ facts.next in
+    let next = next_draft-ok (confirmed_searches H) (orders H) (day_in H (moment_ms m)) (daily_limit H) _ facts.next in
     subst (λ (x : OrderLine). HasRoom H x) same (record {
-      free = next_order-free (confirmed_searches H) (orders H) (day_in H (moment_ms m)) (daily_limit H) _ next;
+      free = next.free;
       room = subst (λ (d : ℕ). orders_of d (orders H) < daily_limit H) (sym next.dated) next.room;
     })
 

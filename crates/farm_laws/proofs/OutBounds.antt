@@ -1,6 +1,7 @@
 -- How many runs of a search are out: at most its width while it searches, and at most twice its reruns while it verifies.
 use Rattle.std.proofs.Common.{◌≡◌, ℕ, ◌+◌, ◌*◌, ◌-◌, ◌≤◌, ◌==◌, Bool, true, List, [], ◌∷◌, length, ◌&&◌, count_by, cond, All, Contains, Option, Some, None, ◌⊎◌, ⊎_elim, refl, ap, subst, arith, eq-eqb}
 use Rattle.std.proofs.lemmas.List.Elements.{All-contains_itself, All-filter, All-head, All-tail, All-weaker, filter_passes}
+use Rattle.std.proofs.lemmas.Option.{none-some}
 use Rattle.farm_types.specs.declared.stage.Stage.{Stage}
 use Rattle.farm_types.specs.declared.stage.Stage.TheVariants.{Search, Verify}
 use Rattle.weight_exact.specs.declared.limits.TheConstants.{MAX_WIDTH}
@@ -17,12 +18,11 @@ use Rattle.farm_entry.specs.declared.standing.Standing.{Standing}
 use Rattle.farm_entry.specs.declared.standing.Standing.TheVariants.{Searching, Verifying, Confirmed, Vindicated, NoCulprit, Inconclusive, Cancelled}
 use Rattle.farm_laws.proofs.Counts.{count_by-all, count_by-cons}
 use Rattle.farm_laws.proofs.DueRooms.{search-roomed, verify-roomed}
-use Rattle.farm_laws.proofs.EntryParts.{none-some}
 use Rattle.farm_laws.proofs.FewOut.{few_out}
+use Rattle.farm_laws.proofs.InRange.{verify-leases-at}
 use Rattle.farm_laws.proofs.Numbered.{opening-found}
 use Rattle.farm_laws.proofs.OpenLeases.{is_out}
 use Rattle.farm_laws.proofs.OpenLimits.{open_within}
-use Rattle.farm_laws.proofs.InRange.{verify-leases-at}
 
 -- at most the width of open leases search
 pub search_leases-few : (H : List Entry) (o : Opening) (moment : ℕ) → IsLegal H → Contains (openings H) o → IsNotBefore H moment →

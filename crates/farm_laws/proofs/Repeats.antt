@@ -9,6 +9,7 @@ use Rattle.std.proofs.lemmas.List.{get_or_push}
 use Rattle.std.proofs.lemmas.List.Quantifiers.{position-Some}
 use Rattle.std.proofs.lemmas.Option.{slice_get_within}
 use Rattle.std.proofs.lemmas.Slice.Eq.{bytes_eq-Decides}
+use Rattle.std.proofs.lemmas.Option.{none-some}
 use Rattle.farm_types.specs.declared.key.Key.{Key}
 use Rattle.farm_types.specs.declared.moment.Moment.{Moment}
 use Rattle.farm_types.proofs.FirstIndex.{fails-from_none, position-first}
@@ -27,7 +28,7 @@ use Rattle.farm_entry.specs.declared.lease.ReportedRun.{ReportedRun}
 use Rattle.farm_entry.specs.declared.opening.Opening.{Opening}
 use Rattle.farm_entry.specs.declared.refusal.Refusal.TheVariants.{KeyClash}
 use Rattle.farm_laws.proofs.Again.{made_again}
-use Rattle.farm_laws.proofs.EntryParts.{none-some, opened-facts}
+use Rattle.farm_laws.proofs.EntryParts.{opened-facts}
 use Rattle.farm_laws.proofs.Induct.{each_legal}
 use Rattle.farm_laws.proofs.Made.{is_made}
 use Rattle.farm_laws.proofs.Numbered.{no_opening, no_report}
@@ -59,7 +60,7 @@ position-new p xs x none here =
 same_number : (n : ℕ) → n == n ≡ true
 same_number n = grind (arith, nat_tests)
 
-same_text : (text : List ℕ) → bytes_eq text text ≡ true
+pub same_text : (text : List ℕ) → bytes_eq text text ≡ true
 same_text text = (bytes_eq-Decides text text).1 refl
 
 -- Entries at their places.
@@ -70,7 +71,7 @@ pub record Placed (H : List Entry) (place : ℕ) (what : What) : Type 0 where
   pub by_run : (r : ReportedRun) → report_in what ≡ Some r → place_of_report H r.run ≡ Some place
   pub made : (o : Opening) → opening_in what ≡ Some o → opening_of (ask_of o) o.search ≡ Ok o
 
-no_key : (w : What) → IsFounding w → key_in w ≡ None
+pub no_key : (w : What) → IsFounding w → key_in w ≡ None
 no_key (Founded s) h = refl
 no_key (Opened o) h = absurd h
 no_key (Leased k w r q t p d) h = absurd h

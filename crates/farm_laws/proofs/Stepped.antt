@@ -3,6 +3,7 @@ use Rattle.std.proofs.Common.{◌≡◌, ℕ, ◌+◌, ◌<◌, Bool, true, fals
 use Rattle.std.specs.Option.{option_map}
 use Rattle.std.proofs.lemmas.Bool.Decides.{nat_tests}
 use Rattle.std.proofs.lemmas.List.{length-map}
+use Rattle.std.proofs.lemmas.Option.{none-some}
 use Rattle.weight_exact.specs.declared.run.Verdict.{Verdict}
 use Rattle.farm_rules.specs.declared.orders.Draft.{Draft}
 use Rattle.farm_rules.specs.declared.orders.NoOrder.{NoOrder}
@@ -11,6 +12,7 @@ use Rattle.farm_types.specs.Moment.{moment_ms}
 use Rattle.farm_types.specs.declared.commit_id.CommitId.{CommitId}
 use Rattle.farm_types.specs.declared.key.Key.{Key}
 use Rattle.farm_types.specs.declared.moment.Moment.{Moment}
+use Rattle.farm_rules.proofs.Drafts.{next_draft-ok}
 use Rattle.farm_entry.specs.Decision.{add_at, add_opening, decide, asked_before, fate_of, full_decision, is_show, keyed_decision, known_decision, lease_decision, moment_used, or_else, own_decision, refuse_opening, repeat_or_clash, report_decision, cancel_decision, revert_decision, shape_decision}
 use Rattle.farm_entry.specs.Ask.{opening_of}
 use Rattle.farm_entry.specs.Due.{next_run}
@@ -33,7 +35,6 @@ use Rattle.farm_entry.specs.declared.opening.Opening.{Opening}
 use Rattle.farm_entry.specs.declared.refusal.OpenFault.{OpenFault}
 use Rattle.farm_entry.specs.declared.refusal.Refusal.{Refusal}
 use Rattle.farm_entry.specs.declared.refusal.Refusal.TheVariants.{Full, KeyClash, SearchEnded, TooManySearches}
-use Rattle.farm_laws.proofs.Chosen.{is_next_order}
 
 -- The facts of each kind, at a history and the moment of the entry.
 
@@ -166,9 +167,6 @@ still_unused : (H : List Entry) (key other : Key) → Some key ≡ Some other �
 still_unused H key other e h =
     let same : key ≡ other = cc in subst (λ (k : Key). place_of_key H k ≡ None) same h
 
-none-some : {X : Type 0} (x : X) → None ≡ Some x → ⊥
-none-some x h = let b : true ≡ false = cc in true≢false b
-
 -- What each kind of entry says of its own case.
 
 -- two added entries are the same
@@ -250,10 +248,10 @@ next_facts : (H : List Entry) (m : Moment) (order : ℕ) (commit : CommitId) (s 
     next_order_at H (moment_ms m) ≡ Ok (record { order = order; commit = commit; search = s; day = day }) →
     OrderedNext H m order commit s day
 next_facts H m order commit s day h =
-    let next = is_next_order (confirmed_searches H) (orders H) (day_in H (moment_ms m)) (daily_limit H) _ h in
+    let next = next_draft-ok (confirmed_searches H) (orders H) (day_in H (moment_ms m)) (daily_limit H) _ h in
     record {
       next = h;
-      number = next.number ∙ ap (λ (n : ℕ). n + 1) (length-map (order_lines H) ordered);
+      number = next.numbered ∙ ap (λ (n : ℕ). n + 1) (length-map (order_lines H) ordered);
       dated = next.dated;
     }
 

@@ -2,14 +2,18 @@
 
 ghost use Rattle.std.specs.Prelude.{◌≡◌, ◌≢◌, ℕ, ◌≤◌, List, length, AllPairs, Contains, Some};
 ghost use Rattle.farm_types.specs.declared.moment.TheConstants.{LAST_DAY};
+ghost use Rattle.farm_entry.specs.Decision.{decide};
 ghost use Rattle.farm_entry.specs.History.{opening_numbered, openings, order_lines};
 ghost use Rattle.farm_entry.specs.Legal.{IsLegal};
+ghost use Rattle.farm_entry.specs.Reply.{reply_at};
 ghost use Rattle.farm_entry.specs.Setup.{commit_of};
 ghost use Rattle.farm_entry.specs.Standing.{standing};
 ghost use Rattle.farm_entry.specs.declared.limits.TheConstants.{MAX_SEARCHES};
 ghost use Rattle.farm_entry.specs.declared.standing.Standing.TheVariants.{Confirmed};
+ghost use Rattle.farm_laws.specs.Days.{HasDays};
 
-use farm_entry::{Entry, Opening, OrderLine};
+use farm_entry::{Command, Decision, Entry, Opening, OrderLine, Reply};
+use farm_types::Moment;
 
 /// Each order names a search whose culprit is confirmed, and it is for that culprit's commit.
 pub fn orders_are_for_confirmed_culprits()
@@ -29,4 +33,11 @@ pub fn orders_are_few()
 /// No order is of a later day than 2100-01-01, which is 47,482 days after 1970-01-01.
 pub fn days_are_in_range()
     ensures { (H : List Entry) (x : OrderLine) → IsLegal H → Contains (order_lines H) x → x.day ≤ LAST_DAY }
+{}
+
+/// Each day that a reply shows is at most 2100-01-01: the reply of an entry, and what is shown for a command.
+pub fn days_in_replies_are_in_range()
+    ensures entries { (H : List Entry) (place : ℕ) (r : Reply) → IsLegal H → reply_at H place ≡ Some r → HasDays r }
+    ensures shown { (H : List Entry) (q : Command) (m : Moment) (r : Reply) → IsLegal H → decide H q m ≡ Decision.Show r
+        → HasDays r }
 {}

@@ -10,6 +10,7 @@ ghost use Rattle.weight_exact.specs.Weights.{AreInRange, suspects};
 ghost use Rattle.farm_entry.specs.Due.{open_leases, outstanding};
 ghost use Rattle.farm_entry.specs.History.{all_leases, leases, opening_numbered, openings, reruns, runs};
 ghost use Rattle.farm_laws.specs.Laws.{IsNotBefore, culprit_of};
+ghost use Rattle.farm_laws.specs.Loads.{LoadsFit};
 ghost use Rattle.farm_entry.specs.Legal.{IsLegal};
 ghost use Rattle.farm_entry.specs.Setup.{budget_of_search, setup_of};
 ghost use Rattle.farm_entry.specs.Standing.{is_active, at_bar, standing};
@@ -78,10 +79,13 @@ pub fn ends_are_final()
         → (standing (H ++ K) o ≡ standing H o) × (reruns (H ++ K) o.search ≡ reruns H o.search) }
 {}
 
-/// The counted runs of a search never ask more of its exact arithmetic than it has room for.
+/// The counted runs of a search never ask more of its exact arithmetic than it has room for, and neither does any
+/// beginning of them. So a belief can be told them one by one.
 pub fn load_fits_the_budget()
-    ensures { (H : List Entry) (o : Opening) → IsLegal H → Contains (openings H) o
+    ensures all { (H : List Entry) (o : Opening) → IsLegal H → Contains (openings H) o
         → load (setup_of o).factors (runs H o.search) ≤ budget_of_search o }
+    ensures each_beginning { (H : List Entry) (o : Opening) → IsLegal H → Contains (openings H) o
+        → LoadsFit (setup_of o) (runs H o.search) }
 {}
 
 /// While a search is searching, some suspect isn't cleared, so there is a position to run.

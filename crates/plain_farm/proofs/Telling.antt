@@ -8,7 +8,7 @@ use Rattle.posterior.specs.Kept.{Kept}
 use Rattle.posterior.specs.StandsFor.{StandsFor}
 use Rattle.posterior.specs.declared.belief.Noted.{Noted}
 use Rattle.posterior.specs.declared.belief.Noted.TheVariants.{Counted, Over}
-use Rattle.plain_farm.specs.Loads.{LoadsFit}
+use Rattle.farm_laws.specs.Loads.{LoadsFit}
 
 counted-unless_over : (noted : Noted) → (noted ≡ Over → ⊥) → noted ≡ Counted
 counted-unless_over Counted other = refl

@@ -10,7 +10,7 @@ ghost use Rattle.farm_entry.specs.History.{openings, runs};
 ghost use Rattle.farm_entry.specs.Legal.{IsLegal};
 ghost use Rattle.farm_entry.specs.Setup.{setup_of};
 ghost use Rattle.farm_entry.specs.Standing.{standing, standing_of_outcome, standing_of_reached};
-ghost use Rattle.plain_farm.specs.Loads.{LoadsFit};
+ghost use Rattle.farm_laws.specs.Loads.{LoadsFit};
 
 use farm_entry::{Entry, Opening, Standing};
 use farm_types::Memory;

@@ -20,7 +20,8 @@ use Rattle.farm_entry.specs.declared.standing.Standing.TheVariants.{Searching, V
 use Rattle.farm_laws.proofs.Counts.{count_by-cons}
 use Rattle.farm_laws.proofs.Culprits.{AllPairs-parts, IsForCulprit, orders-for_culprits, part-there, searches-differ}
 use Rattle.farm_laws.proofs.Filters.{All-imp}
-use Rattle.search_laws.proofs.Kept.{filter-there}
+use Rattle.farm_laws.proofs.Lists.{filter-there}
+use Rattle.search_laws.proofs.Counting.{stands}
 
 -- each standing passes one of the four tests
 one-test : (s : Standing) → cond (is_searching s) 1 0 + cond (is_verifying s) 1 0 + cond (is_confirmed s) 1 0 + cond
@@ -32,10 +33,6 @@ one-test (Vindicated c) = refl
 one-test NoCulprit = refl
 one-test Inconclusive = refl
 one-test Cancelled = refl
-
--- whether a search stands so
-abbrev stands : (Standing → Bool) → List Entry → Opening → Bool
-stands test H o = test (standing H o)
 
 four-counts : (H : List Entry) (os : List Opening) →
     count_by (stands is_searching H) os + count_by (stands is_verifying H) os + count_by (stands is_confirmed H) os

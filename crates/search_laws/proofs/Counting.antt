@@ -16,7 +16,7 @@ use Rattle.farm_entry.specs.declared.opening.Opening.{Opening}
 use Rattle.farm_entry.specs.declared.order_page.OrderLine.{OrderLine}
 use Rattle.farm_entry.specs.declared.standing.Standing.{Standing}
 use Rattle.farm_laws.proofs.Counts.{count_by-append, count_by-cons}
-use Rattle.farm_laws.proofs.Numbered.{number-at, openings-numbered}
+use Rattle.farm_laws.proofs.Numbered.{number-at, number-at-least, openings-numbered, tail_of}
 use Rattle.farm_laws.proofs.Stepped.{Stepped}
 use Rattle.search_laws.specs.Steps.{IsAbout}
 use Rattle.search_laws.proofs.OneMore.{standing-same}
@@ -59,7 +59,7 @@ count-same f g (x ∷ xs) same =
     count_by-cons f x xs ∙ (λ i. cond (here i) 1 0 + rest i) ∙ sym (count_by-cons g x xs)
 
 -- whether a search stands so, before and after
-abbrev stands : (Standing → Bool) → List Entry → Opening → Bool
+abbrev pub stands : (Standing → Bool) → List Entry → Opening → Bool
 stands test H o = test (standing H o)
 
 pub none-changes : (H : List Entry) (e : Entry) (test : Standing → Bool) → IsLegal H → Stepped H e.at e.what →
@@ -75,17 +75,7 @@ none-changes H e test legal step none =
 
 -- Counts by tests that agree on each member but one.
 
-abbrev rest_of : List ℕ → List ℕ
-rest_of [] = []
-rest_of (x ∷ xs) = xs
-
-numbered-least : (a : ℕ) (os : List Opening) → map (λ (o : Opening). o.search) os ≡ range_with_len a (length os) →
-    (x : Opening) → Contains os x → a ≤ x.search
-numbered-least a os all x h =
-    let at : (get_or os h.0 x).search ≡ a + h.0 = number-at (λ (o : Opening). o.search) a os all h.0 x h.1 in
-    subst (λ (y : Opening). a ≤ y.search) h.2 (omega (arith, at))
-
-numbered-first : (a : ℕ) (o : Opening) (os : List Opening) → map (λ (x : Opening).
+pub numbered-first : (a : ℕ) (o : Opening) (os : List Opening) → map (λ (x : Opening).
     x.search) (o ∷ os) ≡ range_with_len a (length (o ∷ os)) → o.search ≡ a
 numbered-first a o os all = omega (arith, number-at (λ (x : Opening). x.search) a (o ∷ os) all 0 o (omega arith))
 
@@ -95,12 +85,13 @@ count-but_one : (f g : Opening → Bool) (a : ℕ) (os : List Opening) →
     count_by f os + cond (g o) 1 0 ≡ count_by g os + cond (f o) 1 0
 count-but_one f g a [] all o there same = absurd (omega (arith, there.1))
 count-but_one f g a (y ∷ os) all o (zero, below, is) same =
-    let rest : map (λ (x : Opening). x.search) os ≡ range_with_len (a + 1) (length os) = ap rest_of all in
+    let rest : map (λ (x : Opening). x.search) os ≡ range_with_len (a + 1) (length os) = ap tail_of all in
     let first : y.search ≡ a = numbered-first a y os all in
     let here : o.search ≡ a = ap (λ (x : Opening). x.search) (sym is) ∙ first in
     let others : count_by f os ≡ count_by g os =
     count-same f g os (λ x in_rest. same x (suc in_rest.0, omega (arith, in_rest.1), in_rest.2)
-    (λ equal. let least : a + 1 ≤ x.search = numbered-least (a + 1) os rest x in_rest in omega (arith, equal))) in
+    (λ equal. let least : a + 1 ≤ x.search = number-at-least (λ (y : Opening). y.search) (a + 1) os rest x in_rest in
+    omega (arith, equal))) in
     let one : (Opening → Bool) → Opening → ℕ = λ t x. cond (t x) 1 0 in
     let both_f : count_by f (y ∷ os) ≡ cond (f o) 1 0 + count_by f os = count_by-cons f y os
     ∙ ap (λ (x : Opening). one f x + count_by f os) is in
@@ -108,7 +99,7 @@ count-but_one f g a (y ∷ os) all o (zero, below, is) same =
     ∙ ap (λ (x : Opening). one g x + count_by g os) is in
     omega (arith, both_f, both_g, others)
 count-but_one f g a (y ∷ os) all o (suc k, below, is) same =
-    let rest : map (λ (x : Opening). x.search) os ≡ range_with_len (a + 1) (length os) = ap rest_of all in
+    let rest : map (λ (x : Opening). x.search) os ≡ range_with_len (a + 1) (length os) = ap tail_of all in
     let first : y.search ≡ a = numbered-first a y os all in
     let there : Contains os o = (k, omega arith, is) in
     let later : count_by f os + cond (g o) 1 0 ≡ count_by g os + cond (f o) 1 0 =
@@ -117,17 +108,17 @@ count-but_one f g a (y ∷ os) all o (suc k, below, is) same =
       omega (arith, in_rest.1),
       in_rest.2,
     )) in
-    let least : a + 1 ≤ o.search = numbered-least (a + 1) os rest o there in
+    let least : a + 1 ≤ o.search = number-at-least (λ (y : Opening). y.search) (a + 1) os rest o there in
     let here : f y ≡ g y = same y (0, omega arith, refl) (λ equal. omega (arith, equal)) in
     let one : Bool → ℕ = λ b. cond b 1 0 in
     let head : one (f y) ≡ one (g y) = ap one here in
     omega (arith, count_by-cons f y os, count_by-cons g y os, later, head)
 
 -- an entry is about one search alone
-some-equal : {X : Type 0} (a b : X) (o : Option X) → o ≡ Some a → o ≡ Some b → a ≡ b
+pub some-equal : {X : Type 0} (a b : X) (o : Option X) → o ≡ Some a → o ≡ Some b → a ≡ b
 some-equal a b o p q = cc
 
-about-one : (H : List Entry) (what : What) (s t : ℕ) → IsAbout H what s → IsAbout H what t → s ≡ t
+pub about-one : (H : List Entry) (what : What) (s t : ℕ) → IsAbout H what s → IsAbout H what t → s ≡ t
 about-one H (Reported run verdict _) s t a b =
     let same : a.0 ≡ b.0 = some-equal a.0 b.0 (lease_of H run) a.1 b.1 in
     sym a.2 ∙ ap (λ (l : LeasedRun). l.search) same ∙ b.2
@@ -138,7 +129,7 @@ about-one H (Leased k w q u p d y) s t a b = absurd a
 about-one H (Ordered k a n c q d) s t x y = absurd x
 
 -- and opens none
-about-opens_none : (H : List Entry) (what : What) (s : ℕ) → IsAbout H what s → opening_in what ≡ None
+pub about-opens_none : (H : List Entry) (what : What) (s : ℕ) → IsAbout H what s → opening_in what ≡ None
 about-opens_none H (Reported run verdict _) s a = refl
 about-opens_none H (Cancelled key q) s a = refl
 about-opens_none H (Founded settings) s a = absurd a

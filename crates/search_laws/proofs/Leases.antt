@@ -1,16 +1,22 @@
 -- Open leases, at later moments and in longer histories.
-use Rattle.std.proofs.Common.{◌≡◌, ◌≢◌, All, ℕ, ◌==◌, ◌<◌, ◌≤◌, Bool, true, false, not, ◌&&◌, ◌||◌, nat_lt, List, [], ◌∷◌, ◌++◌, map, refl, sym, ap, ◌∙◌, arith, true≢false}
+use Rattle.std.proofs.Common.{◌≡◌, ◌≢◌, All, ℕ, ◌-◌, ◌==◌, ◌<◌, ◌≤◌, Bool, true, false, not, ◌&&◌, ◌||◌, nat_lt, List, [], ◌∷◌, ◌++◌, map, Option, refl, sym, ap, ◌∙◌, arith, true≢false}
 use Rattle.std.specs.List.{filter_map, list_any}
+use Rattle.std.specs.Option.{option_map}
 use Rattle.std.proofs.lemmas.Bool.{ne_eqb, or_parts}
 use Rattle.std.proofs.lemmas.Bool.Decides.{nat_tests, Decides-eqb}
 use Rattle.std.proofs.lemmas.List.Elements.{All-cons, All-nil}
 use Rattle.std.proofs.lemmas.List.Elements.{filter_map-append}
 use Rattle.std.proofs.lemmas.List.Folds.{list_any-append, list_any_none}
 use Rattle.farm_types.specs.declared.stage.Stage.TheVariants.{Search, Verify}
-use Rattle.farm_entry.specs.Due.{is_open, open_positions, outstanding, outstanding_at}
-use Rattle.farm_entry.specs.History.{is_reported, report_in, reports}
+use Rattle.weight_exact.specs.Plan.{plan}
+use Rattle.farm_rules.specs.Due.{due_search, due_verify}
+use Rattle.farm_rules.specs.Reruns.{reruns_at}
+use Rattle.farm_entry.specs.Due.{due, due_at, is_open, open_positions, outstanding, outstanding_at}
+use Rattle.farm_entry.specs.History.{is_reported, report_in, reports, reruns, runs}
+use Rattle.farm_entry.specs.Setup.{setup_of}
 use Rattle.farm_entry.specs.Standing.{is_active, standing}
 use Rattle.farm_entry.specs.declared.entry.Entry.{Entry}
+use Rattle.farm_entry.specs.declared.lease.DueRun.{DueRun}
 use Rattle.farm_entry.specs.declared.lease.LeasedRun.{LeasedRun}
 use Rattle.farm_entry.specs.declared.lease.ReportedRun.{ReportedRun}
 use Rattle.farm_entry.specs.declared.opening.Opening.{Opening}
@@ -46,6 +52,31 @@ pub outstanding-verifying : (H : List Entry) (o : Opening) (moment suspect : ℕ
     map (λ (l : LeasedRun). l.position) (outstanding H o moment) ≡ open_positions H o.search Verify moment
 outstanding-verifying H o moment suspect is =
     ap (λ (s : Standing). map (λ (l : LeasedRun). l.position) (outstanding_at s H o.search moment)) is
+
+-- what is due, by the positions of the outstanding leases
+
+pub due-searching : (H : List Entry) (o : Opening) (moment : ℕ) → standing H o ≡ Searching →
+    due H o moment
+    ≡ option_map (λ (k : ℕ). record { search = o.search; stage = Search; position = k })
+    (due_search (plan (setup_of o) (runs H o.search) o.width)
+    (map (λ (l : LeasedRun). l.position) (outstanding H o moment)))
+due-searching H o moment is =
+    let found : List ℕ → Option DueRun = λ out.
+    option_map (λ (k : ℕ). record { search = o.search; stage = Search; position = k })
+    (due_search (plan (setup_of o) (runs H o.search) o.width) out) in
+    ap (λ (s : Standing). due_at s H o moment) is ∙ ap found (sym (outstanding-searching H o moment is))
+
+pub due-verifying : (H : List Entry) (o : Opening) (moment suspect : ℕ) → standing H o ≡ Verifying suspect →
+    due H o moment
+    ≡ option_map (λ (k : ℕ). record { search = o.search; stage = Verify; position = k })
+    (due_verify suspect (reruns_at suspect (reruns H o.search)) (reruns_at (suspect - 1) (reruns H o.search))
+    (map (λ (l : LeasedRun). l.position) (outstanding H o moment)) o.reruns)
+due-verifying H o moment suspect is =
+    let found : List ℕ → Option DueRun = λ out.
+    option_map (λ (k : ℕ). record { search = o.search; stage = Verify; position = k })
+    (due_verify suspect (reruns_at suspect (reruns H o.search))
+    (reruns_at (suspect - 1) (reruns H o.search)) out o.reruns) in
+    ap (λ (s : Standing). due_at s H o moment) is ∙ ap found (sym (outstanding-verifying H o moment suspect is))
 
 none-out : (s : Standing) (H : List Entry) (search moment : ℕ) → is_active s ≡ false →
     outstanding_at s H search moment ≡ []

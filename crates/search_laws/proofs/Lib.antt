@@ -2,8 +2,9 @@ pub mod Sides
 pub mod Views
 pub mod Verified
 pub mod Leases
-pub mod Kept
 pub mod Adding
 pub mod Free
 pub mod OneMore
 pub mod Counting
+pub mod Confirmed
+pub mod NeverLeased

@@ -1,7 +1,7 @@
 -- What the reruns of a suspect say, by their verdicts and positions.
 use Rattle.std.proofs.Common.{◌≡◌, ℕ, zero, suc, ◌+◌, ◌-◌, ◌==◌, ◌<◌, ◌≤◌, ◌⊎◌, inl, inr, Bool, true, false, not, ◌&&◌, ◌||◌, nat_le, List, [], ◌∷◌, count_by, Contains, refl, sym, ap, ◌∙◌, ⊎_elim, arith, true≢false}
 use Rattle.std.specs.List.{list_any}
-use Rattle.std.proofs.lemmas.Bool.{false_from_ne_true, or_parts}
+use Rattle.std.proofs.lemmas.Bool.{false_from_ne_true, or_parts, true_from_ne_false}
 use Rattle.std.proofs.lemmas.Bool.Decides.{nat_tests}
 use Rattle.farm_rules.specs.Reruns.{enough, is_against, vindicated}
 use Rattle.weight_exact.specs.Counts.{is_fail_at, is_pass_at}
@@ -44,10 +44,6 @@ as_against Pass at c (inr h) = let b : true ≡ false = cc in absurd (true≢fal
 as_against Fail at c (inl h) = let b : true ≡ false = cc in absurd (true≢false b)
 as_against Fail at c (inr h) = let same : at + 1 ≡ c = h.1 in grind (arith, nat_tests)
 
-true-unless : (b : Bool) → (b ≡ false → ⊥) → b ≡ true
-true-unless true h = refl
-true-unless false h = absurd (h refl)
-
 both_of : (n a b : ℕ) → (nat_le n a && nat_le n b) ≡ true → (n ≤ a) × (n ≤ b)
 both_of n a b h = (grind (arith, nat_tests), grind (arith, nat_tests))
 
@@ -84,7 +80,7 @@ none_vindicated-silent c rs h r there speaks =
 
 pub spoke-vindicated : (c : ℕ) (rs : List Run) (r : Run) → Contains rs r → SpeaksAgainst c r → vindicated c rs ≡ true
 spoke-vindicated c rs r there speaks =
-    true-unless (vindicated c rs) (λ h. none_vindicated-silent c rs h r there speaks)
+    true_from_ne_false (vindicated c rs) (λ h. none_vindicated-silent c rs h r there speaks)
 
 pub silent-vindicated : (c : ℕ) (rs : List Run) → 1 ≤ c → ((r : Run) → Contains rs r → SpeaksAgainst c r → ⊥) →
     vindicated c rs ≡ false

@@ -1,11 +1,13 @@
 -- The reruns of a search are what a verification of its suspect went through.
-use Rattle.std.proofs.Common.{◌≡◌, ◌≢◌, ℕ, zero, suc, ◌+◌, ◌<◌, ◌≤◌, ◌⊎◌, Bool, true, false, ◌&&◌, nat_lt, if◌then◌else◌, List, [], ◌∷◌, ◌++◌, length, Contains, Option, Some, None, refl, sym, ap, subst, inl, inr, ◌∙◌, ⊎_elim, arith, true≢false, append_assoc}
+use Rattle.std.proofs.Common.{◌≡◌, ◌≢◌, ℕ, zero, suc, ◌+◌, ◌-◌, ◌==◌, ◌<◌, ◌≤◌, ◌⊎◌, Bool, true, false, not, ◌&&◌, nat_lt, if◌then◌else◌, List, [], ◌∷◌, ◌++◌, length, count_by, Contains, Option, Some, None, refl, sym, ap, subst, inl, inr, ◌∙◌, ⊎_elim, arith, true≢false, append_assoc}
 use Rattle.std.proofs.lemmas.Bool.Decides.{nat_tests}
 use Rattle.std.proofs.lemmas.Option.{none-some}
 use Rattle.farm_rules.specs.Reruns.{Outcome, after_rerun, after_reruns, confirmed, counts, enough, is_verifying, outcome, reruns_at, vindicated, vindicating, verifying}
 use Rattle.farm_types.specs.declared.stage.Stage.{Stage}
 use Rattle.farm_types.specs.declared.stage.Stage.TheVariants.{Search, Verify}
 use Rattle.verify_flow.proofs.Noted.{reruns_at-after_reruns}
+use Rattle.weight_exact.specs.Counts.{is_fail_at, is_pass_at}
+use Rattle.weight_exact.specs.Load.{is_fail}
 use Rattle.weight_exact.specs.Weights.{suspects}
 use Rattle.weight_exact.specs.declared.run.Run.{Run}
 use Rattle.weight_exact.specs.declared.run.Verdict.{Verdict}
@@ -21,6 +23,7 @@ use Rattle.farm_entry.specs.declared.opening.Opening.{Opening}
 use Rattle.farm_entry.specs.declared.standing.Standing.{Standing}
 use Rattle.farm_entry.specs.declared.standing.Standing.TheVariants.{Searching, Verifying, Confirmed, Vindicated, NoCulprit, Inconclusive, Cancelled}
 use Rattle.farm_laws.specs.Laws.{culprit_of}
+use Rattle.farm_laws.proofs.Counts.{count_by-le}
 use Rattle.farm_laws.proofs.Ends.{at_bar-stays, over-kept, some-entries}
 use Rattle.farm_laws.proofs.InRange.{FitsStage, lease-fits}
 use Rattle.farm_laws.proofs.Induct.{IsLegal-first, IsLegal-rest, grown}
@@ -31,7 +34,8 @@ use Rattle.farm_laws.proofs.Standings.{at_bar-searching}
 use Rattle.farm_laws.proofs.Stepped.{Stepped}
 use Rattle.search_laws.specs.Stands.{IsBeingRerun, IsBelieved, IsNamed}
 use Rattle.search_laws.proofs.Sides.{counts-lacking, silent-vindicated}
-use Rattle.search_laws.proofs.Views.{bar-reached, cancelled-standing, named-standing_names, reached-bar, standing-verifying}
+use Rattle.search_laws.proofs.Views.{bar-reached, cancelled-standing, named-standing_names, reached-bar, standing-confirmed, standing-verifying}
+use Rattle.search_laws.proofs.Counting.{some-equal}
 
 -- One rerun more.
 
@@ -125,9 +129,6 @@ is_verify : (s : Stage) → same_stage s Verify ≡ true → s ≡ Verify
 is_verify Search h = absurd (true≢false (sym h))
 is_verify Verify h = refl
 
-some-equal : (a b : ℕ) (n : Option ℕ) → n ≡ Some a → n ≡ Some b → a ≡ b
-some-equal a b n p q = cc
-
 -- a rerun of a suspect that is being verified counts where its side has room
 open-counts : (c v : ℕ) (rs : List Run) (r : Run) → vindicated c rs ≡ false → enough c v rs ≡ false →
     nat_lt (reruns_at r.position rs) v ≡ true →
@@ -217,6 +218,29 @@ asked-by H o position (Some c) w =
 pub reruns-asked : (H : List Entry) (o : Opening) (position : ℕ) → IsLegal H → Contains (openings H) o →
     reruns_at position (reruns H o.search) ≤ o.reruns
 reruns-asked H o position legal there = asked-by H o position (at_bar H o) (verified H legal o there)
+
+-- A confirmed suspect has as many reruns that speak for it as were asked for, and no more.
+
+and-right : (a b : Bool) → (a && b) ≡ true → b ≡ true
+and-right true b h = h
+and-right false b h = absurd (true≢false (sym h))
+
+pub confirmed-exactly : (H : List Entry) (o : Opening) (c : ℕ) → IsLegal H → Contains (openings H) o →
+    standing H o ≡ Confirmed c →
+    (count_by (is_fail_at c) (reruns H o.search) ≡ o.reruns)
+    × (count_by (is_pass_at (c - 1)) (reruns H o.search) ≡ o.reruns)
+confirmed-exactly H o c legal there h =
+    let again = reruns H o.search in
+    let borne = standing-confirmed H o c legal there h in
+    let fails : count_by (is_fail_at c) again ≤ reruns_at c again =
+    count_by-le (is_fail_at c) (λ (r : Run). r.position == c) again
+    (λ r is. and-right (is_fail r.verdict) (r.position == c) is) in
+    let passes : count_by (is_pass_at (c - 1)) again ≤ reruns_at (c - 1) again =
+    count_by-le (is_pass_at (c - 1)) (λ (r : Run). r.position == (c - 1)) again
+    (λ r is. and-right (not (is_fail r.verdict)) (r.position == (c - 1)) is) in (
+      omega (arith, borne.failed, fails, reruns-asked H o c legal there),
+      omega (arith, borne.passed, passes, reruns-asked H o (c - 1) legal there),
+    )
 
 -- A verification keeps its suspect.
 

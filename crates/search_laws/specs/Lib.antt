@@ -1,2 +1,3 @@
+pub mod Inserted
 pub mod Stands
 pub mod Steps

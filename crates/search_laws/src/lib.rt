@@ -14,14 +14,15 @@ mod totals;
 
 pub use outstanding::{
     due_runs_go_by_outstanding_leases, expired_leases_stay_expired,
-    leases_are_open_until_their_deadline,
+    leases_are_open_until_their_deadline, searches_never_leased_stand_at_the_founding,
 };
 pub use reruns::{reruns_are_those_of_a_verification, verifications_keep_their_suspect};
 pub use standings::{
     beliefs_decide_standings, entries_end_searches, named_suspects_stand_by_their_reruns,
 };
 pub use steps::{
-    an_entry_changes_one_search, leases_after_one_entry_more, totals_after_one_entry_more,
+    an_entry_changes_one_search, confirmed_searches_after_one_entry_more,
+    leases_after_one_entry_more, totals_after_one_entry_more,
 };
 pub use totals::{
     orders_are_at_most_the_confirmed_searches, some_small_key_is_free,

@@ -1,9 +1,15 @@
-//! Which leases of a search are out.
-ghost use Rattle.std.specs.Prelude.{◌≡◌, ◌≢◌, ◌↔◌, ℕ, ◌<◌, ◌≤◌, true, false, List, [], ◌++◌, map};
+//! Which leases of a search are out, and whether it has any.
+ghost use Rattle.std.specs.Prelude.{◌≡◌, ◌≢◌, ◌↔◌, ℕ, ◌-◌, ◌<◌, ◌≤◌, true, false, List, [], ◌++◌, map};
 ghost use Rattle.std.specs.List.{All};
+ghost use Rattle.std.specs.Option.{option_map};
 ghost use Rattle.farm_types.specs.declared.stage.Stage.TheVariants.{Search, Verify};
-ghost use Rattle.farm_entry.specs.Due.{is_open, open_positions, outstanding};
-ghost use Rattle.farm_entry.specs.History.{reports};
+ghost use Rattle.weight_exact.specs.Plan.{plan};
+ghost use Rattle.farm_rules.specs.Due.{due_search, due_verify};
+ghost use Rattle.farm_rules.specs.Reruns.{reruns_at};
+ghost use Rattle.farm_entry.specs.Due.{due, is_open, open_positions, outstanding};
+ghost use Rattle.farm_entry.specs.History.{last_lease, leases, reports, reruns, runs};
+ghost use Rattle.farm_entry.specs.Legal.{IsLegal};
+ghost use Rattle.farm_entry.specs.Setup.{setup_of};
 ghost use Rattle.farm_entry.specs.Standing.{is_active, standing};
 ghost use Rattle.farm_entry.specs.declared.standing.Standing.TheVariants.{Searching, Verifying};
 
@@ -22,13 +28,28 @@ pub fn expired_leases_stay_expired()
         → is_open H moment l ≡ false → is_open (H ++ K) later l ≡ false }
 {}
 
-/// The positions that the rules for due runs take are those of the leases that are outstanding; a search that has ended has
-/// none.
+/// The run that is due in a search is what the rules give for the positions of its outstanding leases: while it is
+/// searching those of its open leases that search, while it verifies a suspect those that verify. A search that has
+/// ended has none.
 pub fn due_runs_go_by_outstanding_leases()
     ensures searching { (H : List Entry) (o : Opening) (moment : ℕ) → standing H o ≡ Searching
         → map (λ (l : LeasedRun). l.position) (outstanding H o moment) ≡ open_positions H o.search Search moment }
+    ensures due_searching { (H : List Entry) (o : Opening) (moment : ℕ) → standing H o ≡ Searching
+        → due H o moment ≡ option_map (λ (k : ℕ). record { search = o.search; stage = Search; position = k })
+        (due_search (plan (setup_of o) (runs H o.search) o.width)
+        (map (λ (l : LeasedRun). l.position) (outstanding H o moment))) }
     ensures verifying { (H : List Entry) (o : Opening) (moment suspect : ℕ) → standing H o ≡ Verifying suspect
         → map (λ (l : LeasedRun). l.position) (outstanding H o moment) ≡ open_positions H o.search Verify moment }
+    ensures due_verifying { (H : List Entry) (o : Opening) (moment suspect : ℕ) → standing H o ≡ Verifying suspect
+        → due H o moment ≡ option_map (λ (k : ℕ). record { search = o.search; stage = Verify; position = k })
+        (due_verify suspect (reruns_at suspect (reruns H o.search)) (reruns_at (suspect - 1) (reruns H o.search))
+        (map (λ (l : LeasedRun). l.position) (outstanding H o moment)) o.reruns) }
     ensures ended { (H : List Entry) (o : Opening) (moment : ℕ) → is_active (standing H o) ≡ false
         → outstanding H o moment ≡ [] }
+{}
+
+/// The place of a search's last lease is that of the founding, where no lease stands, exactly where the search was
+/// never leased. So a search that was never leased comes before all others.
+pub fn searches_never_leased_stand_at_the_founding()
+    ensures { (H : List Entry) (search : ℕ) → IsLegal H → (last_lease H search ≡ 0) ↔ (leases H search ≡ []) }
 {}

@@ -1,19 +1,24 @@
 //! What one entry more changes, and what it leaves as it was.
-ghost use Rattle.std.specs.Prelude.{◌≡◌, ℕ, ◌+◌, Bool, List, [], ◌∷◌, ◌++◌, length, count_by, Contains, cond, if◌then◌else◌};
+ghost use Rattle.std.specs.Prelude.{◌≡◌, ℕ, ◌+◌, Bool, false, List, [], ◌∷◌, ◌++◌, length, count_by, Contains, cond, if◌then◌else◌};
 ghost use Rattle.std.specs.List.{cons_option};
 ghost use Rattle.farm_types.specs.declared.stage.Stage.{Stage};
 ghost use Rattle.farm_entry.specs.Due.{open_leases};
 ghost use Rattle.farm_entry.specs.History.{is_counted, is_lease_for, last_lease, leases, openings, order_in, opening_in, report_in, reruns, runs};
 ghost use Rattle.farm_entry.specs.Legal.{IsLegal};
+ghost use Rattle.farm_entry.specs.Orders.{confirmed_searches};
 ghost use Rattle.farm_entry.specs.Pages.{searches_that, totals};
-ghost use Rattle.farm_entry.specs.Standing.{standing};
+ghost use Rattle.farm_entry.specs.Setup.{commit_of};
+ghost use Rattle.farm_entry.specs.Standing.{is_confirmed, standing};
+ghost use Rattle.search_laws.specs.Inserted.{IsInserted};
 ghost use Rattle.search_laws.specs.Steps.{IsAbout, handed_out, open_of, without_reported};
 
-use farm_entry::{Entry, Opening, ReportedRun, Standing};
+use farm_entry::{Entry, Opening, ReportedRun, Standing, What};
 
-/// A search that an entry neither reports a run of nor cancels keeps its runs, its reruns and its standing. So an entry
-/// changes where at most one search stands.
+/// A search that an entry neither reports a run of nor cancels keeps its runs, its reruns and its standing; and an
+/// entry reports a run of, or cancels, one search at most. So it changes where at most one search stands.
 pub fn an_entry_changes_one_search()
+    ensures one { (H : List Entry) (what : What) (search other : ℕ) → IsAbout H what search → IsAbout H what other
+        → search ≡ other }
     ensures runs { (H : List Entry) (e : Entry) (o : Opening) → IsLegal (H ++ e ∷ []) → Contains (openings H) o
         → ¬ IsAbout H e.what o.search → runs (H ++ e ∷ []) o.search ≡ runs H o.search }
     ensures reruns { (H : List Entry) (e : Entry) (o : Opening) → IsLegal (H ++ e ∷ []) → Contains (openings H) o
@@ -54,4 +59,18 @@ pub fn totals_after_one_entry_more()
         → Contains (openings H) o → IsAbout H e.what o.search
         → searches_that test (H ++ e ∷ []) + cond (test (standing H o)) 1 0
         ≡ searches_that test H + cond (test (standing (H ++ e ∷ []) o)) 1 0 }
+{}
+
+/// The searches with a confirmed culprit, by their numbers, after one entry more: the same where no search is
+/// confirmed by it, and else with that search put in at its place.
+pub fn confirmed_searches_after_one_entry_more()
+    ensures same { (H : List Entry) (e : Entry) → IsLegal (H ++ e ∷ []) → IsLegal H
+        → ((o : Opening) → Contains (openings H) o
+        → is_confirmed (standing (H ++ e ∷ []) o) ≡ is_confirmed (standing H o))
+        → confirmed_searches (H ++ e ∷ []) ≡ confirmed_searches H }
+    ensures one_more { (H : List Entry) (e : Entry) (o : Opening) (culprit : ℕ) → IsLegal (H ++ e ∷ [])
+        → Contains (openings H) o → is_confirmed (standing H o) ≡ false
+        → standing (H ++ e ∷ []) o ≡ Standing.Confirmed culprit
+        → IsInserted (confirmed_searches H) (confirmed_searches (H ++ e ∷ []))
+        (record { search = o.search; commit = commit_of o culprit }) }
 {}

@@ -11,4 +11,4 @@ mod numbers;
 
 pub use dates::days_and_their_texts_go_together;
 pub use ids::ids_are_written_in_lower_case;
-pub use numbers::values_are_made_again_from_their_readers;
+pub use numbers::{equal_fractions_are_one_rate, values_are_made_again_from_their_readers};

@@ -1,6 +1,7 @@
 //! Values that are made again from their own readers.
-ghost use Rattle.std.specs.Prelude.{◌≡◌, None, Some};
+ghost use Rattle.std.specs.Prelude.{◌≡◌, ℕ, ◌*◌, None, Some};
 ghost use Rattle.flake_rate.specs.Bar.{bar_denominator, bar_numerator};
+ghost use Rattle.flake_rate.specs.Limits.{IsMiss, IsRate};
 ghost use Rattle.flake_rate.specs.Miss.{FitsRate, miss_denominator, miss_numerator};
 ghost use Rattle.flake_rate.specs.Rate.{rate_denominator, rate_numerator};
 ghost use Rattle.suspect_range.specs.Faults.{range_fault};
@@ -22,4 +23,10 @@ pub fn values_are_made_again_from_their_readers()
         → range_fault range.base range.suspects range.calm ≡ None }
     ensures settings { (settings : Settings)
         → settings_fault (settings_lease_ms settings) (settings_daily settings) (settings_zone_minutes settings) ≡ None }
+{}
+
+/// A flake rate, and a miss rate, is one however its fraction is spelled within the limits.
+pub fn equal_fractions_are_one_rate()
+    ensures rate { (a b c d : ℕ) → IsRate a b → IsRate c d → a * d ≡ c * b → rate_of a b ≡ rate_of c d }
+    ensures miss { (a b c d : ℕ) → IsMiss a b → IsMiss c d → a * d ≡ c * b → miss_of a b ≡ miss_of c d }
 {}

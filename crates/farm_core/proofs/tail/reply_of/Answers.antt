@@ -1,5 +1,5 @@
 use Rattle.std.proofs.Common.{sym, ◌∙◌}
-use Rattle.farm_laws.proofs.EntryParts.{none-some}
+use Rattle.std.proofs.lemmas.Option.{none-some}
 use Rattle.farm_laws.proofs.Replies.{reply-there}
 use Rattle.farm_core.proofs.tail.reply_of.Goals as goal
 

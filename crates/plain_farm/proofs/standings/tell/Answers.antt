@@ -1,7 +1,7 @@
 use Rattle.std.proofs.Common.{List, sym, subst, ◌∙◌}
 use Rattle.weight_exact.specs.Weights.{Setup}
 use Rattle.weight_exact.specs.declared.run.Verdict.TheVariants.{Pass}
-use Rattle.plain_farm.specs.Loads.{LoadsFit}
+use Rattle.farm_laws.specs.Loads.{LoadsFit}
 use Rattle.plain_farm.proofs.Telling.{told-more}
 use Rattle.plain_farm.proofs.standings.tell.Goals as goal
 

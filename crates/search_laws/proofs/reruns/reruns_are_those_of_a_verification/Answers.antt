@@ -1,4 +1,4 @@
-use Rattle.search_laws.proofs.Verified.{none-rerun, reruns-asked, reruns-at_sides, reruns-went_through}
+use Rattle.search_laws.proofs.Verified.{confirmed-exactly, none-rerun, reruns-asked, reruns-at_sides, reruns-went_through}
 use Rattle.search_laws.proofs.reruns.reruns_are_those_of_a_verification.Goals as goal
 
 pub returns : goal.returns
@@ -7,4 +7,5 @@ returns c = record {
   positions = reruns-at_sides;
   went_through = reruns-went_through;
   asked = reruns-asked;
+  exactly = confirmed-exactly;
 }

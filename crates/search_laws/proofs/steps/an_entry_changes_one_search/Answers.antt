@@ -3,11 +3,13 @@ use Rattle.farm_types.specs.declared.stage.Stage.TheVariants.{Search, Verify}
 use Rattle.farm_laws.proofs.Ends.{some-entries}
 use Rattle.farm_laws.proofs.Induct.{IsLegal-first, IsLegal-pushed}
 use Rattle.farm_laws.proofs.Stepped.{stepped}
+use Rattle.search_laws.proofs.Counting.{about-one}
 use Rattle.search_laws.proofs.OneMore.{runs-same, standing-same}
 use Rattle.search_laws.proofs.steps.an_entry_changes_one_search.Goals as goal
 
 pub returns : goal.returns
 returns c = record {
+  one = about-one;
   runs = λ H e o legal there other.
       let first = IsLegal-first H (e ∷ []) (some-entries H o there) legal in
       runs-same H e o.search Search first (stepped H e (IsLegal-pushed H e first legal)) other;
