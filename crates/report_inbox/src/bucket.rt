@@ -1,0 +1,29 @@
+//! The bucket in which a key is kept.
+
+ghost use Rattle.std.specs.Prelude.{◌≡◌, ◌<◌};
+ghost use Rattle.report_inbox.specs.Bucket.{home_of, mixed_of};
+
+/// One more than the greatest word of 64 bits.
+const WORD: u128 = 1 << 64;
+
+/// The bucket of a key among so many: the low bits of all its bits mixed. Two keys that share one half have different
+/// mixed words, so that keys which count up in either half are spread over the buckets.
+pub(crate) fn home(size: usize, key: u128) -> usize
+    requires { 0 < size }
+    ensures home { result ≡ home_of size key }
+    ensures in_range { result < size }
+{
+    let low = (key % WORD) as u64;
+    let high = (key / WORD) as u64;
+    mixed(mixed(low) ^ high) as usize & (size - 1)
+}
+
+/// A word with each of its bits spread over all of it. No two words are mixed to the same one. These are the last steps
+/// of the generator SplitMix64 of Steele, Lea and Flood, with the constants that Stafford found.
+fn mixed(word: u64) -> u64
+    ensures { result ≡ mixed_of word }
+{
+    let once = (word ^ (word >> 30)).wrapping_mul(0xbf58_476d_1ce4_e5b9);
+    let twice = (once ^ (once >> 27)).wrapping_mul(0x94d0_49bb_1331_11eb);
+    twice ^ (twice >> 31)
+}
