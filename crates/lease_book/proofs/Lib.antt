@@ -1,0 +1,10 @@
+pub mod Ends
+pub mod Kepts
+pub mod Looks
+pub mod Marks
+pub mod Moves
+pub mod Outs
+pub mod Reclosed
+pub mod Replaced
+pub mod Tops
+pub mod Walks
