@@ -1,12 +1,11 @@
 //! The values that the tests speak of.
 
-use farm_entry::{BoxedOpening, Entry, Fate, OpenAsk, Opening, Settings, Suspects, What};
-use farm_types::{CommitId, Key, Moment, Name, Stage};
+use farm_entry::{BoxedOpening, OpenAsk, Opening, Suspects, What};
+use farm_types::{CommitId, Key, Name, Stage};
 use flake_rate::{Bar, Miss, Rate};
-use std::alloc::Global;
+use std::alloc::{AllocError, Global};
 use std::test::Fail;
 use suspect_range::{Suspect, SuspectRange};
-use weight_exact::Verdict;
 
 /// The commit whose bytes are all this number.
 pub fn id(number: u8) -> CommitId {
@@ -14,29 +13,32 @@ pub fn id(number: u8) -> CommitId {
 }
 
 /// Two suspects, of the weights 5 and 7.
-fn suspects(alloc: Global) -> Result<Vec<Suspect>, Fail> {
-    Ok(vec![in alloc;
-        Suspect {
-            commit: id(1),
-            weight: 5,
-        },
-        Suspect {
-            commit: id(2),
-            weight: 7,
-        },
-    ]?)
+fn suspects(alloc: Global) -> Result<Vec<Suspect>, AllocError> {
+    let first = Suspect {
+        commit: id(1),
+        weight: 5,
+    };
+    let second = Suspect {
+        commit: id(2),
+        weight: 7,
+    };
+    Ok(vec![in alloc; first, second]?)
 }
 
 /// A search with every field of its own, its rates in lowest terms.
 pub fn opening(alloc: Global) -> Result<Opening, Fail> {
+    let rate = Rate::of(1, 10)?;
+    let miss = Miss::of(1, 4)?;
+    let bar = Bar::of(18, 20)?;
+    let range = SuspectRange::of(id(0), suspects(alloc)?, 9)?;
     Ok(Opening {
         key: Key(11),
         search: 12,
         test: Name::of(alloc, "net::dns")?,
-        range: SuspectRange::of(id(0), suspects(alloc)?, 9)?,
-        rate: Rate::of(1, 10)?,
-        miss: Miss::of(1, 4)?,
-        bar: Bar::of(18, 20)?,
+        range,
+        rate,
+        miss,
+        bar,
         width: 3,
         reruns: 4,
     })
@@ -44,11 +46,12 @@ pub fn opening(alloc: Global) -> Result<Opening, Fail> {
 
 /// The open that names it.
 pub fn ask(alloc: Global) -> Result<OpenAsk, Fail> {
+    let suspects = Suspects::of(suspects(alloc)?);
     Ok(OpenAsk {
         key: Key(11),
         test: Name::of(alloc, "net::dns")?,
         base: id(0),
-        suspects: Suspects::of(suspects(alloc)?),
+        suspects,
         calm: 9,
         rate: (1, 10),
         miss: (1, 4),
@@ -58,24 +61,13 @@ pub fn ask(alloc: Global) -> Result<OpenAsk, Fail> {
     })
 }
 
-/// An entry at a moment.
-pub fn entry(what: What) -> Result<Entry, Fail> {
-    let at = Moment::of(100_000_000)?;
-    Ok(Entry { at, what })
-}
-
-/// A founding.
-pub fn founded() -> Result<What, Fail> {
-    let settings = Settings::of(600_000, 2, -60)?;
-    Ok(What::Founded { settings })
-}
-
-/// The opening of the search.
+/// What is recorded of the opening of the search.
 pub fn opened(alloc: Global) -> Result<What, Fail> {
-    Ok(What::Opened(BoxedOpening::of(alloc, opening(alloc)?)?))
+    let opening = opening(alloc)?;
+    Ok(What::Opened(BoxedOpening::of(alloc, opening)?))
 }
 
-/// A run that was handed out.
+/// What is recorded of a run that is handed out.
 pub fn leased(alloc: Global) -> Result<What, Fail> {
     Ok(What::Leased {
         key: Key(21),
@@ -88,24 +80,7 @@ pub fn leased(alloc: Global) -> Result<What, Fail> {
     })
 }
 
-/// A report.
-pub fn reported() -> What {
-    What::Reported {
-        run: 41,
-        verdict: Verdict::Fail,
-        fate: Fate::Late,
-    }
-}
-
-/// The end of a search.
-pub fn cancelled() -> What {
-    What::Cancelled {
-        key: Key(51),
-        search: 52,
-    }
-}
-
-/// An order.
+/// What is recorded of an order.
 pub fn ordered(alloc: Global) -> Result<What, Fail> {
     Ok(What::Ordered {
         key: Key(31),

@@ -72,35 +72,56 @@ fn candidate(number: u8) -> Candidate {
     }
 }
 
-#[test]
-fn orders_and_those_that_wait_for_one_are_shown(rt: HostRuntime) -> Result<(), Fail> {
-    let alloc = rt.alloc();
+/// The farm with two orders: one of each of two days.
+fn two_ordered(alloc: Global) -> Result<Game, Fail> {
     let mut game = three_confirmed(alloc)?;
     let _first = game.revert(START)?;
     let _second = game.revert(169_200_000)?;
-    let history = game.history();
-    let lines = [line(alloc, 1, 1, 1)?, line(alloc, 2, 2, 2)?];
-    assert_eq!(rt; order_lines(alloc, history)?.as_slice(), lines.as_slice());
-    assert_eq!(rt; order_page(alloc, history)?.as_slice(), lines.as_slice());
-    let found = confirmed_searches(alloc, history)?;
+    Ok(game)
+}
+
+#[test]
+fn orders_are_shown(rt: HostRuntime) -> Result<(), Fail> {
+    let game = two_ordered(rt.alloc())?;
+    let lines = [line(rt.alloc(), 1, 1, 1)?, line(rt.alloc(), 2, 2, 2)?];
+    let found = order_lines(rt.alloc(), game.history())?;
+    assert_eq!(rt; found.as_slice(), lines.as_slice());
+    let page = order_page(rt.alloc(), game.history())?;
+    assert_eq!(rt; page.as_slice(), lines.as_slice());
+    Ok(())
+}
+
+#[test]
+fn searches_wait_for_an_order(rt: HostRuntime) -> Result<(), Fail> {
+    let game = two_ordered(rt.alloc())?;
+    let found = confirmed_searches(rt.alloc(), game.history())?;
     assert_eq!(rt;
         found.as_slice(),
         [candidate(1), candidate(2), candidate(3)].as_slice()
     );
+    Ok(())
+}
+
+#[test]
+fn the_next_order_waits_for_a_day_with_room(rt: HostRuntime) -> Result<(), Fail> {
+    let game = two_ordered(rt.alloc())?;
     let same_day = Moment::of(169_200_000)?;
-    let next_day = Moment::of(255_600_000)?;
-    assert_eq!(rt;
-        [day_in(history, same_day), day_in(history, next_day)],
-        [2, 3]
-    );
     let full = NoOrder::DailyLimit { day: 2, count: 1 };
-    assert_eq!(rt; next_order_at(alloc, history, same_day)?, Err(full));
+    assert_eq!(rt;
+        next_order_at(rt.alloc(), game.history(), same_day)?,
+        Err(full)
+    );
+    let next_day = Moment::of(255_600_000)?;
+    assert_eq!(rt; day_in(game.history(), next_day), 3);
     let draft = Draft {
         order: 3,
         commit: commit(3),
         search: 3,
         day: 3,
     };
-    assert_eq!(rt; next_order_at(alloc, history, next_day)?, Ok(draft));
+    assert_eq!(rt;
+        next_order_at(rt.alloc(), game.history(), next_day)?,
+        Ok(draft)
+    );
     Ok(())
 }
