@@ -1,0 +1,20 @@
+//! The words of a case.
+use std::alloc::Global;
+
+/// The first word of a text, and what follows it.
+pub(crate) fn word(text: &str) -> (&str, &str) {
+    text.split_once(' ').unwrap_or((text, ""))
+}
+
+/// The bytes with these digits, and none where they aren't digits.
+pub(crate) fn bytes_of(alloc: Global, digits: &str) -> Vec<u8> {
+    match hex::decode(alloc, digits) {
+        Ok(bytes) => bytes,
+        Err(_) => Vec::new(alloc),
+    }
+}
+
+/// The number with these digits, and 0 where they aren't digits.
+pub(crate) fn number_of(digits: &str) -> u32 {
+    digits.parse::<u32>().unwrap_or(0)
+}
