@@ -1,17 +1,12 @@
 //! Plays the cases of standard input over journals in memory, and prints what each comes to. A case is a line: a word,
 //! the bytes of a file as hexadecimal digits or `-` for none, and what the word asks for. A line that begins with `#` is
-//! printed as it is. The file `stdout` has what is wanted; it was worked out by hand. The tests beside it are of disks: the
-//! images of one in memory, and a real file.
+//! printed as it is. The file `stdout` has what is wanted; it was worked out by hand.
 #![tactic(auto)]
 
 mod digits;
-#[cfg(test)]
-mod disks;
 mod faults;
 mod images;
 mod journals;
-#[cfg(test)]
-mod real_file;
 mod repairs;
 
 use digits::{bytes_of, number_of, word};
