@@ -15,7 +15,9 @@ invariant_of-pass c =
     let begins : IsPrefix seen history =
     subst (λ (l : List Entry). IsPrefix l history)
     (sym (ap (λ (r : Reader). r.seen) c.pass.view_is)) c.requires.longer in
-    let longer = longer_by_totals seen history pass.last c.args.totals old.totals_are c.requires.totals c.if-totals-pass.true begins in
+    let longer =
+    longer_by_totals seen history pass.last c.args.totals old.totals_are c.requires.totals c.if-totals-pass.true
+    begins in
     let posts : true ≡ pass.posts = sym (ap (λ (r : Reader). r.posts) c.pass.view_is ∙ c.requires.posts) in
     subst (λ (b : Bool). IsStill b c.write.new.seat.me c.args.totals) posts
     (IsStill-poster c.write.new.seat.me

@@ -17,4 +17,5 @@ pub invariant_of-result : goal.invariant_of-result
 invariant_of-result c =
     let pass = c.pass.invariant in
     let seat = c.split_seat-seat in
-    IsStill-reader seat.result.me c.pass.inside.seat.me.0.seen c.pass.inside.last seat.ensures.4 pass.legal pass.totals_are
+    IsStill-reader seat.result.me c.pass.inside.seat.me.0.seen c.pass.inside.last seat.ensures.4 pass.legal
+    pass.totals_are
