@@ -140,6 +140,14 @@ impl Farm {
         self.commit_next();
     }
 
+    /// Commits all that may be committed next, in its order: the history ends with it from now on.
+    pub fn commit_all(&mut self)
+        ensures history { self.new.history ≡ self.old.history ++ self.old.ready }
+        ensures ready { self.new.ready ≡ [] }
+    {
+        self.committed = self.entries.len();
+    }
+
     /// Takes an entry that came from elsewhere, if it may come next, and drops it otherwise. Nothing that was ready
     /// before may be committed any more.
     ///

@@ -1,5 +1,5 @@
 -- What the calls of a disk do, by their result.
-use Rattle.std.specs.Prelude.{ℕ, ◌≡◌, List, length, Result, Ok, Err}
+use Rattle.std.specs.Prelude.{ℕ, ◌≡◌, ◌⊎◌, List, length, Result, Ok, Err}
 use Rattle.farm_disk.specs.Images.{DiskState}
 use Rattle.farm_disk.specs.Answers.{rested, after_write, after_cut, after_sync, FailedWrite, FailedCut}
 use Rattle.farm_journal.specs.declared.disk_calls.DiskFault.{DiskFault}
@@ -20,3 +20,7 @@ SyncEnds (Err _) old new = new ≡ rested old
 abbrev pub CutEnds : ℕ → Result (Unit {0}) DiskFault → DiskState → DiskState → Type 0
 CutEnds n (Ok _) old new = new ≡ after_cut n old
 CutEnds n (Err _) old new = FailedCut n old new
+
+-- nothing was done, but that a moment may have passed
+abbrev pub IsUndone : DiskState → DiskState → Type 0
+IsUndone old new = (new ≡ old) ⊎ (new ≡ rested old)

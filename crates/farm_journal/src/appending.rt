@@ -4,6 +4,7 @@ ghost use Rattle.told_list.specs.Counts.{Rose};
 ghost use Rattle.farm_disk.specs.Images.{LeavesOnly, moment};
 ghost use Rattle.farm_journal.specs.Layout.{IsPayload};
 ghost use Rattle.farm_journal.specs.Gates.{Rests, Waits, IsEither};
+ghost use Rattle.farm_journal.specs.Outcome.{IsUndone};
 
 use crate::disk_calls::{DiskFault, sync, write};
 use crate::layout::closed_frame;
@@ -35,6 +36,8 @@ pub(super) fn append_record<D: Disk>(
         → Rests 2 ps gate (D.told disk.old) → Waits 2 ps gate payload.now (D.told disk.new) }
     ensures memory { IsErrOf result DiskFault.Memory → D.tells disk.old ≡ true → (ps : List (List ℕ))
         → Rests 2 ps gate (D.told disk.old) → Rests 2 ps gate (D.told disk.new) }
+    ensures undone { IsErrOf result DiskFault.Memory → D.tells disk.old ≡ true
+        → IsUndone (D.told disk.old) (D.told disk.new) }
 
     ensures cause { IsErrOf result DiskFault.Failed → Rose (D.count disk.old) (D.count disk.new) }
     ensures never_falls { D.count disk.old ≤ D.count disk.new }

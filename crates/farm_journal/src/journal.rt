@@ -15,6 +15,7 @@ ghost use Rattle.std.specs.Prelude.{
   true,
   false,
   IsTrue,
+  All,
   IsSome,
   OnOk,
   IfOk,
@@ -34,7 +35,7 @@ ghost use Rattle.farm_journal.specs.Created.{
   OnCreatingMemory,
 };
 ghost use Rattle.farm_journal.specs.Faults.{OnStoreFault, OnMemory, HasCause};
-ghost use Rattle.farm_journal.specs.Layout.{IsPayload, IsVersion, gate_of, is_unborn, opens, version_of};
+ghost use Rattle.farm_journal.specs.Layout.{IsPayload, IsVersion, gate_of, holds, is_unborn, opens, version_of};
 ghost use Rattle.farm_journal.specs.Opened.{disk_after, Answers, OpeningCause};
 ghost use Rattle.farm_journal.specs.ReadsOnly.{ReadsOnly};
 ghost use Rattle.farm_journal.specs.Mended.{Reads, payloads_after, version_after};
@@ -144,6 +145,7 @@ impl<D: Disk> Journal<D> {
         ensures same { D.tells (disk_after result) ≡ D.tells disk }
         ensures answers { D.tells disk ≡ true → Answers (opens (D.told disk).bytes) result }
         ensures payloads { IfOk result (λ opened. opened.0.payloads ≡ opened.1) }
+        ensures fit { IfOk result (λ opened. All IsPayload opened.1) }
         ensures idle { IfOk result (λ opened. opened.0.pending ≡ None) }
         ensures version { IfOk result (λ opened. D.tells disk ≡ true
             → opened.0.version ≡ version_of (D.told disk).bytes) }
@@ -190,7 +192,7 @@ impl<D: Disk> Journal<D> {
     /// Appends a payload of 1 to `MAX_PAYLOAD` bytes. At `Ok` it is acknowledged: from then on each crash leaves a file
     /// that has it. That takes one write and one sync, and then one byte and one sync; a journal of version 1 is first
     /// made one of version 2. After a `StoreFault` the payload is pending. After want of memory the payloads are as
-    /// before.
+    /// before, and no crash in the call leaves anything else.
     pub fn append(&mut self, alloc: Global, payload: &[u8]) -> Result<(), JournalFault>
         requires idle { self.old.pending ≡ None }
         requires payload { IsPayload payload.now }
@@ -219,6 +221,8 @@ impl<D: Disk> Journal<D> {
         ensures still_idle { OnMemory result (self.new.pending ≡ None) }
         ensures still_held { OnMemory result (D.tells self.old.disk ≡ true
             → IsHeld self.old.payloads (D.told self.new.disk)) }
+        ensures leaves_before { OnMemory result (D.tells self.old.disk ≡ true
+            → LeavesOnly (D.told self.old.disk) (D.told self.new.disk) (λ c. opens c ≡ holds self.old.payloads)) }
 
         ensures upgrades { (self.new.version ≡ self.old.version) ⊎ (self.new.version ≡ 2) }
 
@@ -291,6 +295,13 @@ impl<D: Disk> Journal<D> {
                 Err(JournalFault::StoreFault { before, after })
             }
         }
+    }
+
+    /// How often the disk has failed so far.
+    pub fn faults(&self) -> u64
+        ensures { result ≡ D.count self.now.disk }
+    {
+        self.disk.faults()
     }
 
     /// Whether a payload is pending.

@@ -3,7 +3,7 @@ ghost use Rattle.std.specs.Prelude.{◌≡◌, ◌≤◌, ◌<◌, ◌+◌, ◌�
 ghost use Rattle.told_list.specs.Counts.{Rose};
 ghost use Rattle.farm_disk.specs.Images.{LeavesOnly, moment};
 ghost use Rattle.farm_journal.specs.Layout.{IsPayload};
-ghost use Rattle.farm_journal.specs.Gates.{Rests, Waits, IsEither};
+ghost use Rattle.farm_journal.specs.Gates.{Rests, Stands, Waits, IsEither};
 ghost use Rattle.farm_journal.specs.declared.layout.TheConstants.{FIRST_GATE, GATE_LIMIT};
 
 use crate::appending::append_record;
@@ -40,6 +40,10 @@ pub(super) fn store<D: Disk>(
         → Rests version.old ps gate (D.told disk.old) → Waits version.new ps gate payload.now (D.told disk.new) }
     ensures memory { IsErrOf result DiskFault.Memory → D.tells disk.old ≡ true → (ps : List (List ℕ))
         → Rests version.old ps gate (D.told disk.old) → Rests version.new ps gate (D.told disk.new) }
+    // Where memory was wanting, no crash leaves the new one.
+    ensures leaves_before { IsErrOf result DiskFault.Memory → D.tells disk.old ≡ true → (ps : List (List ℕ))
+        → Rests version.old ps gate (D.told disk.old)
+        → LeavesOnly (D.told disk.old) (D.told disk.new) (Stands 1 ps gate) }
 
     ensures cause { IsErrOf result DiskFault.Failed → Rose (D.count disk.old) (D.count disk.new) }
     ensures never_falls { D.count disk.old ≤ D.count disk.new }
