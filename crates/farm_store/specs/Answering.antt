@@ -1,5 +1,5 @@
 -- What a store answers to a list of asks, and how its history goes on.
-use Rattle.std.specs.Prelude.{◌≡◌, ◌≢◌, ◌⊎◌, ℕ, List, [], ◌∷◌, ◌++◌, length, map, Some, Result, Ok, Err, ⊤}
+use Rattle.std.specs.Prelude.{◌≡◌, ◌≢◌, ◌⊎◌, ℕ, ◌+◌, List, [], ◌∷◌, ◌++◌, length, map, Some, Result, Ok, Err, ⊤}
 use Rattle.farm_types.specs.declared.moment.Moment.{Moment}
 use Rattle.farm_entry.specs.Decision.{decide}
 use Rattle.farm_entry.specs.Playing.{after, played}
@@ -46,24 +46,28 @@ pub record IsAnswered {D : Type 0} (asks : List Ask) (answers : List Answer) (ol
   pub found : IsRepaired old repaired
   pub answers : AreAnswers repaired asks answers
   pub history : new.history ≡ history_after repaired asks
+  pub recorded : length new.history ≡ length repaired + new.recorded
   pub decided : new.pending ≡ []
 
--- the disk failed in the repair, and nothing changed
+-- the disk failed in the repair, and history and pending are as before
 pub record IsUnrepaired {D : Type 0} (old new : StoreState D) : Type 0 where
   pub some : old.pending ≢ []
   pub history : new.history ≡ old.history
   pub pending : new.pending ≡ old.pending
+  pub none : new.recorded ≡ 0
 
 -- the disk failed as the new entries of these asks were stored: the history is as the repair left it, and they are pending
 pub record IsUndecided {D : Type 0} (asks : List Ask) (old new : StoreState D) : Type 0 where
   pub found : IsRepaired old new.history
   pub some : new.pending ≢ []
   pub all : new.history ++ new.pending ≡ history_after new.history asks
+  pub none : new.recorded ≡ 0
 
 -- nothing was answered, and the history is as the repair left it
 pub record IsUnanswered {D : Type 0} (old new : StoreState D) : Type 0 where
   pub found : IsRepaired old new.history
   pub decided : new.pending ≡ []
+  pub none : new.recorded ≡ 0
 
 -- what a call with these asks came to, by what it answers; a refusal is an answer to one ask
 abbrev pub BatchSays : {D : Type 0} → List Ask → Result (List Answer) CallFault → (old new : StoreState D) → Type 0

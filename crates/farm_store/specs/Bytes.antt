@@ -1,5 +1,6 @@
 -- The history that the bytes of a journal stand for.
-use Rattle.std.specs.Prelude.{◌≡◌, ℕ, List, [], ◌++◌, ◌∷◌, map}
+use Rattle.std.specs.Prelude.{◌≡◌, ℕ, List, map}
+use Rattle.std.specs.List.{flat_map}
 use Rattle.farm_journal.specs.Layout.{holds, opens}
 use Rattle.entry_codec.specs.Grammar.{AreSpelled}
 use Rattle.entry_codec.specs.Spelling.{spelling}
@@ -8,8 +9,7 @@ use Rattle.farm_entry.specs.declared.entry.Entry.{Entry}
 
 -- the entries of all parts, one part after the other
 abbrev pub joined : List (List Entry) → List Entry
-joined [] = []
-joined (part ∷ parts) = part ++ joined parts
+joined parts = flat_map (λ part. part) parts
 
 -- these payloads spell these entries, each payload a part of them
 pub record Spells (payloads : List (List ℕ)) (H : List Entry) : Type 0 where

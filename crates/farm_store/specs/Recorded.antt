@@ -7,6 +7,7 @@ use Rattle.farm_journal.specs.declared.layout.TheConstants.{GATE_LIMIT}
 use Rattle.entry_codec.specs.Grammar.{AreSpelled}
 use Rattle.entry_codec.specs.Spelling.{spelling}
 use Rattle.farm_entry.specs.declared.entry.Entry.{Entry}
+use Rattle.farm_store.specs.Bytes.{StandsFor}
 use Rattle.farm_store.specs.declared.asking.CallFault.{CallFault}
 use Rattle.farm_store.specs.declared.asking.CallFault.TheVariants as fault
 
@@ -55,3 +56,8 @@ module _ {D : Type 0} (tells : D → Bool) (told : D → DiskState) where
   Wrote entries (Err (fault.Refused cause)) old new = ⊥
   Wrote entries (Err (fault.StoreFault before after)) old new = IsTorn entries old new
   Wrote entries (Err fault.Memory) old new = IsUnwritten old new
+
+-- each crash leaves these payloads' history, or the one with these entries, where they may have been stored
+abbrev pub LeavesNew : (H new : List Entry) → Result (Unit {0}) CallFault → List ℕ → Type 0
+LeavesNew H new (Err fault.Memory) bytes = StandsFor H bytes
+LeavesNew H new _ bytes = StandsFor H bytes ⊎ StandsFor (H ++ new) bytes

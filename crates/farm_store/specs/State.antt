@@ -4,10 +4,12 @@ use Rattle.farm_disk.specs.Images.{DiskState, EachImage, IsSettled}
 use Rattle.farm_entry.specs.declared.entry.Entry.{Entry}
 use Rattle.farm_store.specs.Bytes.{StandsFor}
 
--- a store: its history, the entries of the record that a fault of the disk left undecided, and the disk
+-- A store: its history, the entries of the record that a fault of the disk left undecided, how many entries the last call
+-- recorded for its asks, which are the last of the history, and the disk.
 pub record StoreState (D : Type 0) : Type 0 where
   pub history : List Entry
   pub pending : List Entry
+  pub recorded : ℕ
   pub disk : D
 
 -- the bytes stand for this history, or for it with all that is pending

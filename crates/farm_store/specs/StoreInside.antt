@@ -42,18 +42,11 @@ pub record IsStore {D : Type 0} (tells : D → Bool) (told : D → DiskState) (f
       → IsPending journal.payloads p (told journal.disk)
 
 -- a store of a farm and a journal, as contracts see it
-abbrev pub store_view : {D : Type 0} → FarmView → JournalState D → StoreState D
-store_view farm journal = record {
+abbrev pub store_view : {D : Type 0} → FarmView → JournalState D → ℕ → StoreState D
+store_view farm journal recorded = record {
   history = farm.history;
   pending = undecided journal.pending farm.ready;
-  disk = journal.disk;
-}
-
--- the same without the entries of the farm from a place on
-abbrev pub store_behind : {D : Type 0} → ℕ → FarmView → JournalState D → StoreState D
-store_behind start farm journal = record {
-  history = take start farm.history;
-  pending = [];
+  recorded = recorded;
   disk = journal.disk;
 }
 

@@ -4,9 +4,8 @@ ghost use Rattle.std.specs.Prelude.{◌≡◌, ◌≢◌, ◌≤◌, [], true, l
 ghost use Rattle.farm_disk.specs.Images.{LeavesOnly};
 ghost use Rattle.entry_codec.specs.Grammar.{IsWithinLimits};
 ghost use Rattle.farm_store.specs.Faults.{OnCallFault, OnCallMemory, HasCountFrom};
-ghost use Rattle.farm_store.specs.Recorded.{IsOpen, Wrote};
-ghost use Rattle.farm_store.specs.State.{IsLeft};
-ghost use Rattle.farm_store.specs.StoreInside.{IsAhead, IsStore, store_behind, store_view};
+ghost use Rattle.farm_store.specs.Recorded.{IsOpen, LeavesNew, Wrote};
+ghost use Rattle.farm_store.specs.StoreInside.{IsAhead, IsStore};
 ghost use Rattle.farm_store.specs.declared.asking.TheConstants.{MAX_BATCH};
 
 use crate::asking::CallFault;
@@ -31,7 +30,7 @@ pub fn record_from<D: Disk>(
     ensures same { D.tells journal.new.disk ≡ D.tells journal.old.disk }
     ensures kept { IsStore D.tells D.told farm.new journal.new }
     ensures any_moment { D.tells journal.old.disk ≡ true → LeavesOnly (D.told journal.old.disk) (D.told journal.new.disk)
-        (IsLeft (store_behind start farm.old journal.old) (store_view farm.new journal.new)) }
+        (LeavesNew (take start farm.old.history) (drop start farm.old.history) result) }
 
     ensures stored { OnOk result (farm.new.history ≡ farm.old.history) }
     ensures decided { OnOk result (journal.new.pending ≡ None) }

@@ -36,6 +36,7 @@ use std::marker::Model;
 pub struct Store<D: Disk> {
     journal: Journal<D>,
     farm: Farm,
+    recorded: usize,
 }
 
 impl<D: Disk> Model for Store<D> {
@@ -44,7 +45,7 @@ impl<D: Disk> Model for Store<D> {
 
     ghost Value = { StoreState D };
 
-    ghost view = { λ s. store_view s.farm s.journal };
+    ghost view = { λ s. store_view s.farm s.journal s.recorded };
 
     ghost invariant = { λ s. IsStore D.tells D.told s.farm s.journal };
 }
@@ -62,6 +63,7 @@ impl<D: Disk> Store<D> {
         ensures answers { D.tells disk ≡ true → Founds (D.told disk).bytes result }
         ensures history { IfOk result (λ store. store.history ≡ founding settings at) }
         ensures decided { IfOk result (λ store. store.pending ≡ []) }
+        ensures none_recorded { IfOk result (λ store. store.recorded ≡ 0) }
         ensures legal { OnOk result (IsLegal (founding settings at)) }
         ensures stored { IfOk result (λ store. D.tells disk ≡ true
             → IsStored (founding settings at) [] (D.told store.disk)) }
@@ -88,7 +90,11 @@ impl<D: Disk> Store<D> {
             Err(_) => return Err((disk, CreateFault::Memory)),
         };
         match Journal::create(alloc, disk, payload) {
-            Ok(journal) => Ok(Store { journal, farm }),
+            Ok(journal) => Ok(Store {
+                journal,
+                farm,
+                recorded: 0,
+            }),
             Err(missed) => Err(missed),
         }
     }
@@ -100,6 +106,7 @@ impl<D: Disk> Store<D> {
         ensures same { D.tells (disk_opened result) ≡ D.tells disk }
         ensures answers { D.tells disk ≡ true → OpensTo (D.told disk).bytes result }
         ensures decided { IfOk result (λ store. store.pending ≡ []) }
+        ensures none_recorded { IfOk result (λ store. store.recorded ≡ 0) }
         ensures legal { IfOk result (λ store. IsLegal store.history) }
         ensures stored { IfOk result (λ store. D.tells disk ≡ true → IsStored store.history [] (D.told store.disk)) }
         ensures only { D.tells disk ≡ true → ReadsOnly (D.told disk) (D.told (disk_opened result)) }
@@ -108,7 +115,11 @@ impl<D: Disk> Store<D> {
     {
         match Journal::open_on(alloc, disk) {
             Ok((journal, payloads)) => match farm_of(alloc, payloads.as_slice()) {
-                Ok(farm) => Ok(Store { journal, farm }),
+                Ok(farm) => Ok(Store {
+                journal,
+                farm,
+                recorded: 0,
+            }),
                 Err(fault) => Err((journal.into_disk(), fault)),
             },
             Err(missed) => Err(missed),
@@ -194,6 +205,14 @@ impl<D: Disk> Store<D> {
         self.farm.totals()
     }
 
+    /// How many entries the last call recorded for its asks: they are the last of the history. Those that its repair found
+    /// aren't counted, and after a fault or out of memory there are none.
+    pub fn recorded(&self) -> usize
+        ensures { result ≡ self.now.recorded }
+    {
+        self.recorded
+    }
+
     /// How often the disk has failed so far.
     pub fn faults(&self) -> u64
         ensures { result ≡ D.count self.now.disk }
@@ -214,7 +233,8 @@ impl<D: Disk> Store<D> {
         ensures same { D.tells self.new.disk ≡ D.tells self.old.disk }
         ensures repaired { OnOk result (IsRepaired self.old self.new.history) }
         ensures decided { OnOk result (self.new.pending ≡ []) }
-        ensures idle { self.old.pending ≡ [] → self.new ≡ self.old }
+        ensures idle { self.old.pending ≡ [] → self.new.disk ≡ self.old.disk }
+        ensures none_recorded { self.new.recorded ≡ 0 }
         ensures unrepaired { OnErr result (IsUnrepaired self.old self.new) }
         ensures fault { OnCallMemory result ⊥ }
 
@@ -225,6 +245,7 @@ impl<D: Disk> Store<D> {
         ensures cause { HasCountFrom before result (D.count self.old.disk) (D.count self.new.disk) }
         ensures never_falls { D.count self.old.disk ≤ D.count self.new.disk }
     {
+        self.recorded = 0;
         if !self.journal.pending() {
             return Ok(());
         }
@@ -247,7 +268,8 @@ impl<D: Disk> Store<D> {
         at: Moment,
         before: u64,
     ) -> Result<Reply, CallFault>
-        requires { self.old.pending ≡ [] }
+        requires decided { self.old.pending ≡ [] }
+        requires none_recorded { self.old.recorded ≡ 0 }
         ensures same { D.tells self.new.disk ≡ D.tells self.old.disk }
         ensures says { CallSays command.now at result self.old self.new }
         ensures any_moment { D.tells self.old.disk ≡ true
@@ -261,6 +283,7 @@ impl<D: Disk> Store<D> {
         match answer(&mut self.farm, command, at) {
             Ok(Answer::Done(reply)) => {
                 record_from(alloc, &mut self.farm, &mut self.journal, start, before)?;
+                self.recorded = self.farm.history().len() - start;
                 Ok(reply)
             }
             Ok(Answer::Refused(refusal)) => Err(CallFault::Refused(refusal)),
@@ -271,6 +294,7 @@ impl<D: Disk> Store<D> {
     /// Answers a list of asks while nothing is pending.
     fn decide_all(&mut self, alloc: Global, asks: &[Ask], before: u64) -> Result<Answers, CallFault>
         requires decided { self.old.pending ≡ [] }
+        requires none_recorded { self.old.recorded ≡ 0 }
         requires few { length asks.now ≤ MAX_BATCH }
         ensures same { D.tells self.new.disk ≡ D.tells self.old.disk }
         ensures says { BatchSays asks.now result self.old self.new }
@@ -284,6 +308,7 @@ impl<D: Disk> Store<D> {
         match answer_all(alloc, &mut self.farm, asks) {
             Ok(answers) => {
                 record_from(alloc, &mut self.farm, &mut self.journal, start, before)?;
+                self.recorded = self.farm.history().len() - start;
                 Ok(Answers::of(answers))
             }
             Err(_) => {
