@@ -1,14 +1,14 @@
 -- What holds of a journal after a call.
-use Rattle.std.proofs.Common.{◌≡◌, ◌≢◌, ℕ, ◌+◌, Bool, true, List, [], ◌∷◌, ◌++◌, length, get_or, Option, Some, None, refl, sym, ◌∙◌, ap, subst, arith}
+use Rattle.std.proofs.Common.{◌≡◌, ◌≢◌, inl, ℕ, ◌+◌, Bool, true, List, [], ◌∷◌, ◌++◌, length, get_or, Option, Some, None, refl, sym, ◌∙◌, ap, subst, arith}
 use Rattle.std.specs.Prelude.{Result, Ok, Err, IsErrOf, IsSome, if◌then◌else◌, ◌==◌}
 use Rattle.std.proofs.lemmas.Bool.Decides.{nat_tests}
 use Rattle.farm_disk.specs.Images.{DiskState, LeavesOnly, IsSettled}
 use Rattle.farm_journal.specs.declared.disk_calls.DiskFault.{DiskFault}
 use Rattle.farm_journal.specs.Layout.{holds, opens, version_of, gate_of}
 use Rattle.farm_journal.specs.Found.{in_order}
-use Rattle.farm_journal.specs.Gates.{Holds, IsEither, Waits, Rests}
+use Rattle.farm_journal.specs.Gates.{Holds, IsEither, Stands, Waits, Rests}
 use Rattle.farm_journal.specs.State.{IsBeforeOrAfter, IsHeld, IsPending, IsKept}
-use Rattle.farm_journal.proofs.Public.{leaves-public, rests-public, waits-public}
+use Rattle.farm_journal.proofs.Public.{leaves-public, leaves-undone, rests-public, stands-public, waits-public}
 use Rattle.farm_journal.proofs.Run.{started}
 use Rattle.farm_journal.specs.declared.layout.TheConstants.{VERSION_1}
 use Rattle.farm_journal.proofs.Openings.{holds-opens}
@@ -41,6 +41,23 @@ module _ {D : Type 0} (tells : D → Bool) (told : D → DiskState) (d e : D) (s
   no-moment rests = subst (λ (x : D). tells x ≡ true → LeavesOnly (told x) (told x) (IsBeforeOrAfter qs p)) same
       (λ t. subst (λ (l : List (List ℕ)). LeavesOnly (told d) (told d) (IsBeforeOrAfter l p)) is
       (leaves-public v ps gate p (told d) (told d) (started v ps gate p (told d) (rests t)).images))
+
+  -- before the first call, without the new payload
+  pub not-begun : (tells d ≡ true → Rests v ps gate (told d)) → tells e ≡ true
+      → LeavesOnly (told e) (told e) (λ c. opens c ≡ holds qs)
+  not-begun rests =
+      subst (λ (x : D). tells x ≡ true → LeavesOnly (told x) (told x) (λ c. opens c ≡ holds qs)) same
+      (λ t. subst (λ (l : List (List ℕ)). LeavesOnly (told d) (told d) (λ c. opens c ≡ holds l)) is
+      (stands-public 1 ps gate (told d) (told d)
+      (leaves-undone v ps gate (told d) (told d) (rests t) (inl refl))))
+
+  -- where nothing of the new payload was written
+  pub only-before : (now : DiskState) → (tells d ≡ true → LeavesOnly (told d) now (Stands 1 ps gate)) → tells e ≡ true
+      → LeavesOnly (told e) now (λ c. opens c ≡ holds qs)
+  only-before now leaves =
+      subst (λ (x : D). tells x ≡ true → LeavesOnly (told x) now (λ c. opens c ≡ holds qs)) same
+      (λ t. subst (λ (l : List (List ℕ)). LeavesOnly (told d) now (λ c. opens c ≡ holds l)) is
+      (stands-public 1 ps gate (told d) now (leaves t)))
 
   -- what is held still
   pub still-held : (w : ℕ) (now : DiskState) → (tells d ≡ true → Rests w ps gate now) → tells e ≡ true → IsHeld qs now

@@ -1,6 +1,7 @@
 pub mod Births
 pub mod Bytes
 pub mod Damages
+pub mod Fits
 pub mod Journals
 pub mod Once
 pub mod Openings

@@ -1,9 +1,12 @@
 -- What the parts of a file say in the words of contracts.
-use Rattle.std.proofs.Common.{◌≡◌, ◌≢◌, inl, inr, ⊎_elim, ℕ, ◌+◌, ◌<◌, Bool, false, List, [], ◌∷◌, ◌++◌, length, get_or, refl, sym, ◌∙◌, ap, arith}
+use Rattle.std.proofs.Common.{◌≡◌, ◌≢◌, subst, inl, inr, ⊎_elim, ℕ, ◌+◌, ◌<◌, Bool, false, List, [], ◌∷◌, ◌++◌, length, get_or, refl, sym, ◌∙◌, ap, arith}
 use Rattle.std.specs.Prelude.{if◌then◌else◌, ◌==◌}
 use Rattle.std.proofs.lemmas.Bool.Decides.{nat_tests}
 use Rattle.farm_disk.specs.Images.{DiskState, LeavesOnly}
-use Rattle.farm_disk.proofs.Moments.{leaves_only-trans, leaves_only-weaker, leaves_only-now}
+use Rattle.farm_disk.specs.Answers.{rested}
+use Rattle.farm_disk.proofs.Moments.{leaves_only-start, leaves_only-rested, leaves_only-trans, leaves_only-weaker, leaves_only-now}
+use Rattle.farm_journal.specs.Outcome.{IsUndone}
+use Rattle.farm_journal.specs.Layout.{holds, opens}
 use Rattle.farm_journal.specs.Layout.{version_of}
 use Rattle.farm_journal.specs.Gates.{Holds, Stands, IsEither, Waits, Rests}
 use Rattle.farm_journal.specs.State.{IsBeforeOrAfter, IsHeld, IsPending}
@@ -112,3 +115,19 @@ stands-other known ps g c other stands = record {
   is_new = λ two. absurd (other two);
   held = stands.held;
 }
+
+-- where nothing was done, each crash leaves what it left before
+pub leaves-undone : (known : ℕ) (ps : List (List ℕ)) (g : ℕ) (old new : DiskState) → Rests known ps g old
+    → IsUndone old new → LeavesOnly old new (Stands 1 ps g)
+leaves-undone known ps g old new rests undone =
+    let before : LeavesOnly old old (Stands 1 ps g) = leaves_only-start old (Stands 1 ps g) (λ c image.
+    subst (λ (l : List ℕ). Stands 1 ps g l) (sym (rests.settled c image)) (stands-any known ps g old.bytes rests.stands)) in
+    ⊎_elim (λ (same : new ≡ old). subst (λ (d : DiskState). LeavesOnly old d (Stands 1 ps g)) (sym same) before)
+    (λ (moved : new ≡ rested old). leaves_only-rested old old new (Stands 1 ps g) before moved)
+    undone
+
+-- the same in the words of contracts
+pub stands-public : (known : ℕ) (ps : List (List ℕ)) (g : ℕ) (old new : DiskState) → LeavesOnly old new (Stands known ps g)
+    → LeavesOnly old new (λ c. opens c ≡ holds ps)
+stands-public known ps g old new leaves = leaves_only-weaker old new (Stands known ps g) (λ c. opens c ≡ holds ps)
+    (λ c stands. opens-holds stands.version ps g c stands.held) leaves

@@ -1,7 +1,8 @@
 -- What a store leaves, from what the upgrade and the append leave.
 use Rattle.std.proofs.Common.{ℕ, ◌∙◌, sym, subst}
-use Rattle.farm_journal.specs.Gates.{Rests}
-use Rattle.farm_journal.proofs.Public.{rests-any, leaves-any, leaves-same, leaves-both, waits-upgrade, stands-other}
+use Rattle.farm_journal.specs.Gates.{Rests, Stands}
+use Rattle.farm_disk.proofs.Moments.{leaves_only-trans}
+use Rattle.farm_journal.proofs.Public.{rests-any, leaves-any, leaves-same, leaves-both, leaves-undone, waits-upgrade, stands-other}
 use Rattle.farm_journal.proofs.storing.store.Goals as goal
 
 pub returns-then-version-eq2-clause-any_moment : goal.returns-then-version-eq2-clause-any_moment
@@ -42,3 +43,18 @@ returns-clause-memory g c wanting tells ps rests =
     let old = rests-any c.args.version.now ps c.args.gate _ rests in
     c.append_record-2.ensures.memory wanting (c.upgrade.ensures.same ∙ tells) ps
     (c.in_ok-upgrade.ensures.done tells ps old)
+
+pub returns-then-version-eq2-clause-leaves_before : goal.returns-then-version-eq2-clause-leaves_before
+returns-then-version-eq2-clause-leaves_before g c wanting tells ps rests =
+    leaves-undone c.args.version.now ps c.args.gate _ _ rests (c.append_record.ensures.undone wanting tells)
+
+pub returns-in_err-upgrade-clause-leaves_before : goal.returns-in_err-upgrade-clause-leaves_before
+returns-in_err-upgrade-clause-leaves_before g c wanting tells ps rests =
+    c.upgrade.ensures.any_moment tells ps (rests-any c.args.version.now ps c.args.gate _ rests)
+
+pub returns-clause-leaves_before : goal.returns-clause-leaves_before
+returns-clause-leaves_before g c wanting tells ps rests =
+    let old = rests-any c.args.version.now ps c.args.gate _ rests in
+    leaves_only-trans _ _ _ (Stands 1 ps c.args.gate) (c.upgrade.ensures.any_moment tells ps old)
+    (leaves-undone 2 ps c.args.gate _ _ (c.in_ok-upgrade.ensures.done tells ps old)
+    (c.append_record-2.ensures.undone wanting (c.upgrade.ensures.same ∙ tells)))

@@ -1,7 +1,7 @@
 -- What each end of an append leaves, by the lemmas of `Journals`.
 use Rattle.std.proofs.Common.{◌∙◌, ap}
 use Rattle.farm_journal.specs.State.{JournalState}
-use Rattle.farm_journal.proofs.Journals.{any-moment, no-moment, still-held, now-held, held-more, now-pending, kept-appended, kept-same, err-is}
+use Rattle.farm_journal.proofs.Journals.{any-moment, no-moment, still-held, now-held, not-begun, only-before, held-more, now-pending, kept-appended, kept-same, err-is}
 use Rattle.farm_journal.proofs.journal.Journal.append.Goals as goal
 
 pub returns-in_default-clause-any_moment : goal.returns-in_default-clause-any_moment
@@ -88,3 +88,21 @@ returns-in-Err-Failed-clause-waits g c =
     now-pending g.D.Disk.tells g.D.Disk.told _ _ disk _ _ payloads c.self.inside.version c.self.inside.gate
     c.args.payload.now c.store.new.version _
     (λ t. c.in-Err-Failed.ensures.failed (err-is _ _ c.in-Err-Failed.field-0-is) t _ (c.self.invariant.rests idle t))
+
+pub returns-in_default-clause-leaves_before : goal.returns-in_default-clause-leaves_before
+returns-in_default-clause-leaves_before g c =
+    let disk = ap (λ (j : JournalState g.row.D.Denot). j.disk) c.self.view_is in
+    let payloads = ap (λ (j : JournalState g.row.D.Denot). j.payloads) c.self.view_is in
+    let idle = ap (λ (j : JournalState g.row.D.Denot). j.pending) c.self.view_is ∙ c.requires.idle in
+    not-begun g.D.Disk.tells g.D.Disk.told _ _ disk _ _ payloads c.self.inside.version c.self.inside.gate
+    c.args.payload.now (c.self.invariant.rests idle)
+
+pub returns-in-Err-Memory-clause-leaves_before : goal.returns-in-Err-Memory-clause-leaves_before
+returns-in-Err-Memory-clause-leaves_before g c =
+    let disk = ap (λ (j : JournalState g.row.D.Denot). j.disk) c.self.view_is in
+    let payloads = ap (λ (j : JournalState g.row.D.Denot). j.payloads) c.self.view_is in
+    let idle = ap (λ (j : JournalState g.row.D.Denot). j.pending) c.self.view_is ∙ c.requires.idle in
+    only-before g.D.Disk.tells g.D.Disk.told _ _ disk _ _ payloads c.self.inside.version c.self.inside.gate
+    c.args.payload.now _
+    (λ t. c.in-Err-Memory.ensures.leaves_before (err-is _ _ c.in-Err-Memory.field-0-is) t _
+    (c.self.invariant.rests idle t))

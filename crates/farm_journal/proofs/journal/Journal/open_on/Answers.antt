@@ -1,7 +1,8 @@
 -- What opening a journal leaves, by the lemmas of `Journals`.
-use Rattle.std.proofs.Common.{◌∙◌, ℕ, refl, sym, ap, None, List}
-use Rattle.farm_journal.specs.Layout.{opens, version_of}
+use Rattle.std.proofs.Common.{◌∙◌, ℕ, refl, sym, ap, subst, None, List, All}
+use Rattle.farm_journal.specs.Layout.{IsPayload, opens, version_of}
 use Rattle.farm_journal.proofs.Journals.{kept-opened}
+use Rattle.farm_journal.proofs.Fits.{opens-fit}
 use Rattle.farm_journal.proofs.journal.Journal.open_on.Goals as goal
 
 pub invariant_of-journal : goal.invariant_of-journal
@@ -16,3 +17,9 @@ invariant_of-journal g c =
     let told = sym c.read_whole.ensures.same ∙ t in
     (c.read_whole.ensures.only told).bytes ∙ sym (c.in-Ok.ensures.bytes told))
     (λ t. c.in-Ok.ensures.settled (sym c.read_whole.ensures.same ∙ t))
+
+pub returns-in-Ok-find-clause-fit : goal.returns-in-Ok-find-clause-fit
+returns-in-Ok-find-clause-fit g c =
+    let found = c.in-Ok-find.ensures in
+    subst (λ (l : List (List ℕ)). All IsPayload l) (sym (c.of.ensures ∙ found.2.payloads))
+    (opens-fit found.0 c.deref.result.now found.1)
