@@ -56,6 +56,12 @@ pub record IsUnrepaired {D : Type 0} (old new : StoreState D) : Type 0 where
   pub pending : new.pending ≡ old.pending
   pub none : new.recorded ≡ 0
 
+-- the same by the fault that ended the call
+abbrev pub IsUnrepairedBy : {D : Type 0} → CallFault → (old new : StoreState D) → Type 0
+IsUnrepairedBy (fault.Refused cause) old new = ⊥
+IsUnrepairedBy (fault.StoreFault before after) old new = IsUnrepaired old new
+IsUnrepairedBy fault.Memory old new = ⊥
+
 -- the disk failed as the new entries of these asks were stored: the history is as the repair left it, and they are pending
 pub record IsUndecided {D : Type 0} (asks : List Ask) (old new : StoreState D) : Type 0 where
   pub found : IsRepaired old new.history

@@ -1,10 +1,10 @@
 //! The farm of the payloads of a journal.
 
-ghost use Rattle.std.specs.Prelude.{◌≡◌, ◌++◌, ◌∷◌, [], List, All, IfOk, IfErr, OnOk};
+ghost use Rattle.std.specs.Prelude.{◌≡◌, ◌++◌, ◌∷◌, [], ℕ, List, All, IfOk, IfErr, OnOk};
 ghost use Rattle.entry_codec.specs.Grammar.{AreSpelled};
 ghost use Rattle.entry_codec.specs.Spelling.{spelling};
 ghost use Rattle.farm_entry.specs.Legal.{IsLegal};
-ghost use Rattle.farm_journal.specs.Layout.{IsPayload};
+ghost use Rattle.farm_journal.specs.Layout.{IsPayload, gate_of};
 ghost use Rattle.farm_store.specs.Admitted.{GoesOn, IsMisfit, IsMissed, IsNotLegal, SpellsNone};
 ghost use Rattle.farm_store.specs.StoreInside.{Keeps};
 
@@ -46,14 +46,26 @@ pub fn farm_of(alloc: Global, payloads: &[Payload]) -> Result<Farm, OpeningFault
         return Err(OpeningFault::Damaged(FIRST_GATE));
     };
     match begin(alloc, first.bytes()) {
-        Ok(farm) => grow(alloc, farm, FIRST_GATE + 5 + first.bytes().len() as u64, others),
+        Ok(farm) => grow(
+            alloc,
+            farm,
+            FIRST_GATE + 5 + first.bytes().len() as u64,
+            others,
+        ),
         Err(Misfit::Unfit) => Err(OpeningFault::Damaged(FIRST_GATE)),
         Err(Misfit::Memory) => Err(OpeningFault::Memory),
     }
 }
 
 /// The farm with the entries of further payloads, of which the first stands behind the open gate at this offset.
-fn grow(alloc: Global, farm: Farm, gate: u64, payloads: &[Payload]) -> Result<Farm, OpeningFault> {
+fn grow(alloc: Global, farm: Farm, gate: u64, payloads: &[Payload]) -> Result<Farm, OpeningFault>
+    requires fit { All IsPayload payloads.now }
+    requires begun { (before : List (List ℕ)) × Keeps before farm.history × (gate ≡ gate_of before) }
+    ensures farm { (before : List (List ℕ)) → Keeps before farm.history → gate ≡ gate_of before
+        → IfOk result (λ grown. Keeps (before ++ payloads.now) grown.history) }
+    ensures missed { (before : List (List ℕ)) → Keeps before farm.history → gate ≡ gate_of before
+        → IfErr result (IsMissed (before ++ payloads.now)) }
+{
     let mut farm = farm;
     let mut gate = gate;
     for payload in payloads {

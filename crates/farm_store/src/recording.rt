@@ -43,11 +43,13 @@ pub fn record_from<D: Disk>(
     ensures cause { HasCountFrom before result (D.count journal.old.disk) (D.count journal.new.disk) }
     ensures never_falls { D.count journal.old.disk ≤ D.count journal.new.disk }
 {
-    let stored = write_new(alloc, journal, &farm.history()[start..], before);
-    if stored.is_err() {
-        farm.retract(farm.history().len() - start);
+    match write_new(alloc, journal, &farm.history()[start..], before) {
+        Ok(()) => Ok(()),
+        Err(fault) => {
+            farm.retract(farm.history().len() - start);
+            Err(fault)
+        }
     }
-    stored
 }
 
 /// Writes entries as one record, where there are any.

@@ -8,8 +8,8 @@ ghost use Rattle.farm_journal.specs.Created.{CreatingCause, IsUnborn, OnCreating
 ghost use Rattle.farm_journal.specs.Layout.{is_unborn};
 ghost use Rattle.farm_journal.specs.Opened.{OpeningCause};
 ghost use Rattle.farm_journal.specs.ReadsOnly.{ReadsOnly};
-ghost use Rattle.farm_store.specs.Answering.{BatchSays, CallSays, IsUnrepaired, as_batch};
-ghost use Rattle.farm_store.specs.Faults.{HasCallCause, HasCountFrom, OnCallMemory};
+ghost use Rattle.farm_store.specs.Answering.{BatchSays, CallSays, IsUnrepairedBy, as_batch};
+ghost use Rattle.farm_store.specs.Faults.{HasCallCause, HasCountFrom};
 ghost use Rattle.farm_store.specs.Founded.{Founds, IsUnbornOrFounding, disk_founded, founding};
 ghost use Rattle.farm_store.specs.Opened.{OpensTo, disk_opened};
 ghost use Rattle.farm_store.specs.State.{IsLeft, IsRepaired, IsStored, IsWithOrWithout};
@@ -116,10 +116,10 @@ impl<D: Disk> Store<D> {
         match Journal::open_on(alloc, disk) {
             Ok((journal, payloads)) => match farm_of(alloc, payloads.as_slice()) {
                 Ok(farm) => Ok(Store {
-                journal,
-                farm,
-                recorded: 0,
-            }),
+                    journal,
+                    farm,
+                    recorded: 0,
+                }),
                 Err(fault) => Err((journal.into_disk(), fault)),
             },
             Err(missed) => Err(missed),
@@ -235,8 +235,7 @@ impl<D: Disk> Store<D> {
         ensures decided { OnOk result (self.new.pending ≡ []) }
         ensures idle { self.old.pending ≡ [] → self.new.disk ≡ self.old.disk }
         ensures none_recorded { self.new.recorded ≡ 0 }
-        ensures unrepaired { OnErr result (IsUnrepaired self.old self.new) }
-        ensures fault { OnCallMemory result ⊥ }
+        ensures unrepaired { IfErr result (λ fault. IsUnrepairedBy fault self.old self.new) }
 
         ensures any_moment { D.tells self.old.disk ≡ true
             → LeavesOnly (D.told self.old.disk) (D.told self.new.disk)
@@ -255,7 +254,10 @@ impl<D: Disk> Store<D> {
                 Ok(())
             }
             Ok(Repaired::Dropped) => Ok(()),
-            Err(JournalFault::StoreFault { after, .. }) => Err(CallFault::StoreFault { before, after }),
+            Err(JournalFault::StoreFault { after, .. }) => Err(CallFault::StoreFault {
+                before,
+                after,
+            }),
             Err(JournalFault::Memory) => unreachable!(),
         }
     }
