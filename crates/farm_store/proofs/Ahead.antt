@@ -1,6 +1,6 @@
 -- A farm that is ahead of its journal, before and after the new entries are stored.
-use Rattle.std.proofs.Common.{◌≡◌, ◌≢◌, ◌⊎◌, inl, inr, ⊎_elim, ℕ, zero, suc, ◌+◌, ◌-◌, ◌≤◌, ◌<◌, Bool, true, List, [], ◌∷◌, ◌++◌, length, take, drop, Option, Some, None, All, refl, sym, ◌∙◌, ap, subst, arith}
-use Rattle.std.specs.Prelude.{Result, Ok, Err, Contains}
+use Rattle.std.proofs.Common.{◌≡◌, ◌≢◌, ◌⊎◌, inl, inr, ⊎_elim, ℕ, zero, suc, ◌+◌, ◌-◌, ◌≤◌, ◌<◌, Bool, true, false, true≢false, List, [], ◌∷◌, ◌++◌, length, take, drop, Option, Some, None, All, refl, sym, ◌∙◌, ap, subst, arith}
+use Rattle.std.specs.Prelude.{Result, Ok, Err, Contains, ◌==◌}
 use Rattle.std.proofs.lemmas.List.{append-nil, take-append-drop, length-take-le, length-drop}
 use Rattle.std.proofs.lemmas.List.Elements.{All-drop}
 use Rattle.std.proofs.lemmas.Option.{none-some, same_Some}
@@ -18,6 +18,7 @@ use Rattle.farm_journal.specs.Layout.{holds, opens}
 use Rattle.farm_journal.specs.State.{JournalState, IsBeforeOrAfter, IsHeld, IsPending}
 use Rattle.farm_laws.proofs.OpenLimits.{open_within}
 use Rattle.farm_store.specs.Bytes.{StandsFor}
+use Rattle.farm_store.specs.Faults.{IsOfStore}
 use Rattle.farm_store.specs.Recorded.{IsOpen, IsTorn, IsUntouched, IsUnwritten, IsWritten, LeavesNew, Wrote}
 use Rattle.farm_store.specs.StoreInside.{IsAhead, IsStore, IsUndecidedAs, Keeps}
 use Rattle.farm_store.specs.declared.asking.CallFault.{CallFault}
@@ -43,6 +44,31 @@ legal-within H legal = within-from_openings H (λ (o : Opening) (there : Contain
 pub legal-some : (H : List Entry) → IsLegal H → 1 ≤ length H
 legal-some [] legal = absurd legal
 legal-some (e ∷ more) legal = omega arith
+
+-- a test for no entries
+pub some-test : (entries : List Entry) (b : Bool) → b ≡ (length entries == 0) → b ≡ false → entries ≢ []
+some-test [] b is no none = absurd (true≢false (sym is ∙ no))
+some-test (e ∷ more) b is no none = cc
+
+module _ {D : Type 0} (tells : D → Bool) (told : D → DiskState) where
+  -- where nothing was written
+  pub unwritten-still : (journal : JournalState D) → IsOpen tells told journal
+      → IsUnwritten tells told journal journal
+  unwritten-still journal opened = record {
+    payloads = refl;
+    idle = opened.idle;
+    held = opened.held;
+    images = λ t. let held = opened.held t in
+        leaves_only-start (told journal.disk) (λ c. opens c ≡ holds journal.payloads)
+        (λ c image. ap opens (held.settled c image) ∙ held.reads);
+  }
+
+  -- a fault of a write is none of the farm's
+  pub wrote-of_store : (entries : List Entry) (old new : JournalState D) (f : CallFault)
+      → Wrote tells told entries (Err f) old new → IsOfStore f
+  wrote-of_store entries old new (fault.Refused cause) wrote = wrote
+  wrote-of_store entries old new (fault.StoreFault before after) wrote = tt
+  wrote-of_store entries old new fault.Memory wrote = tt
 
 module _ {D : Type 0} (tells : D → Bool) (told : D → DiskState) (start : ℕ) (farm : FarmView)
     (journal : JournalState D) (ahead : IsAhead tells told start farm journal) where
@@ -82,7 +108,7 @@ module _ {D : Type 0} (tells : D → Bool) (told : D → DiskState) (start : ℕ
 
   -- there was nothing to store
   kept-untouched : (farm' : FarmView) (journal' : JournalState D) → farm'.history ≡ farm.history
-      → IsUntouched (drop start farm.history) journal journal' → IsStore tells told farm' journal'
+      → IsUntouched tells told (drop start farm.history) journal journal' → IsStore tells told farm' journal'
   kept-untouched farm' journal' same untouched =
       let whole : take start farm.history ≡ farm'.history =
       sym (append-nil (take start farm.history))
@@ -116,7 +142,7 @@ module _ {D : Type 0} (tells : D → Bool) (told : D → DiskState) (start : ℕ
       → tells journal'.disk ≡ tells journal.disk
       → Wrote tells told (drop start farm.history) (Ok tt) journal journal' → IsStore tells told farm' journal'
   kept-stored farm' journal' same telling wrote = ⊎_elim
-      (λ (untouched : IsUntouched (drop start farm.history) journal journal').
+      (λ (untouched : IsUntouched tells told (drop start farm.history) journal journal').
       kept-untouched farm' journal' same untouched)
       (λ (written : IsWritten tells told (drop start farm.history) journal journal').
       kept-written farm' journal' same telling written)
@@ -201,7 +227,7 @@ module _ {D : Type 0} (tells : D → Bool) (told : D → DiskState) (start : ℕ
       (λ c. StandsFor (take start farm.history) c
       ⊎ StandsFor (take start farm.history ++ drop start farm.history) c)
   leaves-stored journal' wrote t = ⊎_elim
-      (λ (untouched : IsUntouched (drop start farm.history) journal journal').
+      (λ (untouched : IsUntouched tells told (drop start farm.history) journal journal').
       subst (λ (j : JournalState D). LeavesOnly (told journal.disk) (told j.disk)
       (λ c. StandsFor (take start farm.history) c
       ⊎ StandsFor (take start farm.history ++ drop start farm.history) c)) (sym untouched.same) (leaves-still t))

@@ -17,7 +17,7 @@ use Rattle.farm_journal.specs.State.{JournalState}
 use Rattle.farm_store.specs.Answering.{AreAnswers, BatchSays, IsAnswer, IsAnswered, IsUnanswered, IsUndecided, IsUnrepaired, IsUnrepairedBy, asked, history_after}
 use Rattle.farm_store.specs.Bytes.{StandsFor}
 use Rattle.farm_store.specs.State.{StoreState, IsLeft, IsRepaired, IsStored, IsWithOrWithout}
-use Rattle.farm_store.specs.StoreInside.{IsStore, Keeps, undecided}
+use Rattle.farm_store.specs.StoreInside.{IsStore, Keeps, store_view, undecided}
 use Rattle.farm_store.specs.declared.asking.Answer.{Answer}
 use Rattle.farm_store.specs.declared.asking.Ask.{Ask}
 use Rattle.farm_store.specs.declared.asking.CallFault.{CallFault}
@@ -188,3 +188,15 @@ module _ {D : Type 0} (tells : D → Bool) (told : D → DiskState) (farm : Farm
   pub stored-store : (journal : JournalState D) → IsStore tells told farm journal → tells journal.disk ≡ true
       → IsStored farm.history (undecided journal.pending farm.ready) (told journal.disk)
   stored-store journal store t = stored-by journal.pending journal refl store t
+
+  -- the same of the view
+  pub stored-view : (journal : JournalState D) (recorded : ℕ) (s : StoreState D) → store_view farm journal recorded ≡ s
+      → IsStore tells told farm journal → tells s.disk ≡ true → IsStored s.history s.pending (told s.disk)
+  stored-view journal recorded s view store =
+      subst (λ (x : StoreState D). tells x.disk ≡ true → IsStored x.history x.pending (told x.disk)) view
+      (stored-store journal store)
+
+  pub legal-view : (journal : JournalState D) (recorded : ℕ) (s : StoreState D) → store_view farm journal recorded ≡ s
+      → IsStore tells told farm journal → IsLegal (s.history ++ s.pending)
+  legal-view journal recorded s view store =
+      subst (λ (x : StoreState D). IsLegal (x.history ++ x.pending)) view (legal-store journal store)

@@ -155,22 +155,22 @@ damaged-born bytes o bad none = ⊎_elim
 
 -- two places in one list: the same, or one before the other
 data Places {X : Type 0} (a : List X) (x : X) (b : List X) (y : X) : Type 0 where
-  same : a ≡ b → Places a x b y
-  before : (mid : List X) → b ≡ a ++ x ∷ mid → Places a x b y
-  behind : (mid : List X) → a ≡ b ++ y ∷ mid → Places a x b y
+  at_one : a ≡ b → Places a x b y
+  at_first : (mid : List X) → b ≡ a ++ x ∷ mid → Places a x b y
+  at_last : (mid : List X) → a ≡ b ++ y ∷ mid → Places a x b y
 
 places-on : {X : Type 0} (a b : List X) (x y c d : X) → c ≡ d → Places a x b y → Places (c ∷ a) x (d ∷ b) y
-places-on a b x y c d head (same is) = same (ap (λ z. z ∷ a) head ∙ ap (λ l. d ∷ l) is)
-places-on a b x y c d head (before mid is) =
-    before mid (ap (λ l. d ∷ l) is ∙ ap (λ z. z ∷ a ++ x ∷ mid) (sym head))
-places-on a b x y c d head (behind mid is) =
-    behind mid (ap (λ l. c ∷ l) is ∙ ap (λ z. z ∷ b ++ y ∷ mid) head)
+places-on a b x y c d head (at_one is) = at_one (ap (λ z. z ∷ a) head ∙ ap (λ l. d ∷ l) is)
+places-on a b x y c d head (at_first mid is) =
+    at_first mid (ap (λ l. d ∷ l) is ∙ ap (λ z. z ∷ a ++ x ∷ mid) (sym head))
+places-on a b x y c d head (at_last mid is) =
+    at_last mid (ap (λ l. c ∷ l) is ∙ ap (λ z. z ∷ b ++ y ∷ mid) head)
 
 places : {X : Type 0} (a : List X) (x : X) (xs b : List X) (y : X) (ys : List X) → a ++ x ∷ xs ≡ b ++ y ∷ ys
     → Places a x b y
-places [] x xs [] y ys is = same refl
-places [] x xs (c ∷ b) y ys is = before b (ap (λ z. z ∷ b) (sym (first-same x c xs (b ++ y ∷ ys) is)))
-places (c ∷ a) x xs [] y ys is = behind a (ap (λ z. z ∷ a) (first-same c y (a ++ x ∷ xs) ys is))
+places [] x xs [] y ys is = at_one refl
+places [] x xs (c ∷ b) y ys is = at_first b (ap (λ z. z ∷ b) (sym (first-same x c xs (b ++ y ∷ ys) is)))
+places (c ∷ a) x xs [] y ys is = at_last a (ap (λ z. z ∷ a) (first-same c y (a ++ x ∷ xs) ys is))
 places (c ∷ a) x xs (d ∷ b) y ys is =
     places-on a b x y c d (first-same c d (a ++ x ∷ xs) (b ++ y ∷ ys) is)
     (places a x xs b y ys (rest-same c d (a ++ x ∷ xs) (b ++ y ∷ ys) is))
@@ -185,14 +185,14 @@ begun-legal before H a p mid begun is = ⊎_elim
 -- the first record that doesn't fit is one
 unfit-by : (payloads : List (List ℕ)) (a b : ℕ) → All IsPayload payloads → (one : IsUnfitAt payloads a)
     → (two : IsUnfitAt payloads b) → Places one.before one.payload two.before two.payload → a ≡ b
-unfit-by payloads a b all one two (same is) = one.at ∙ ap gate_of is ∙ sym two.at
-unfit-by payloads a b all one two (before mid is) =
+unfit-by payloads a b all one two (at_one is) = one.at ∙ ap gate_of is ∙ sym two.at
+unfit-by payloads a b all one two (at_first mid is) =
     let legal = begun-legal two.before two.H one.before one.payload mid two.begun is in
     let fit : All IsPayload two.before = all-front IsPayload two.before (two.payload ∷ two.later)
     (subst (λ (l : List (List ℕ)). All IsPayload l) two.split all) in
     let on = fits two.before two.H one.H one.before one.payload mid fit two.spells legal is one.spells in
     absurd (one.unfit on.0 on.1 on.2 on.3)
-unfit-by payloads a b all one two (behind mid is) =
+unfit-by payloads a b all one two (at_last mid is) =
     let legal = begun-legal one.before one.H two.before two.payload mid one.begun is in
     let fit : All IsPayload one.before = all-front IsPayload one.before (one.payload ∷ one.later)
     (subst (λ (l : List (List ℕ)). All IsPayload l) one.split all) in

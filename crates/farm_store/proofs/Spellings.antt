@@ -20,7 +20,7 @@ use Rattle.farm_store.specs.Bytes.{Spells, joined}
 use Rattle.farm_store.specs.StoreInside.{Keeps}
 
 -- the bytes of all payloads, one after the other
-all_bytes : List (List ℕ) → List ℕ
+abbrev all_bytes : List (List ℕ) → List ℕ
 all_bytes payloads = flat_map (λ p. p) payloads
 
 -- all parts together are spelled as their payloads one after the other

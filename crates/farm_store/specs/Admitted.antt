@@ -2,8 +2,6 @@
 use Rattle.std.specs.Prelude.{◌≡◌, ◌⊎◌, ℕ, List, [], ◌∷◌, ◌++◌, ⊤}
 use Rattle.entry_codec.specs.Grammar.{AreSpelled}
 use Rattle.entry_codec.specs.Spelling.{spelling}
-use Rattle.farm_core.specs.declared.farm.AdmitFault.{AdmitFault}
-use Rattle.farm_core.specs.declared.farm.AdmitFault.TheVariants as admit
 use Rattle.farm_entry.specs.Legal.{IsLegal}
 use Rattle.farm_entry.specs.declared.entry.Entry.{Entry}
 use Rattle.farm_journal.specs.declared.fault.OpeningFault.{OpeningFault}
@@ -34,11 +32,6 @@ SpellsNone payload Memory = ⊤
 abbrev pub IsNotLegal : (List Entry → List Entry) → Misfit → Type 0
 IsNotLegal begun Unfit = (more : List Entry) → IsLegal (begun more) → ⊥
 IsNotLegal begun Memory = ⊤
-
--- what kept an entry from being admitted
-abbrev pub misfit_of : AdmitFault → Misfit
-misfit_of admit.Illegal = Unfit
-misfit_of admit.Memory = Memory
 
 -- why the payloads of a journal make no farm
 abbrev pub IsMissed : List (List ℕ) → OpeningFault → Type 0

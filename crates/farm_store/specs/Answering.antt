@@ -41,10 +41,10 @@ AreAnswers H (ask ∷ asks) (a ∷ answers) =
 AreAnswers H _ _ = ⊥
 
 -- all asks were answered, from the history as the repair left it, and what they record is stored
-pub record IsAnswered {D : Type 0} (asks : List Ask) (answers : List Answer) (old new : StoreState D) : Type 0 where
+pub record IsAnswered {D : Type 0} (asks : List Ask) (given : List Answer) (old new : StoreState D) : Type 0 where
   pub repaired : List Entry
   pub found : IsRepaired old repaired
-  pub answers : AreAnswers repaired asks answers
+  pub answers : AreAnswers repaired asks given
   pub history : new.history ≡ history_after repaired asks
   pub recorded : length new.history ≡ length repaired + new.recorded
   pub decided : new.pending ≡ []

@@ -31,3 +31,9 @@ OnCallMemory (Ok answered) P = ⊤
 OnCallMemory (Err (Refused cause)) P = ⊤
 OnCallMemory (Err (StoreFault before after)) P = ⊤
 OnCallMemory (Err Memory) P = P
+
+-- the fault is none of the farm's
+abbrev pub IsOfStore : CallFault → Type 0
+IsOfStore (Refused cause) = ⊥
+IsOfStore (StoreFault before after) = ⊤
+IsOfStore Memory = ⊤

@@ -23,19 +23,6 @@ pub enum Misfit {
     Memory,
 }
 
-impl From<AdmitFault> for Misfit {
-    ghost use Rattle.farm_store.specs.Admitted.{misfit_of};
-
-    ghost from_gives = { λ fault misfit. misfit ≡ misfit_of fault };
-
-    fn from(fault: AdmitFault) -> Misfit {
-        match fault {
-            AdmitFault::Illegal => Misfit::Unfit,
-            AdmitFault::Memory => Misfit::Memory,
-        }
-    }
-}
-
 /// The farm whose history these payloads spell, or the gate of the first record that doesn't fit.
 pub fn farm_of(alloc: Global, payloads: &[Payload]) -> Result<Farm, OpeningFault>
     requires { All IsPayload payloads.now }
@@ -137,8 +124,15 @@ fn admit_all(farm: &mut Farm, entries: Vec<Entry>) -> Result<(), Misfit>
     ensures legal { OnOk result (IsLegal (farm.old.history ++ entries.items)) }
     ensures misfit { IfErr result (IsNotLegal (λ more. farm.old.history ++ entries.items ++ more)) }
 {
-    for entry in entries {
-        farm.admit(entry)?;
+    let mut rest = entries;
+    // The first stands last, from where it is taken without moving the others.
+    rest.reverse();
+    while let Some(entry) = rest.pop() {
+        match farm.admit(entry) {
+            Ok(()) => {}
+            Err(AdmitFault::Illegal) => return Err(Misfit::Unfit),
+            Err(AdmitFault::Memory) => return Err(Misfit::Memory),
+        }
     }
     Ok(())
 }

@@ -1,9 +1,9 @@
 //! Storing the entries by which the farm in memory is ahead of its journal.
 
-ghost use Rattle.std.specs.Prelude.{◌≡◌, ◌≢◌, ◌≤◌, [], true, length, take, drop, None, OnOk, OnErr, All};
+ghost use Rattle.std.specs.Prelude.{◌≡◌, ◌≢◌, ◌≤◌, [], true, length, take, drop, None, IfErr, OnOk, OnErr, All};
 ghost use Rattle.farm_disk.specs.Images.{LeavesOnly};
 ghost use Rattle.entry_codec.specs.Grammar.{IsWithinLimits};
-ghost use Rattle.farm_store.specs.Faults.{OnCallFault, OnCallMemory, HasCountFrom};
+ghost use Rattle.farm_store.specs.Faults.{HasCountFrom, IsOfStore, OnCallFault, OnCallMemory};
 ghost use Rattle.farm_store.specs.Recorded.{IsOpen, LeavesNew, Wrote};
 ghost use Rattle.farm_store.specs.StoreInside.{IsAhead, IsStore};
 ghost use Rattle.farm_store.specs.declared.asking.TheConstants.{MAX_BATCH};
@@ -38,6 +38,7 @@ pub fn record_from<D: Disk>(
     ensures undecided { OnCallFault result (farm.new.ready ≡ drop start farm.old.history) }
     ensures pending { OnCallFault result (journal.new.pending ≢ None) }
     ensures memory { OnCallMemory result (journal.new.pending ≡ None) }
+    ensures of_the_store { IfErr result IsOfStore }
     ensures nothing { drop start farm.old.history ≡ [] → OnOk result (journal.new ≡ journal.old) }
 
     ensures cause { HasCountFrom before result (D.count journal.old.disk) (D.count journal.new.disk) }

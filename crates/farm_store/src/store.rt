@@ -155,8 +155,13 @@ impl<D: Disk> Store<D> {
         ensures never_falls { D.count self.old.disk ≤ D.count self.new.disk }
     {
         let before = self.faults();
-        self.repair(before)?;
-        self.decide(alloc, command, at, before)
+        if let Err(fault) = self.repair(before) {
+            self.tell();
+            return Err(fault);
+        }
+        let answered = self.decide(alloc, command, at, before);
+        self.tell();
+        answered
     }
 
     /// Answers 1 to `MAX_BATCH` asks as single calls one after the other would, but for this: their new entries are stored
@@ -186,8 +191,13 @@ impl<D: Disk> Store<D> {
         ensures never_falls { D.count self.old.disk ≤ D.count self.new.disk }
     {
         let before = self.faults();
-        self.repair(before)?;
-        self.decide_all(alloc, asks, before)
+        if let Err(fault) = self.repair(before) {
+            self.tell();
+            return Err(fault);
+        }
+        let answered = self.decide_all(alloc, asks, before);
+        self.tell();
+        answered
     }
 
     /// The history, without what is pending.
@@ -226,6 +236,15 @@ impl<D: Disk> Store<D> {
         ensures stored { D.tells self.disk ≡ true → IsStored self.history self.pending (D.told result) }
     {
         self.journal.into_disk()
+    }
+
+    /// What holds of a store at any time, for contracts alone.
+    fn tell(&self)
+        ensures legal { IsLegal (self.now.history ++ self.now.pending) }
+        ensures stored { D.tells self.now.disk ≡ true
+            → IsStored self.now.history self.now.pending (D.told self.now.disk) }
+    {
+        let _ = &self.journal;
     }
 
     /// Finds out whether what is pending was kept. Where nothing is pending, nothing is done.
