@@ -47,8 +47,8 @@ legal-some (e ∷ more) legal = omega arith
 
 -- a test for no entries
 pub some-test : (entries : List Entry) (b : Bool) → b ≡ (length entries == 0) → b ≡ false → entries ≢ []
-some-test [] b is no none = absurd (true≢false (sym is ∙ no))
-some-test (e ∷ more) b is no none = cc
+some-test [] b is other none = absurd (true≢false (sym is ∙ other))
+some-test (e ∷ more) b is other none = cc
 
 module _ {D : Type 0} (tells : D → Bool) (told : D → DiskState) where
   -- where nothing was written

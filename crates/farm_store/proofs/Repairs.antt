@@ -1,5 +1,5 @@
 -- What a repair leaves of a store.
-use Rattle.std.proofs.Common.{◌≡◌, ℕ, Bool, true, List, [], ◌∷◌, ◌++◌, Option, Some, None, refl, sym, ◌∙◌, ap, subst}
+use Rattle.std.proofs.Common.{◌≡◌, ℕ, Bool, true, true≢false, List, [], ◌∷◌, ◌++◌, Option, Some, None, refl, sym, ◌∙◌, ap, subst}
 use Rattle.std.specs.Prelude.{IsSome}
 use Rattle.std.proofs.lemmas.Option.{none-some, same_Some}
 use Rattle.farm_disk.specs.Images.{DiskState, LeavesOnly}
@@ -19,7 +19,7 @@ pub record SomePayload (pending : Option (List ℕ)) : Type 0 where
   pub is : pending ≡ Some payload
 
 pub some-is : (pending : Option (List ℕ)) → IsSome pending → SomePayload pending
-some-is None some = absurd some
+some-is None some = absurd (true≢false (sym some))
 some-is (Some p) some = record { payload = p; is = refl }
 
 module _ {D : Type 0} (tells : D → Bool) (told : D → DiskState) (farm : FarmView) (journal : JournalState D)

@@ -3,11 +3,11 @@ use Rattle.std.specs.Prelude.{reverse}
 use Rattle.farm_entry.specs.Legal.{IsLegal}
 use Rattle.farm_store.proofs.admitting.admit_all.Given as goal
 
-abbrev pub invariant-loop : goal.invariant-loop
-invariant-loop l = record {
+abbrev pub invariant-loop-entry : goal.invariant-loop-entry
+invariant-loop-entry l = record {
   legal : IsLegal l.farm.history;
   all : l.farm.history ++ reverse l.rest.items ≡ l.fn.farm.history ++ l.fn.entries.items;
 }
 
-abbrev pub decreases-loop : goal.decreases-loop
-decreases-loop l = length l.rest.items
+abbrev pub decreases-loop-entry : goal.decreases-loop-entry
+decreases-loop-entry l = length l.rest.items

@@ -4,7 +4,7 @@ use Rattle.farm_store.proofs.Foundings.{founding-fits, founding-moments, foundin
 use Rattle.farm_store.proofs.store.Store.found.Goals as goal
 
 pub returns-in-Err-clause-since_sync : goal.returns-in-Err-clause-since_sync
-returns-in-Err-clause-since_sync g c = λ t unborn. since-start _ _
+returns-in-Err-clause-since_sync g c = λ t unborn. since-start (g.D.Disk.told c.args.disk) _
 
 pub returns-in-Err-clause-any_moment : goal.returns-in-Err-clause-any_moment
 returns-in-Err-clause-any_moment g c = λ t unborn each. moments-start c.args.settings c.args.at _ each
@@ -25,7 +25,8 @@ returns-in-Ok-create-clause-stored g c = λ t.
 
 pub returns-in-Ok-create-clause-since_sync : goal.returns-in-Ok-create-clause-since_sync
 returns-in-Ok-create-clause-since_sync g c = λ t unborn.
-    founding-since c.args.settings c.args.at _ c.in-Ok.ensures.payload c.in-Ok.ensures.spelled _ _
+    founding-since c.args.settings c.args.at _ c.in-Ok.ensures.payload c.in-Ok.ensures.spelled
+    (g.D.Disk.told c.args.disk) (g.D.Disk.told c.in-Ok-create.journal.disk)
     (c.in-Ok-create.ensures.since_sync t unborn)
 
 pub returns-in-Ok-create-clause-any_moment : goal.returns-in-Ok-create-clause-any_moment
@@ -35,7 +36,8 @@ returns-in-Ok-create-clause-any_moment g c = λ t unborn each.
 
 pub returns-in-Err-create-clause-since_sync : goal.returns-in-Err-create-clause-since_sync
 returns-in-Err-create-clause-since_sync g c = λ t unborn.
-    founding-since c.args.settings c.args.at _ c.in-Ok.ensures.payload c.in-Ok.ensures.spelled _ _
+    founding-since c.args.settings c.args.at _ c.in-Ok.ensures.payload c.in-Ok.ensures.spelled
+    (g.D.Disk.told c.args.disk) (g.D.Disk.told c.in-Err-create.missed.0)
     (c.in-Err-create.ensures.since_sync t unborn)
 
 pub returns-in-Err-create-clause-any_moment : goal.returns-in-Err-create-clause-any_moment

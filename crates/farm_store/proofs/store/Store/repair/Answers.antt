@@ -1,5 +1,5 @@
 -- What each end of a repair leaves, by the lemmas of `Repairs`.
-use Rattle.std.proofs.Common.{◌∙◌, ap, refl}
+use Rattle.std.proofs.Common.{rules, ◌∙◌, ap, refl}
 use Rattle.std.specs.Prelude.{IsSome}
 use Rattle.farm_journal.specs.Mended.{payloads_after}
 use Rattle.farm_journal.specs.declared.mending.Repaired.{Repaired}
