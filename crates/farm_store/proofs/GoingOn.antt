@@ -1,6 +1,7 @@
 -- Payloads that go on with a history, one after the other.
-use Rattle.std.proofs.Common.{◌≡◌, ◌≢◌, ◌⊎◌, inl, inr, ℕ, ◌+◌, ◌*◌, ◌≤◌, ◌<◌, List, [], ◌∷◌, ◌++◌, length, take, drop, get_or, All, refl, sym, ◌∙◌, ap, subst, arith}
-use Rattle.std.specs.Prelude.{IfErr, IfOk, Result, Ok, Err, reverse, remove}
+use Rattle.std.proofs.Common.{Bool, true, false, true≢false, ◌≡◌, ◌≢◌, ◌⊎◌, inl, inr, ℕ, ◌+◌, ◌*◌, ◌≤◌, ◌<◌, List, [], ◌∷◌, ◌++◌, length, take, drop, get_or, All, refl, sym, ◌∙◌, ap, subst, arith}
+use Rattle.std.specs.Prelude.{◌==◌, IfErr, IfOk, Result, Ok, Err, reverse, remove}
+use Rattle.std.proofs.lemmas.Bool.Decides.{nat_tests}
 use Rattle.std.proofs.lemmas.List.{append-nil, append_assoc, length-append, reverse-append, take-append-drop, take_more, drop_more}
 use Rattle.std.proofs.lemmas.List.Elements.{All-get_or}
 use Rattle.entry_codec.specs.Grammar.{AreSpelled}
@@ -210,3 +211,14 @@ if-missed ps qs r same missed = subst (λ (l : List (List ℕ)). IfErr r (IsMiss
 -- the gate behind the first record
 pub first-gate : (p : List ℕ) → 21 + length p ≡ gate_of (p ∷ [])
 first-gate p = omega (arith, gate_of-push [] p)
+
+-- a test for no entries
+pub empty-by : (xs : List Entry) (n : ℕ) (b : Bool) → n ≡ length xs → b ≡ (n == 0) → b ≡ true → xs ≡ []
+empty-by [] n b long is holds = refl
+empty-by (x ∷ xs) n b long is holds =
+    let apart : (length (x ∷ xs) == 0) ≡ false = grind (arith, nat_tests) in
+    absurd (true≢false (sym holds ∙ is ∙ ap (λ (k : ℕ). k == 0) long ∙ apart))
+
+pub some-by : (xs : List Entry) (n : ℕ) (b : Bool) → n ≡ length xs → b ≡ (n == 0) → b ≡ false → 0 < length xs
+some-by [] n b long is fails = absurd (true≢false (sym (is ∙ ap (λ (k : ℕ). k == 0) long) ∙ fails))
+some-by (x ∷ xs) n b long is fails = omega arith

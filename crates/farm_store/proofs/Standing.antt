@@ -4,12 +4,16 @@ use Rattle.std.proofs.lemmas.List.{append-nil}
 use Rattle.farm_disk.specs.Images.{DiskState, EachImage, IsSettled, LeavesOnly}
 use Rattle.farm_disk.proofs.Moments.{leaves_only-start, leaves_only-weaker}
 use Rattle.farm_journal.specs.Layout.{Opening, holds, opens}
+use Rattle.farm_journal.specs.declared.fault.OpeningFault.{OpeningFault}
+use Rattle.farm_journal.specs.declared.fault.OpeningFault.TheVariants as opening
 use Rattle.farm_journal.specs.State.{IsBeforeOrAfter, IsHeld, IsPending}
 use Rattle.entry_codec.specs.Grammar.{AreSpelled}
 use Rattle.entry_codec.specs.Spelling.{spelling}
 use Rattle.farm_entry.specs.Legal.{IsLegal}
 use Rattle.farm_entry.specs.declared.entry.Entry.{Entry}
+use Rattle.farm_store.specs.Admitted.{IsMissed}
 use Rattle.farm_store.specs.Bytes.{Spells, StandsFor}
+use Rattle.farm_store.specs.Opened.{IsMissedBy}
 use Rattle.farm_store.specs.State.{IsStored, IsWithOrWithout}
 use Rattle.farm_store.specs.StoreInside.{Keeps}
 use Rattle.farm_store.proofs.Spellings.{keeps-push, spells-unique}
@@ -64,3 +68,15 @@ stored-pending ps p H new disk before after some pending = record {
 -- where nothing is done, each crash leaves what is stored
 pub leaves-stored : (H P : List Entry) (disk : DiskState) → IsStored H P disk → LeavesOnly disk disk (IsWithOrWithout H P)
 leaves-stored H P disk stored = leaves_only-start disk (IsWithOrWithout H P) stored.images
+
+-- why payloads make no farm is why the bytes stand for no history
+pub missed-by : (ps : List (List ℕ)) (bytes : List ℕ) (f : OpeningFault) → opens bytes ≡ holds ps → IsMissed ps f
+    → IsMissedBy bytes f
+missed-by ps bytes opening.Unborn opened missed = absurd missed
+missed-by ps bytes (opening.Damaged o) opened missed = inr (record {
+  payloads = ps;
+  opened = opened;
+  unfit = missed;
+})
+missed-by ps bytes (opening.StoreFault before after) opened missed = tt
+missed-by ps bytes opening.Memory opened missed = tt
