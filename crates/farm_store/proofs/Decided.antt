@@ -1,0 +1,262 @@
+-- What deciding asks came to, from what storing their new entries came to.
+use Rattle.std.proofs.Common.{◌≡◌, ◌≢◌, ◌⊎◌, inl, inr, ⊎_elim, ℕ, ◌+◌, ◌-◌, ◌≤◌, Bool, true, List, [], ◌∷◌, ◌++◌, length, take, drop, Option, Some, None, refl, sym, ◌∙◌, ap, subst, arith}
+use Rattle.std.specs.Prelude.{Result, Ok, Err, OnOk}
+use Rattle.std.proofs.lemmas.List.{append-nil, length-append, take_at, drop_at, drop_all}
+use Rattle.std.proofs.lemmas.Option.{none-some}
+use Rattle.farm_disk.specs.Images.{DiskState, LeavesOnly}
+use Rattle.farm_disk.proofs.Moments.{leaves_only-weaker}
+use Rattle.farm_types.specs.declared.moment.Moment.{Moment}
+use Rattle.farm_core.specs.FarmView.{FarmView}
+use Rattle.farm_entry.specs.Decision.{decide}
+use Rattle.farm_entry.specs.Legal.{IsLegal}
+use Rattle.farm_entry.specs.Playing.{after}
+use Rattle.farm_entry.specs.declared.command.Command.{Command}
+use Rattle.farm_entry.specs.declared.decision.Decision.{Decision}
+use Rattle.farm_entry.specs.declared.decision.Decision.TheVariants as decision
+use Rattle.farm_entry.specs.declared.entry.Entry.{Entry}
+use Rattle.farm_entry.specs.declared.refusal.Refusal.{Refusal}
+use Rattle.farm_entry.specs.declared.reply.Reply.{Reply}
+use Rattle.farm_journal.specs.State.{JournalState}
+use Rattle.farm_laws.proofs.Induct.{IsLegal-push}
+use Rattle.farm_laws.proofs.Recorded.{recorded}
+use Rattle.farm_store.specs.Answering.{AreAnswers, BatchSays, IsAnswer, as_batch, history_after}
+use Rattle.farm_store.specs.Bytes.{StandsFor}
+use Rattle.farm_store.specs.Faults.{IsOfStore, OnCallFault, OnCallMemory}
+use Rattle.farm_store.specs.Recorded.{LeavesNew}
+use Rattle.farm_store.specs.State.{StoreState, IsLeft, IsWithOrWithout}
+use Rattle.farm_store.specs.StoreInside.{IsAhead, IsStore, Keeps, store_view, undecided}
+use Rattle.farm_store.specs.declared.asking.Answer.{Answer}
+use Rattle.farm_store.specs.declared.asking.Answer.TheVariants as answer
+use Rattle.farm_store.specs.declared.asking.Ask.{Ask}
+use Rattle.farm_store.specs.declared.asking.CallFault.{CallFault}
+use Rattle.farm_store.specs.declared.asking.CallFault.TheVariants as fault
+use Rattle.farm_store.proofs.Calls.{Grows, undecided-none, undecided-some}
+use Rattle.farm_store.proofs.Repairs.{leaves-idle-view}
+
+-- a decision keeps a history legal
+pub after-legal : (H : List Entry) (q : Command) (m : Moment) (d : Decision) → decide H q m ≡ d → IsLegal H
+    → IsLegal (after H d)
+after-legal H q m (decision.Refuse cause) is legal = legal
+after-legal H q m (decision.Repeat place) is legal = legal
+after-legal H q m (decision.Show page) is legal = legal
+after-legal H q m (decision.New e) is legal = IsLegal-push H e legal (recorded H q m e is)
+
+pub history_after-legal : (H : List Entry) (asks : List Ask) → IsLegal H → IsLegal (history_after H asks)
+history_after-legal H [] legal = legal
+history_after-legal H (ask ∷ asks) legal =
+    history_after-legal (after H (decide H ask.command ask.at)) asks
+    (after-legal H ask.command ask.at (decide H ask.command ask.at) refl legal)
+
+-- a refusal adds nothing
+pub refused-after : (H : List Entry) (d : Decision) (x : Refusal) → IsAnswer H d (answer.Refused x) → after H d ≡ H
+refused-after H (decision.Refuse cause) x is = refl
+refused-after H (decision.Repeat place) x is = absurd is
+refused-after H (decision.Show page) x is = absurd is
+refused-after H (decision.New e) x is = absurd is
+
+-- a fault of the store is the same of one ask and of a list of one
+pub one-missed : {D : Type 0} (asks : List Ask) (f : CallFault) (old new : StoreState D) → IsOfStore f
+    → BatchSays asks (Err f) old new → BatchSays asks (as_batch (Err f)) old new
+one-missed asks (fault.Refused cause) old new of says = absurd of
+one-missed asks (fault.StoreFault before after) old new of says = says
+one-missed asks fault.Memory old new of says = says
+
+pub one-untouched : (f : CallFault) (P : Type 0) → IsOfStore f → OnOk (as_batch (Err f)) P
+one-untouched (fault.Refused cause) P of = absurd of
+one-untouched (fault.StoreFault before after) P of = tt
+one-untouched fault.Memory P of = tt
+
+module _ {D : Type 0} (tells : D → Bool) (told : D → DiskState) (farm : FarmView) (journal : JournalState D)
+    (store : IsStore tells told farm journal) (count : ℕ) (s : StoreState D)
+    (view : store_view farm journal count ≡ s) (decided : s.pending ≡ []) where
+  -- nothing is pending in the journal
+  idle-by : (o : Option (List ℕ)) → journal.pending ≡ o → undecided o farm.ready ≡ [] → o ≡ None
+  idle-by None is none = refl
+  idle-by (Some p) is none = absurd ((store.undecided p is).some none)
+
+  pub idle : journal.pending ≡ None
+  idle = idle-by journal.pending refl (ap (λ (x : StoreState D). x.pending) view ∙ decided)
+
+  same-history : farm.history ≡ s.history
+  same-history = ap (λ (x : StoreState D). x.history) view
+
+  -- only the farm's history counts
+  pub kept-same : (farm' : FarmView) → farm'.history ≡ farm.history → IsStore tells told farm' journal
+  kept-same farm' same = record {
+    keeps = subst (λ (l : List Entry). Keeps journal.payloads l) (sym same) store.keeps;
+    undecided = λ p waits. absurd (none-some p (sym idle ∙ waits));
+    rests = store.rests;
+    waits = λ p waits t. absurd (none-some p (sym idle ∙ waits));
+  }
+
+  -- nothing was done on the disk
+  pub leaves-still : (new : StoreState D) → tells s.disk ≡ true
+      → LeavesOnly (told s.disk) (told journal.disk) (IsLeft s new)
+  leaves-still new t = leaves_only-weaker (told s.disk) (told journal.disk) (IsWithOrWithout s.history s.pending)
+      (IsLeft s new) (λ c before. inl before)
+      (leaves-idle-view tells told farm journal store count s view t)
+
+  module _ (farm' : FarmView) (most : ℕ) (grows : Grows farm.history farm'.history most) where
+    front : take (length farm.history) farm'.history ≡ farm.history
+    front = ap (λ (l : List Entry). take (length farm.history) l) grows.longer
+        ∙ take_at farm.history grows.more (length farm.history) refl
+
+    rest : drop (length farm.history) farm'.history ≡ grows.more
+    rest = ap (λ (l : List Entry). drop (length farm.history) l) grows.longer
+        ∙ drop_at farm.history grows.more (length farm.history) refl
+
+    long : length farm'.history ≡ length farm.history + length grows.more
+    long = ap length grows.longer ∙ length-append farm.history grows.more
+
+    -- the farm is ahead of its journal by what was added
+    pub ahead : (start : ℕ) → start ≡ length farm.history → most ≤ 16 → IsLegal farm'.history
+        → IsAhead tells told start farm' journal
+    ahead start is few legal =
+        let some = grows.few in
+        let size : length (drop (length farm.history) farm'.history) ≡ length grows.more = ap length rest in
+        subst (λ (k : ℕ). IsAhead tells told k farm' journal) (sym is) (record {
+          keeps = subst (λ (l : List Entry). Keeps journal.payloads l) (sym front) store.keeps;
+          legal = legal;
+          within = omega (arith, long);
+          few = omega (arith, size, some, few);
+          idle = idle;
+          rests = store.rests idle;
+        })
+
+    pub front-at : (start : ℕ) → start ≡ length farm.history → take start farm'.history ≡ farm.history
+    front-at start is = ap (λ (k : ℕ). take k farm'.history) is ∙ front
+
+    pub rest-at : (start : ℕ) → start ≡ length farm.history → drop start farm'.history ≡ grows.more
+    rest-at start is = ap (λ (k : ℕ). drop k farm'.history) is ∙ rest
+
+    -- the record was stored
+    module _ (start : ℕ) (is : start ≡ length farm.history) (farm'' : FarmView) (journal'' : JournalState D) where
+      pub counted : farm''.history ≡ farm'.history → start ≤ length farm''.history
+      counted same = let both = ap length same in omega (arith, both, long, is)
+
+      pub says-stored : (asks : List Ask) (answers : List Answer) → farm'.history ≡ history_after farm.history asks
+          → AreAnswers farm.history asks answers → farm''.history ≡ farm'.history → journal''.pending ≡ None
+          → BatchSays asks (Ok answers) s (store_view farm'' journal'' (length farm''.history - start))
+      says-stored asks answers history right same none =
+          let both = ap length same in
+          let low = counted same in
+          record {
+            repaired = farm.history;
+            found = inl same-history;
+            answers = right;
+            history = same ∙ history;
+            recorded = omega (arith, both, long, is, low);
+            decided = undecided-none journal''.pending farm''.ready none;
+          }
+
+      pub leaves-stored : (counts : ℕ) → farm''.history ≡ farm'.history → journal''.pending ≡ None
+          → (tells journal.disk ≡ true → LeavesOnly (told journal.disk) (told journal''.disk)
+          (LeavesNew (take start farm'.history) (drop start farm'.history) (Ok tt)))
+          → tells s.disk ≡ true → LeavesOnly (told s.disk) (told journal''.disk)
+          (IsLeft s (store_view farm'' journal'' counts))
+      leaves-stored counts same none leaves =
+          let pending = undecided-none journal''.pending farm''.ready none in
+          let now : take start farm'.history ++ drop start farm'.history
+              ≡ farm''.history ++ undecided journal''.pending farm''.ready =
+          ap (λ (l : List Entry). l ++ drop start farm'.history) (front-at start is)
+          ∙ ap (λ (l : List Entry). farm.history ++ l) (rest-at start is)
+          ∙ sym grows.longer
+          ∙ sym same
+          ∙ sym (append-nil farm''.history)
+          ∙ ap (λ (l : List Entry). farm''.history ++ l) (sym pending) in
+          subst (λ (d : D). tells d ≡ true → LeavesOnly (told d) (told journal''.disk)
+          (IsLeft s (store_view farm'' journal'' counts))) (ap (λ (x : StoreState D). x.disk) view)
+          (λ t. leaves_only-weaker (told journal.disk) (told journal''.disk)
+          (λ c. StandsFor (take start farm'.history) c
+          ⊎ StandsFor (take start farm'.history ++ drop start farm'.history) c)
+          (IsLeft s (store_view farm'' journal'' counts))
+          (λ c one. ⊎_elim
+          (λ (old : StandsFor (take start farm'.history) c).
+          inl (inl (subst (λ (l : List Entry). StandsFor l c) (front-at start is ∙ same-history) old)))
+          (λ (new : StandsFor (take start farm'.history ++ drop start farm'.history) c).
+          inr (subst (λ (l : List Entry). StandsFor l c) now new))
+          one)
+          (leaves t))
+
+      -- nothing was added, and nothing done
+      pub untouched : farm''.history ≡ farm'.history → farm''.history ≡ s.history
+          → drop start farm'.history ≡ []
+      untouched same old =
+          rest-at start is ∙ none-more (grows.more) (omega (arith, sizes, long))
+        where
+          sizes : length farm'.history ≡ length farm.history
+          sizes = ap length (sym same ∙ old ∙ sym same-history)
+          none-more : (xs : List Entry) → length xs ≡ 0 → xs ≡ []
+          none-more [] zero = refl
+          none-more (x ∷ xs) zero = absurd (omega (arith, zero))
+
+      -- it was not
+      pub says-missed : (asks : List Ask) (f : CallFault) → IsOfStore f → count ≡ 0
+          → farm'.history ≡ history_after farm.history asks
+          → farm''.history ≡ take start farm'.history
+          → OnCallFault {T = Unit {0}} (Err f) (farm''.ready ≡ drop start farm'.history)
+          → OnCallFault {T = Unit {0}} (Err f) (journal''.pending ≢ None)
+          → OnCallMemory {T = Unit {0}} (Err f) (journal''.pending ≡ None)
+          → IsStore tells told farm'' journal''
+          → BatchSays asks (Err f) s (store_view farm'' journal'' count)
+      says-missed asks (fault.Refused cause) of zero history back ready pending memory kept = absurd of
+      says-missed asks (fault.StoreFault before after) of zero history back ready pending memory kept =
+          let shown = undecided-some journal''.pending farm''.ready pending in
+          let H : farm''.history ≡ farm.history = back ∙ front-at start is in
+          let some : farm''.ready ≢ [] = some-by journal''.pending refl in
+          inr (record {
+            found = inl (H ∙ same-history);
+            some = λ none. some (sym shown ∙ none);
+            all = ap (λ (l : List Entry). l ++ undecided journal''.pending farm''.ready) H
+                ∙ ap (λ (l : List Entry). farm.history ++ l) (shown ∙ ready ∙ rest-at start is)
+                ∙ sym grows.longer
+                ∙ history
+                ∙ ap (λ (l : List Entry). history_after l asks) (sym H);
+            none = zero;
+          })
+        where
+          some-by : (o : Option (List ℕ)) → journal''.pending ≡ o → farm''.ready ≢ []
+          some-by None is' = absurd (pending is')
+          some-by (Some p) is' = (kept.undecided p is').some
+      says-missed asks fault.Memory of zero history back ready pending memory kept = record {
+        found = inl (back ∙ front-at start is ∙ same-history);
+        decided = undecided-none journal''.pending farm''.ready memory;
+        none = zero;
+      }
+
+      pub leaves-missed : (f : CallFault) → IsOfStore f
+          → farm''.history ≡ take start farm'.history
+          → OnCallFault {T = Unit {0}} (Err f) (farm''.ready ≡ drop start farm'.history)
+          → OnCallFault {T = Unit {0}} (Err f) (journal''.pending ≢ None)
+          → (tells journal.disk ≡ true → LeavesOnly (told journal.disk) (told journal''.disk)
+          (LeavesNew (take start farm'.history) (drop start farm'.history) (Err f)))
+          → tells s.disk ≡ true → LeavesOnly (told s.disk) (told journal''.disk)
+          (IsLeft s (store_view farm'' journal'' count))
+      leaves-missed f of back ready pending leaves =
+          subst (λ (d : D). tells d ≡ true → LeavesOnly (told d) (told journal''.disk)
+          (IsLeft s (store_view farm'' journal'' count))) (ap (λ (x : StoreState D). x.disk) view)
+          (λ t. leaves_only-weaker (told journal.disk) (told journal''.disk)
+          (LeavesNew (take start farm'.history) (drop start farm'.history) (Err f))
+          (IsLeft s (store_view farm'' journal'' count))
+          (λ c one. left-missed f of ready pending c one)
+          (leaves t))
+        where
+          left-old : (c : List ℕ) → StandsFor (take start farm'.history) c
+              → IsLeft s (store_view farm'' journal'' count) c
+          left-old c old =
+              inl (inl (subst (λ (l : List Entry). StandsFor l c) (front-at start is ∙ same-history) old))
+          left-missed : (f : CallFault) → IsOfStore f
+              → OnCallFault {T = Unit {0}} (Err f) (farm''.ready ≡ drop start farm'.history)
+              → OnCallFault {T = Unit {0}} (Err f) (journal''.pending ≢ None) → (c : List ℕ)
+              → LeavesNew (take start farm'.history) (drop start farm'.history) (Err f) c
+              → IsLeft s (store_view farm'' journal'' count) c
+          left-missed (fault.Refused cause) of' ready' pending' c one = absurd of'
+          left-missed (fault.StoreFault before after) of' ready' pending' c one = ⊎_elim
+              (λ (old : StandsFor (take start farm'.history) c). left-old c old)
+              (λ (new : StandsFor (take start farm'.history ++ drop start farm'.history) c).
+              inr (subst (λ (l : List Entry). StandsFor l c)
+              (ap (λ (l : List Entry). l ++ drop start farm'.history) (sym back)
+              ∙ ap (λ (l : List Entry). farm''.history ++ l)
+              (sym ready' ∙ sym (undecided-some journal''.pending farm''.ready pending'))) new))
+              one
+          left-missed fault.Memory of' ready' pending' c one = left-old c one

@@ -1,0 +1,10 @@
+pub mod Ahead
+pub mod Batches
+pub mod Calls
+pub mod Decided
+pub mod Excluded
+pub mod Foundings
+pub mod GoingOn
+pub mod Repairs
+pub mod Spellings
+pub mod Standing

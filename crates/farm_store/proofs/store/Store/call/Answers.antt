@@ -1,0 +1,31 @@
+-- What a call came to, from its repair and its decisions, by the lemmas of `Calls`.
+use Rattle.std.proofs.Common.{◌∙◌, ◌∷◌, [], inl}
+use Rattle.farm_disk.proofs.Moments.{leaves_only-weaker}
+use Rattle.farm_store.specs.Answering.{as_batch}
+use Rattle.farm_store.specs.State.{IsLeft, IsWithOrWithout}
+use Rattle.farm_store.proofs.Calls.{leaves-on, says-longer, says-on}
+use Rattle.farm_store.proofs.store.Store.call.Goals as goal
+
+pub returns-in-Err-clause-any_moment : goal.returns-in-Err-clause-any_moment
+returns-in-Err-clause-any_moment g c = λ t.
+    let old = c.args.self.now in
+    leaves_only-weaker (g.D.Disk.told old.disk) (g.D.Disk.told c.repair.new.self.disk)
+    (IsWithOrWithout old.history old.pending) (IsLeft old c.repair.new.self) (λ x before. inl before)
+    (c.repair.ensures.any_moment t)
+
+pub returns-clause-longer : goal.returns-clause-longer
+returns-clause-longer g c =
+    let old = c.args.self.now in
+    let mid = c.repair.new.self in
+    let new = c.decide-answered.new.self in
+    says-longer (record { command = c.args.command.now; at = c.args.at } ∷ []) (as_batch c.decide-answered.result) old new
+    (says-on old mid new c.in_default.ensures.decided c.in_default.ensures.repaired (record { command = c.args.command.now; at = c.args.at } ∷ []) (as_batch c.decide-answered.result) c.decide-answered.ensures.says)
+
+pub returns-clause-any_moment : goal.returns-clause-any_moment
+returns-clause-any_moment g c = λ t.
+    let old = c.args.self.now in
+    let mid = c.repair.new.self in
+    let new = c.decide-answered.new.self in
+    leaves-on old mid new c.in_default.ensures.decided c.in_default.ensures.repaired
+    (g.D.Disk.told old.disk) (g.D.Disk.told mid.disk) (g.D.Disk.told new.disk)
+    (c.repair.ensures.any_moment t) (c.decide-answered.ensures.any_moment (c.repair.ensures.same ∙ t))

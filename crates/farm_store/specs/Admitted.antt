@@ -1,0 +1,41 @@
+-- What admitting the payloads of a journal comes to, one after the other.
+use Rattle.std.specs.Prelude.{◌≡◌, ◌⊎◌, ℕ, List, [], ◌∷◌, ◌++◌, ⊤}
+use Rattle.entry_codec.specs.Grammar.{AreSpelled}
+use Rattle.entry_codec.specs.Spelling.{spelling}
+use Rattle.farm_entry.specs.Legal.{IsLegal}
+use Rattle.farm_entry.specs.declared.entry.Entry.{Entry}
+use Rattle.farm_journal.specs.declared.fault.OpeningFault.{OpeningFault}
+use Rattle.farm_journal.specs.declared.fault.OpeningFault.TheVariants as opening
+use Rattle.farm_store.specs.Damage.{IsEmptyAt, IsUnfitAt}
+use Rattle.farm_store.specs.declared.admitting.Misfit.{Misfit}
+use Rattle.farm_store.specs.declared.admitting.Misfit.TheVariants.{Unfit, Memory}
+
+-- a payload spells entries that make one legal history of another
+pub record GoesOn (payload : List ℕ) (H K : List Entry) : Type 0 where
+  pub part : List Entry
+  pub spelled : AreSpelled part
+  pub is : payload ≡ spelling part
+  pub whole : K ≡ H ++ part
+  pub legal : IsLegal K
+
+-- a payload spells no entries that make a legal history with those before them, unless memory was wanting
+abbrev pub IsMisfit : List ℕ → List Entry → Misfit → Type 0
+IsMisfit payload H Unfit = (part : List Entry) → AreSpelled part → payload ≡ spelling part → IsLegal (H ++ part) → ⊥
+IsMisfit payload H Memory = ⊤
+
+-- a payload spells no entries, unless memory was wanting
+abbrev pub SpellsNone : List ℕ → Misfit → Type 0
+SpellsNone payload Unfit = (part : List Entry) → AreSpelled part → payload ≡ spelling part → ⊥
+SpellsNone payload Memory = ⊤
+
+-- no history that begins so is legal, unless memory was wanting
+abbrev pub IsNotLegal : (List Entry → List Entry) → Misfit → Type 0
+IsNotLegal begun Unfit = (more : List Entry) → IsLegal (begun more) → ⊥
+IsNotLegal begun Memory = ⊤
+
+-- why the payloads of a journal make no farm
+abbrev pub IsMissed : List (List ℕ) → OpeningFault → Type 0
+IsMissed payloads opening.Unborn = ⊥
+IsMissed payloads (opening.Damaged o) = IsEmptyAt payloads o ⊎ IsUnfitAt payloads o
+IsMissed payloads (opening.StoreFault before after) = ⊥
+IsMissed payloads opening.Memory = ⊤

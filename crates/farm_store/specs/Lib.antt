@@ -1,0 +1,10 @@
+pub mod Admitted
+pub mod Answering
+pub mod Bytes
+pub mod Damage
+pub mod Faults
+pub mod Founded
+pub mod Opened
+pub mod Recorded
+pub mod State
+pub mod StoreInside

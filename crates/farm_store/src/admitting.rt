@@ -1,0 +1,138 @@
+//! The farm of the payloads of a journal.
+
+ghost use Rattle.std.specs.Prelude.{◌≡◌, ◌++◌, ◌∷◌, [], ℕ, List, All, IfOk, IfErr, OnOk};
+ghost use Rattle.entry_codec.specs.Grammar.{AreSpelled};
+ghost use Rattle.entry_codec.specs.Spelling.{spelling};
+ghost use Rattle.farm_entry.specs.Legal.{IsLegal};
+ghost use Rattle.farm_journal.specs.Layout.{IsPayload, gate_of};
+ghost use Rattle.farm_store.specs.Admitted.{GoesOn, IsMisfit, IsMissed, IsNotLegal, SpellsNone};
+ghost use Rattle.farm_store.specs.StoreInside.{Keeps};
+
+use entry_codec::{CodecFault, read_entries};
+use farm_core::{AdmitFault, Farm};
+use farm_entry::{Entry, What};
+use farm_journal::{FIRST_GATE, OpeningFault, Payload};
+use std::alloc::Global;
+
+/// Why a payload doesn't go on with a history.
+#[derive(Clone, Copy, Debug, PartialEq, Eq)]
+pub enum Misfit {
+    /// It spells no entries, or none that may come next.
+    Unfit,
+    /// Memory was wanting.
+    Memory,
+}
+
+/// The farm whose history these payloads spell, or the gate of the first record that doesn't fit.
+pub fn farm_of(alloc: Global, payloads: &[Payload]) -> Result<Farm, OpeningFault>
+    requires { All IsPayload payloads.now }
+    ensures farm { IfOk result (λ farm. Keeps payloads.now farm.history) }
+    ensures missed { IfErr result (IsMissed payloads.now) }
+{
+    let Some((first, others)) = payloads.split_first() else {
+        return Err(OpeningFault::Damaged(FIRST_GATE));
+    };
+    match begin(alloc, first.bytes()) {
+        Ok(farm) => grow(
+            alloc,
+            farm,
+            FIRST_GATE + 5 + first.bytes().len() as u64,
+            others,
+        ),
+        Err(Misfit::Unfit) => Err(OpeningFault::Damaged(FIRST_GATE)),
+        Err(Misfit::Memory) => Err(OpeningFault::Memory),
+    }
+}
+
+/// The farm with the entries of further payloads, of which the first stands behind the open gate at this offset.
+fn grow(alloc: Global, farm: Farm, gate: u64, payloads: &[Payload]) -> Result<Farm, OpeningFault>
+    requires fit { All IsPayload payloads.now }
+    requires begun { (before : List (List ℕ)) × Keeps before farm.history × (gate ≡ gate_of before) }
+    ensures farm { (before : List (List ℕ)) → Keeps before farm.history → gate ≡ gate_of before
+        → IfOk result (λ grown. Keeps (before ++ payloads.now) grown.history) }
+    ensures missed { (before : List (List ℕ)) → Keeps before farm.history → gate ≡ gate_of before
+        → IfErr result (IsMissed (before ++ payloads.now)) }
+{
+    let mut farm = farm;
+    let mut gate = gate;
+    for payload in payloads {
+        match go_on(alloc, &mut farm, payload.bytes()) {
+            Ok(()) => gate += 5 + payload.bytes().len() as u64,
+            Err(Misfit::Unfit) => return Err(OpeningFault::Damaged(gate)),
+            Err(Misfit::Memory) => return Err(OpeningFault::Memory),
+        }
+    }
+    Ok(farm)
+}
+
+/// The farm whose history a payload begins.
+fn begin(alloc: Global, payload: &[u8]) -> Result<Farm, Misfit>
+    ensures farm { IfOk result (λ farm. GoesOn payload.now [] farm.history) }
+    ensures misfit { IfErr result (IsMisfit payload.now []) }
+{
+    let mut entries = entries_of(alloc, payload)?;
+    if entries.is_empty() {
+        return Err(Misfit::Unfit);
+    }
+    let mut farm = found(alloc, entries.remove(0))?;
+    admit_all(&mut farm, entries)?;
+    Ok(farm)
+}
+
+/// Goes on with the entries of a further payload.
+fn go_on(alloc: Global, farm: &mut Farm, payload: &[u8]) -> Result<(), Misfit>
+    requires { IsLegal farm.old.history }
+    ensures farm { OnOk result (GoesOn payload.now farm.old.history farm.new.history) }
+    ensures misfit { IfErr result (IsMisfit payload.now farm.old.history) }
+{
+    let entries = entries_of(alloc, payload)?;
+    admit_all(farm, entries)
+}
+
+/// The entries that a payload spells.
+fn entries_of(alloc: Global, payload: &[u8]) -> Result<Vec<Entry>, Misfit>
+    ensures spelled { IfOk result (λ entries. AreSpelled entries.items) }
+    ensures is { IfOk result (λ entries. payload.now ≡ spelling entries.items) }
+    ensures none { IfErr result (SpellsNone payload.now) }
+{
+    match read_entries(alloc, payload) {
+        Ok(entries) => Ok(entries),
+        Err(CodecFault::Bad(_)) => Err(Misfit::Unfit),
+        Err(CodecFault::Memory) => Err(Misfit::Memory),
+    }
+}
+
+/// The farm that an entry founds.
+fn found(alloc: Global, entry: Entry) -> Result<Farm, Misfit>
+    ensures founded { IfOk result (λ farm. farm.history ≡ entry ∷ []) }
+    ensures legal { OnOk result (IsLegal (entry ∷ [])) }
+    ensures misfit { IfErr result (IsNotLegal (λ more. entry ∷ more)) }
+{
+    let What::Founded { settings } = entry.what else {
+        return Err(Misfit::Unfit);
+    };
+    match Farm::found(alloc, settings, entry.at) {
+        Ok(farm) => Ok(farm),
+        Err(_) => Err(Misfit::Memory),
+    }
+}
+
+/// Admits entries, one after the other.
+fn admit_all(farm: &mut Farm, entries: Vec<Entry>) -> Result<(), Misfit>
+    requires { IsLegal farm.old.history }
+    ensures admitted { OnOk result (farm.new.history ≡ farm.old.history ++ entries.items) }
+    ensures legal { OnOk result (IsLegal (farm.old.history ++ entries.items)) }
+    ensures misfit { IfErr result (IsNotLegal (λ more. farm.old.history ++ entries.items ++ more)) }
+{
+    let mut rest = entries;
+    // The first stands last, from where it is taken without moving the others.
+    rest.reverse();
+    while let Some(entry) = rest.pop() {
+        match farm.admit(entry) {
+            Ok(()) => {}
+            Err(AdmitFault::Illegal) => return Err(Misfit::Unfit),
+            Err(AdmitFault::Memory) => return Err(Misfit::Memory),
+        }
+    }
+    Ok(())
+}

@@ -1,0 +1,50 @@
+//! What a store is asked, and what it answers.
+
+use farm_entry::{Command, Refusal, Reply};
+use farm_types::Moment;
+use item_list::ItemList;
+use thiserror::Error;
+
+/// The most asks of one batch. The fewest is one.
+pub const MAX_BATCH: usize = 16;
+
+/// A command, and the moment at which it is asked.
+#[derive(Debug, Drop)]
+pub struct Ask {
+    /// What is asked.
+    pub command: Command,
+    /// When.
+    pub at: Moment,
+}
+
+/// The answer to one ask of a batch.
+#[derive(Debug, PartialEq, Eq, Drop)]
+pub enum Answer {
+    /// The reply: of the entry that the command made, now or before, or what it shows.
+    Done(Reply),
+    /// The farm refuses the command.
+    Refused(Refusal),
+}
+
+/// The answers to a batch, one for each ask, in their order.
+pub type Answers = ItemList<Answer>;
+
+/// Why a call was not answered.
+#[derive(Clone, Copy, Debug, PartialEq, Eq, Error)]
+pub enum CallFault {
+    /// The farm refuses the command.
+    #[error("{0}")]
+    Refused(Refusal),
+    /// The disk failed: its count of faults before the call, and after it. What the call records may have been stored; the
+    /// next call finds out.
+    #[error("the journal could not be used")]
+    StoreFault {
+        /// The count before the call.
+        before: u64,
+        /// The count after it.
+        after: u64,
+    },
+    /// Memory was wanting, and nothing of the call is recorded.
+    #[error("out of memory")]
+    Memory,
+}

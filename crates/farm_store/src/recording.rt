@@ -1,0 +1,83 @@
+//! Storing the entries by which the farm in memory is ahead of its journal.
+
+ghost use Rattle.std.specs.Prelude.{◌≡◌, ◌≢◌, ◌≤◌, [], true, length, take, drop, None, IfErr, OnOk, OnErr, All};
+ghost use Rattle.farm_disk.specs.Images.{LeavesOnly};
+ghost use Rattle.entry_codec.specs.Grammar.{IsWithinLimits};
+ghost use Rattle.farm_store.specs.Faults.{HasCountFrom, IsOfStore, OnCallFault, OnCallMemory};
+ghost use Rattle.farm_store.specs.Recorded.{IsOpen, LeavesNew, Wrote};
+ghost use Rattle.farm_store.specs.StoreInside.{IsAhead, IsStore};
+ghost use Rattle.farm_store.specs.declared.asking.TheConstants.{MAX_BATCH};
+
+use crate::asking::CallFault;
+use entry_codec::write_entries;
+use farm_core::Farm;
+use farm_disk::Disk;
+use farm_entry::Entry;
+use farm_journal::{Journal, JournalFault};
+use std::alloc::Global;
+
+/// Stores what stands in the farm's history from a place on, in one record, or takes it back. Where the disk failed, it
+/// may be committed again once a repair has found that it was kept. Where nothing stands there, nothing is written.
+pub fn record_from<D: Disk>(
+    alloc: Global,
+    farm: &mut Farm,
+    journal: &mut Journal<D>,
+    start: usize,
+    before: u64,
+) -> Result<(), CallFault>
+    requires ahead { IsAhead D.tells D.told start farm.old journal.old }
+
+    ensures same { D.tells journal.new.disk ≡ D.tells journal.old.disk }
+    ensures kept { IsStore D.tells D.told farm.new journal.new }
+    ensures any_moment { D.tells journal.old.disk ≡ true → LeavesOnly (D.told journal.old.disk) (D.told journal.new.disk)
+        (LeavesNew (take start farm.old.history) (drop start farm.old.history) result) }
+
+    ensures stored { OnOk result (farm.new.history ≡ farm.old.history) }
+    ensures decided { OnOk result (journal.new.pending ≡ None) }
+    ensures taken_back { OnErr result (farm.new.history ≡ take start farm.old.history) }
+    ensures undecided { OnCallFault result (farm.new.ready ≡ drop start farm.old.history) }
+    ensures pending { OnCallFault result (journal.new.pending ≢ None) }
+    ensures memory { OnCallMemory result (journal.new.pending ≡ None) }
+    ensures of_the_store { IfErr result IsOfStore }
+    ensures nothing { drop start farm.old.history ≡ [] → OnOk result (journal.new ≡ journal.old) }
+
+    ensures cause { HasCountFrom before result (D.count journal.old.disk) (D.count journal.new.disk) }
+    ensures never_falls { D.count journal.old.disk ≤ D.count journal.new.disk }
+{
+    match write_new(alloc, journal, &farm.history()[start..], before) {
+        Ok(()) => Ok(()),
+        Err(fault) => {
+            farm.retract(farm.history().len() - start);
+            Err(fault)
+        }
+    }
+}
+
+/// Writes entries as one record, where there are any.
+fn write_new<D: Disk>(
+    alloc: Global,
+    journal: &mut Journal<D>,
+    entries: &[Entry],
+    before: u64,
+) -> Result<(), CallFault>
+    requires open { IsOpen D.tells D.told journal.old }
+    requires within { All (λ entry. IsWithinLimits entry.what) entries.now }
+    requires few { length entries.now ≤ MAX_BATCH }
+
+    ensures same { D.tells journal.new.disk ≡ D.tells journal.old.disk }
+    ensures wrote { Wrote D.tells D.told entries.now result journal.old journal.new }
+    ensures cause { HasCountFrom before result (D.count journal.old.disk) (D.count journal.new.disk) }
+    ensures never_falls { D.count journal.old.disk ≤ D.count journal.new.disk }
+{
+    if entries.is_empty() {
+        return Ok(());
+    }
+    let Ok(payload) = write_entries(alloc, entries) else {
+        return Err(CallFault::Memory);
+    };
+    match journal.append(alloc, &payload) {
+        Ok(()) => Ok(()),
+        Err(JournalFault::StoreFault { after, .. }) => Err(CallFault::StoreFault { before, after }),
+        Err(JournalFault::Memory) => Err(CallFault::Memory),
+    }
+}

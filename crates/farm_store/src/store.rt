@@ -1,0 +1,341 @@
+//! A store: a farm whose history stands on a disk.
+
+ghost use Rattle.std.specs.Prelude.{◌≡◌, ◌≤◌, ◌++◌, [], true, false, List, length, IfOk, IfErr, OnOk, OnErr};
+ghost use Rattle.farm_disk.specs.Images.{EachImage, LeavesOnly, LeavesSinceSync};
+ghost use Rattle.farm_entry.specs.Legal.{IsLegal};
+ghost use Rattle.farm_entry.specs.Pages.{totals};
+ghost use Rattle.farm_journal.specs.Created.{CreatingCause, IsUnborn, OnCreatingMemory};
+ghost use Rattle.farm_journal.specs.Layout.{is_unborn};
+ghost use Rattle.farm_journal.specs.Opened.{OpeningCause};
+ghost use Rattle.farm_journal.specs.ReadsOnly.{ReadsOnly};
+ghost use Rattle.farm_store.specs.Answering.{BatchSays, CallSays, IsUnrepairedBy, as_batch};
+ghost use Rattle.farm_store.specs.Faults.{HasCallCause, HasCountFrom};
+ghost use Rattle.farm_store.specs.Founded.{Founds, IsUnbornOrFounding, disk_founded, founding};
+ghost use Rattle.farm_store.specs.Opened.{OpensTo, disk_opened};
+ghost use Rattle.farm_store.specs.State.{IsLeft, IsRepaired, IsStored, IsWithOrWithout};
+ghost use Rattle.farm_store.specs.declared.asking.TheConstants.{MAX_BATCH};
+
+use crate::admitting::farm_of;
+use crate::answering::{answer, answer_all};
+use crate::asking::{Answer, Answers, Ask, CallFault};
+use crate::founding::found;
+use crate::recording::record_from;
+use farm_core::Farm;
+use farm_disk::Disk;
+use farm_entry::{Command, Entry, Reply, Settings, Totals};
+use farm_journal::{CreateFault, Journal, JournalFault, OpeningFault, Repaired};
+use farm_types::Moment;
+use std::alloc::Global;
+use std::marker::Model;
+
+/// A store: a farm whose history stands on a disk.
+///
+/// After a fault of the disk the entries of the record that was being stored are pending: they are in the history or not,
+/// as the repair finds with which the next call begins. The history that the store tells is the one without them.
+#[derive(Drop)]
+pub struct Store<D: Disk> {
+    journal: Journal<D>,
+    farm: Farm,
+    recorded: usize,
+}
+
+impl<D: Disk> Model for Store<D> {
+    ghost use Rattle.farm_store.specs.State.{StoreState};
+    ghost use Rattle.farm_store.specs.StoreInside.{IsStore, store_view};
+
+    ghost Value = { StoreState D };
+
+    ghost view = { λ s. store_view s.farm s.journal s.recorded };
+
+    ghost invariant = { λ s. IsStore D.tells D.told s.farm s.journal };
+}
+
+impl<D: Disk> Store<D> {
+    /// Founds a farm with these settings at this moment, on a disk that is unborn: of at most one byte, or with a birth
+    /// byte of 0. A disk that isn't keeps its bytes. An error hands the disk back.
+    pub fn found(
+        alloc: Global,
+        disk: D,
+        settings: Settings,
+        at: Moment,
+    ) -> Result<Store<D>, (D, CreateFault)>
+        ensures same { D.tells (disk_founded result) ≡ D.tells disk }
+        ensures answers { D.tells disk ≡ true → Founds (D.told disk).bytes result }
+        ensures history { IfOk result (λ store. store.history ≡ founding settings at) }
+        ensures decided { IfOk result (λ store. store.pending ≡ []) }
+        ensures none_recorded { IfOk result (λ store. store.recorded ≡ 0) }
+        ensures legal { OnOk result (IsLegal (founding settings at)) }
+        ensures stored { IfOk result (λ store. D.tells disk ≡ true
+            → IsStored (founding settings at) [] (D.told store.disk)) }
+
+        ensures born { D.tells disk ≡ true → is_unborn (D.told disk).bytes ≡ false
+            → (D.told (disk_founded result)).bytes ≡ (D.told disk).bytes }
+
+        // A crash since the first sync that was done leaves an unborn file, or the founding. Where each image was unborn
+        // before the call, this holds from its start.
+        ensures since_sync { D.tells disk ≡ true → is_unborn (D.told disk).bytes ≡ true
+            → LeavesSinceSync (D.told disk) (D.told (disk_founded result)) (IsUnbornOrFounding settings at) }
+        ensures any_moment { D.tells disk ≡ true → is_unborn (D.told disk).bytes ≡ true
+            → EachImage (D.told disk).steps IsUnborn
+            → LeavesOnly (D.told disk) (D.told (disk_founded result)) (IsUnbornOrFounding settings at) }
+        ensures memory { IfErr result (λ missed. OnCreatingMemory missed.1 (D.tells disk ≡ true
+            → is_unborn (D.told disk).bytes ≡ true → EachImage (D.told disk).steps IsUnborn
+            → EachImage (D.told missed.0).steps IsUnborn)) }
+
+        ensures cause { IfErr result (λ missed. CreatingCause missed.1 (D.count disk) (D.count missed.0)) }
+        ensures never_falls { D.count disk ≤ D.count (disk_founded result) }
+    {
+        let (farm, payload) = match found(alloc, settings, at) {
+            Ok(made) => made,
+            Err(_) => return Err((disk, CreateFault::Memory)),
+        };
+        match Journal::create(alloc, disk, payload) {
+            Ok(journal) => Ok(Store {
+                journal,
+                farm,
+                recorded: 0,
+            }),
+            Err(missed) => Err(missed),
+        }
+    }
+
+    /// Opens the store on a disk. It begins with a sync and changes nothing; that takes one sync, one look at the size and
+    /// one read. Each payload is read once, and each entry admitted once. An error hands the disk back: the disk is
+    /// damaged at an offset where the file is, and at its gate where a record spells no entries that may come next.
+    pub fn open_on(alloc: Global, disk: D) -> Result<Store<D>, (D, OpeningFault)>
+        ensures same { D.tells (disk_opened result) ≡ D.tells disk }
+        ensures answers { D.tells disk ≡ true → OpensTo (D.told disk).bytes result }
+        ensures decided { IfOk result (λ store. store.pending ≡ []) }
+        ensures none_recorded { IfOk result (λ store. store.recorded ≡ 0) }
+        ensures legal { IfOk result (λ store. IsLegal store.history) }
+        ensures stored { IfOk result (λ store. D.tells disk ≡ true → IsStored store.history [] (D.told store.disk)) }
+        ensures only { D.tells disk ≡ true → ReadsOnly (D.told disk) (D.told (disk_opened result)) }
+        ensures cause { IfErr result (λ missed. OpeningCause missed.1 (D.count disk) (D.count missed.0)) }
+        ensures never_falls { D.count disk ≤ D.count (disk_opened result) }
+    {
+        match Journal::open_on(alloc, disk) {
+            Ok((journal, payloads)) => match farm_of(alloc, payloads.as_slice()) {
+                Ok(farm) => Ok(Store {
+                    journal,
+                    farm,
+                    recorded: 0,
+                }),
+                Err(fault) => Err((journal.into_disk(), fault)),
+            },
+            Err(missed) => Err(missed),
+        }
+    }
+
+    /// Answers a command at a moment. Where a fault left a record undecided, a repair finds out first whether it was kept;
+    /// then the command is decided at the history that there is. A new entry is stored before its reply is given: from
+    /// then on each crash leaves a history that has it.
+    ///
+    /// # Errors
+    ///
+    /// [`CallFault::Refused`], exactly where the farm's definitions refuse the command; [`CallFault::StoreFault`] where
+    /// the disk failed in this call, in the repair or as the new entry was stored, which then is pending; or
+    /// [`CallFault::Memory`].
+    pub fn call(&mut self, alloc: Global, command: &Command, at: Moment) -> Result<Reply, CallFault>
+        ensures same { D.tells self.new.disk ≡ D.tells self.old.disk }
+        ensures says { CallSays command.now at result self.old self.new }
+        ensures longer { (more : List Entry) × (self.new.history ≡ self.old.history ++ more) }
+        ensures legal { IsLegal (self.new.history ++ self.new.pending) }
+
+        // Each image of each moment of the call stands for the history from before, with or without what was pending, or
+        // for the one from now with what is pending now.
+        ensures any_moment { D.tells self.old.disk ≡ true
+            → LeavesOnly (D.told self.old.disk) (D.told self.new.disk) (IsLeft self.old self.new) }
+        ensures stored { D.tells self.old.disk ≡ true
+            → IsStored self.new.history self.new.pending (D.told self.new.disk) }
+        // What records nothing writes nothing.
+        ensures untouched { self.old.pending ≡ [] → self.new.history ≡ self.old.history
+            → OnOk (as_batch result) (self.new.disk ≡ self.old.disk) }
+
+        ensures cause { HasCallCause result (D.count self.old.disk) (D.count self.new.disk) }
+        ensures never_falls { D.count self.old.disk ≤ D.count self.new.disk }
+    {
+        let before = self.faults();
+        if let Err(fault) = self.repair(before) {
+            self.tell();
+            return Err(fault);
+        }
+        let answered = self.decide(alloc, command, at, before);
+        self.tell();
+        answered
+    }
+
+    /// Answers 1 to `MAX_BATCH` asks as single calls one after the other would, but for this: their new entries are stored
+    /// in one record, before any of the answers is given. So a crash leaves all of them or none. Where they record
+    /// nothing, nothing is written.
+    ///
+    /// # Errors
+    ///
+    /// [`CallFault::StoreFault`] or [`CallFault::Memory`], of the whole batch, as of a single call. A refusal is an answer.
+    pub fn call_batch(&mut self, alloc: Global, asks: &[Ask]) -> Result<Answers, CallFault>
+        requires some { 1 ≤ length asks.now }
+        requires few { length asks.now ≤ MAX_BATCH }
+
+        ensures same { D.tells self.new.disk ≡ D.tells self.old.disk }
+        ensures says { BatchSays asks.now result self.old self.new }
+        ensures longer { (more : List Entry) × (self.new.history ≡ self.old.history ++ more) }
+        ensures legal { IsLegal (self.new.history ++ self.new.pending) }
+
+        ensures any_moment { D.tells self.old.disk ≡ true
+            → LeavesOnly (D.told self.old.disk) (D.told self.new.disk) (IsLeft self.old self.new) }
+        ensures stored { D.tells self.old.disk ≡ true
+            → IsStored self.new.history self.new.pending (D.told self.new.disk) }
+        ensures untouched { self.old.pending ≡ [] → self.new.history ≡ self.old.history
+            → OnOk result (self.new.disk ≡ self.old.disk) }
+
+        ensures cause { HasCallCause result (D.count self.old.disk) (D.count self.new.disk) }
+        ensures never_falls { D.count self.old.disk ≤ D.count self.new.disk }
+    {
+        let before = self.faults();
+        if let Err(fault) = self.repair(before) {
+            self.tell();
+            return Err(fault);
+        }
+        let answered = self.decide_all(alloc, asks, before);
+        self.tell();
+        answered
+    }
+
+    /// The history, without what is pending.
+    pub fn history(&self) -> &[Entry]
+        ensures value { result.now ≡ self.now.history }
+        ensures legal { IsLegal self.now.history }
+    {
+        self.farm.history()
+    }
+
+    /// What is counted of the history, without what is pending. It takes no memory.
+    pub fn totals(&self) -> Totals
+        ensures { result ≡ totals self.now.history }
+    {
+        self.farm.totals()
+    }
+
+    /// How many entries the last call recorded for its asks: they are the last of the history. Those that its repair found
+    /// aren't counted, and after a fault or out of memory there are none.
+    pub fn recorded(&self) -> usize
+        ensures { result ≡ self.now.recorded }
+    {
+        self.recorded
+    }
+
+    /// How often the disk has failed so far.
+    pub fn faults(&self) -> u64
+        ensures { result ≡ D.count self.now.disk }
+    {
+        self.journal.faults()
+    }
+
+    /// The disk of the store.
+    pub fn into_disk(self) -> D
+        ensures disk { result ≡ self.disk }
+        ensures stored { D.tells self.disk ≡ true → IsStored self.history self.pending (D.told result) }
+    {
+        self.journal.into_disk()
+    }
+
+    /// What holds of a store at any time, for contracts alone.
+    fn tell(&self)
+        ensures legal { IsLegal (self.now.history ++ self.now.pending) }
+        ensures stored { D.tells self.now.disk ≡ true
+            → IsStored self.now.history self.now.pending (D.told self.now.disk) }
+    {
+        let _ = &self.journal;
+    }
+
+    /// Finds out whether what is pending was kept. Where nothing is pending, nothing is done.
+    fn repair(&mut self, before: u64) -> Result<(), CallFault>
+        ensures same { D.tells self.new.disk ≡ D.tells self.old.disk }
+        ensures repaired { OnOk result (IsRepaired self.old self.new.history) }
+        ensures decided { OnOk result (self.new.pending ≡ []) }
+        ensures idle { self.old.pending ≡ [] → self.new.disk ≡ self.old.disk }
+        ensures none_recorded { self.new.recorded ≡ 0 }
+        ensures unrepaired { IfErr result (λ fault. IsUnrepairedBy fault self.old self.new) }
+
+        ensures any_moment { D.tells self.old.disk ≡ true
+            → LeavesOnly (D.told self.old.disk) (D.told self.new.disk)
+            (IsWithOrWithout self.old.history self.old.pending) }
+
+        ensures cause { HasCountFrom before result (D.count self.old.disk) (D.count self.new.disk) }
+        ensures never_falls { D.count self.old.disk ≤ D.count self.new.disk }
+    {
+        self.recorded = 0;
+        if !self.journal.pending() {
+            return Ok(());
+        }
+        match self.journal.repair() {
+            Ok(Repaired::Kept) => {
+                self.farm.commit_all();
+                Ok(())
+            }
+            Ok(Repaired::Dropped) => Ok(()),
+            Err(JournalFault::StoreFault { after, .. }) => Err(CallFault::StoreFault {
+                before,
+                after,
+            }),
+            Err(JournalFault::Memory) => unreachable!(),
+        }
+    }
+
+    /// Answers a command while nothing is pending.
+    fn decide(
+        &mut self,
+        alloc: Global,
+        command: &Command,
+        at: Moment,
+        before: u64,
+    ) -> Result<Reply, CallFault>
+        requires decided { self.old.pending ≡ [] }
+        requires none_recorded { self.old.recorded ≡ 0 }
+        ensures same { D.tells self.new.disk ≡ D.tells self.old.disk }
+        ensures says { CallSays command.now at result self.old self.new }
+        ensures any_moment { D.tells self.old.disk ≡ true
+            → LeavesOnly (D.told self.old.disk) (D.told self.new.disk) (IsLeft self.old self.new) }
+        ensures untouched { self.new.history ≡ self.old.history
+            → OnOk (as_batch result) (self.new.disk ≡ self.old.disk) }
+        ensures cause { HasCountFrom before result (D.count self.old.disk) (D.count self.new.disk) }
+        ensures never_falls { D.count self.old.disk ≤ D.count self.new.disk }
+    {
+        let start = self.farm.history().len();
+        match answer(&mut self.farm, command, at) {
+            Ok(Answer::Done(reply)) => {
+                record_from(alloc, &mut self.farm, &mut self.journal, start, before)?;
+                self.recorded = self.farm.history().len() - start;
+                Ok(reply)
+            }
+            Ok(Answer::Refused(refusal)) => Err(CallFault::Refused(refusal)),
+            Err(_) => Err(CallFault::Memory),
+        }
+    }
+
+    /// Answers a list of asks while nothing is pending.
+    fn decide_all(&mut self, alloc: Global, asks: &[Ask], before: u64) -> Result<Answers, CallFault>
+        requires decided { self.old.pending ≡ [] }
+        requires none_recorded { self.old.recorded ≡ 0 }
+        requires few { length asks.now ≤ MAX_BATCH }
+        ensures same { D.tells self.new.disk ≡ D.tells self.old.disk }
+        ensures says { BatchSays asks.now result self.old self.new }
+        ensures any_moment { D.tells self.old.disk ≡ true
+            → LeavesOnly (D.told self.old.disk) (D.told self.new.disk) (IsLeft self.old self.new) }
+        ensures untouched { self.new.history ≡ self.old.history → OnOk result (self.new.disk ≡ self.old.disk) }
+        ensures cause { HasCountFrom before result (D.count self.old.disk) (D.count self.new.disk) }
+        ensures never_falls { D.count self.old.disk ≤ D.count self.new.disk }
+    {
+        let start = self.farm.history().len();
+        match answer_all(alloc, &mut self.farm, asks) {
+            Ok(answers) => {
+                record_from(alloc, &mut self.farm, &mut self.journal, start, before)?;
+                self.recorded = self.farm.history().len() - start;
+                Ok(Answers::of(answers))
+            }
+            Err(_) => {
+                self.farm.retract(self.farm.history().len() - start);
+                Err(CallFault::Memory)
+            }
+        }
+    }
+}

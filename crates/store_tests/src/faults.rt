@@ -1,0 +1,131 @@
+//! A fault at each call of a disk in turn, and what the images of a crash then hold.
+use crate::commands::ask_of;
+use crate::images::held_in_images;
+use crate::plays::founding;
+use crate::words::bytes_of;
+use farm_disk::{CalmDisk, Disk, DiskFail, MemDisk};
+use farm_entry::Entry;
+use farm_store::{Ask, MAX_BATCH, Store};
+use std::alloc::{AllocError, Global};
+use std::io;
+
+/// The most calls of a disk that a case makes.
+const MOST_CALLS: u64 = 200;
+
+/// Asks the words of a script, each by a call or, in batches of three, by one call each. Answers how many entries stand
+/// in the history for sure by then: it ends at the first fault.
+fn ask_all<D: Disk>(
+    alloc: Global,
+    store: &mut Store<D>,
+    script: &str,
+    batches: bool,
+) -> Result<(), AllocError> {
+    let mut asks = Vec::new(alloc);
+    let mut number = 0;
+    for text in script.split(' ') {
+        number = u32::min(number + 1, 1_000);
+        asks.push(ask_of(alloc, text, number)?)?;
+        if !batches || asks.len() == 3 {
+            if !is_answered(alloc, store, &asks) {
+                return Ok(());
+            }
+            asks.clear();
+        }
+    }
+    is_answered(alloc, store, &asks);
+    Ok(())
+}
+
+fn is_answered<D: Disk>(alloc: Global, store: &mut Store<D>, asks: &[Ask]) -> bool {
+    if asks.len() == 1 {
+        return store.call(alloc, &asks[0].command, asks[0].at).is_ok();
+    }
+    if asks.is_empty() || asks.len() > MAX_BATCH {
+        return true;
+    }
+    store.call_batch(alloc, asks).is_ok()
+}
+
+/// The whole history of a script.
+fn whole_store(
+    alloc: Global,
+    script: &str,
+    batches: bool,
+) -> Result<Store<CalmDisk>, AllocError> {
+    let (settings, at) = founding(false)?;
+    let Ok(mut store) = Store::found(alloc, CalmDisk::of(Vec::new(alloc)), settings, at) else {
+        return Err(AllocError);
+    };
+    ask_all(alloc, &mut store, script, batches)?;
+    Ok(store)
+}
+
+/// Plays a script where one call of the disk fails. Answers how many entries the store then has, and the disk.
+fn play_with_fault(
+    alloc: Global,
+    file: &str,
+    script: &str,
+    batches: bool,
+    fail: DiskFail,
+) -> Result<(usize, MemDisk), AllocError> {
+    let mut fails = Vec::new(alloc);
+    fails.push(fail)?;
+    let (settings, at) = founding(false)?;
+    let disk = MemDisk::of(bytes_of(alloc, file), fails);
+    match Store::found(alloc, disk, settings, at) {
+        Ok(mut store) => {
+            ask_all(alloc, &mut store, script, batches)?;
+            Ok((store.history().len(), store.into_disk()))
+        }
+        Err((disk, _)) => Ok((0, disk)),
+    }
+}
+
+/// What the images hold after one call failed: whether each is a beginning of the whole history that has all the entries
+/// whose replies came; and whether the call failed.
+fn holds(
+    alloc: Global,
+    file: &str,
+    script: &str,
+    batches: bool,
+    fail: DiskFail,
+    whole: &[Entry],
+) -> Result<(bool, bool), AllocError> {
+    let (acknowledged, disk) = play_with_fault(alloc, file, script, batches, fail)?;
+    let failed = disk.faults() == 1;
+    match held_in_images(alloc, &disk, whole) {
+        Some((least, _)) => Ok((least >= acknowledged, failed)),
+        None => Ok((false, failed)),
+    }
+}
+
+/// Lets each call of a disk with these bytes fail in turn while a store is founded on it and asked a script, with no byte,
+/// one and all bytes kept, until none fails. Prints how many calls there are, and the number of the first one after which an image is no
+/// beginning of the whole history or lacks an entry whose reply came, or else that all are.
+pub(crate) fn play_faults(
+    rt: &impl Print,
+    alloc: Global,
+    batches: bool,
+    file: &str,
+    script: &str,
+) -> io::Result<()> {
+    let store = whole_store(alloc, script, batches)?;
+    let whole = store.history();
+    for call in 1..MOST_CALLS {
+        let none = holds(alloc, file, script, batches, DiskFail { call, kept: 0 }, whole)?;
+        let one = holds(alloc, file, script, batches, DiskFail { call, kept: 1 }, whole)?;
+        let all = DiskFail {
+            call,
+            kept: u32::MAX,
+        };
+        let all = holds(alloc, file, script, batches, all, whole)?;
+        if !none.0 || !one.0 || !all.0 {
+            return println!(rt; "call {call}: not held");
+        }
+        if !none.1 {
+            let entries = whole.len();
+            return println!(rt; "entries {entries}, each held at each of the calls before {call}");
+        }
+    }
+    println!(rt; "more calls")
+}

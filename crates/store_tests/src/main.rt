@@ -1,0 +1,40 @@
+//! Plays the cases of standard input over stores in memory, and prints what each comes to. A case is a line: a word, and
+//! what the word asks for. A line that begins with `#` is printed as it is. The file `stdout` has what is wanted; it was
+//! worked out by hand.
+#![tactic(auto)]
+
+mod commands;
+mod faults;
+mod images;
+mod openings;
+mod plays;
+mod words;
+
+use faults::play_faults;
+use openings::play_open;
+use plays::{play_batches, play_calls, play_found};
+use std::alloc::Global;
+use std::io;
+use words::word;
+
+fn play(rt: &impl Print, alloc: Global, line: &str) -> io::Result<()> {
+    let (name, rest) = word(line);
+    let (first, second) = word(rest);
+    match name {
+        "found" => play_found(rt, alloc, rest),
+        "open" => play_open(rt, alloc, rest),
+        "calls" => play_calls(rt, alloc, first, second),
+        "batches" => play_batches(rt, alloc, first, second),
+        "calls_with_faults" => play_faults(rt, alloc, false, first, second),
+        "batches_with_faults" => play_faults(rt, alloc, true, first, second),
+        _ => println!(rt; "{line}"),
+    }
+}
+
+fn main(rt: HostRuntime) -> io::Result<()> {
+    let text = io::read_to_string(rt.alloc(), rt.reader())?;
+    for line in text.as_str().strip_suffix("\n").unwrap_or("").split('\n') {
+        play(&rt, rt.alloc(), line)?;
+    }
+    Ok(())
+}
