@@ -3,7 +3,7 @@ use Rattle.std.proofs.Common.{◌≡◌, ℕ, List, [], ◌∷◌, ◌++◌, Opt
 use Rattle.std.proofs.lemmas.List.{append-nil, length-append}
 use Rattle.std.specs.Io.KnownBytes.{append_known}
 use Rattle.link_io.proofs.Told.{append_known-nil, append_known-append}
-use Rattle.farm_script.specs.Script.{Rule, reply_line, next_history, text_of, history_of, Answered, StopPlace, StopsIn, IsUnshown}
+use Rattle.farm_script.specs.Script.{Rule, reply_line, next_history, text_of, history_of, Answered, StopPoint, StopsIn, IsUnshown}
 
 pub text_of-append : {E : Type 0} (rule : Rule E) (history : List E) (some more : List (List ℕ))
     → text_of rule history (some ++ more) ≡ text_of rule history some ++ text_of rule (history_of rule history some) more
@@ -41,50 +41,50 @@ answered-append {E} {rule} {first} {mid} {now} {w0} {w1} {w} {some} {more} a b =
     }
 
 -- answering stopped before the first of some lines
-place-before : {E : Type 0} (rule : Rule E) (first : List E) (w : Option (List ℕ)) (all : List (List ℕ))
-    → StopPlace rule first w all first w
-place-before rule first w [] = (refl, refl)
-place-before rule first w (line ∷ others) = inl (refl, refl)
+point-before : {E : Type 0} (rule : Rule E) (first : List E) (w : Option (List ℕ)) (all : List (List ℕ))
+    → StopPoint rule first w all first w
+point-before rule first w [] = (refl, refl)
+point-before rule first w (line ∷ others) = inl (refl, refl)
 
-place-append : {E : Type 0} (rule : Rule E) (mid now : List E) (w1 w : Option
+point-append : {E : Type 0} (rule : Rule E) (mid now : List E) (w1 w : Option
     (List ℕ)) (more some : List (List ℕ)) (first : List E) (w0 : Option (List ℕ))
-    → Answered rule first w0 some mid w1 → StopPlace rule mid w1 more now w
-    → StopPlace rule first w0 (some ++ more) now w
-place-append {E} rule mid now w1 w more [] first w0 a s =
-    let P : List E → Option (List ℕ) → Type 0 = λ h o. StopPlace rule h o more now w in
+    → Answered rule first w0 some mid w1 → StopPoint rule mid w1 more now w
+    → StopPoint rule first w0 (some ++ more) now w
+point-append {E} rule mid now w1 w more [] first w0 a s =
+    let P : List E → Option (List ℕ) → Type 0 = λ h o. StopPoint rule h o more now w in
     let s1 : P first w1 = subst (λ h. P h w1) a.history s in
     subst (λ o. P first o) (a.written ∙ append_known-nil w0) s1
-place-append {E} rule mid now w1 w more (line ∷ some) first w0 a s =
+point-append {E} rule mid now w1 w more (line ∷ some) first w0 a s =
     let next = next_history rule first line in
     let reply = reply_line rule first line in
     let tail : Answered rule next (append_known w0 reply) some mid w1 = record {
       history = a.history;
       written = a.written ∙ sym (append_known-append w0 reply (text_of rule next some));
     } in
-    inr (inr (place-append rule mid now w1 w more some next (append_known w0 reply) tail s))
+    inr (inr (point-append rule mid now w1 w more some next (append_known w0 reply) tail s))
 
-place-more : {E : Type 0} (rule : Rule E) (now : List E) (w : Option
+point-more : {E : Type 0} (rule : Rule E) (now : List E) (w : Option
     (List ℕ)) (more some : List (List ℕ)) (first : List E) (w0 : Option (List ℕ))
-    → StopPlace rule first w0 some now w → StopPlace rule first w0 (some ++ more) now w
-place-more {E} rule now w more [] first w0 s =
-    let P : List E → Option (List ℕ) → Type 0 = λ h o. StopPlace rule first w0 more h o in
-    subst (λ o. P now o) (sym s.1) (subst (λ h. P h w0) (sym s.0) (place-before rule first w0 more))
-place-more rule now w more (line ∷ some) first w0 (inl s) = inl s
-place-more rule now w more (line ∷ some) first w0 (inr (inl s)) = inr (inl s)
-place-more rule now w more (line ∷ some) first w0 (inr (inr s)) =
-    inr (inr (place-more rule now w more some (next_history rule first line) (append_known w0 (reply_line rule first line)) s))
+    → StopPoint rule first w0 some now w → StopPoint rule first w0 (some ++ more) now w
+point-more {E} rule now w more [] first w0 s =
+    let P : List E → Option (List ℕ) → Type 0 = λ h o. StopPoint rule first w0 more h o in
+    subst (λ o. P now o) (sym s.1) (subst (λ h. P h w0) (sym s.0) (point-before rule first w0 more))
+point-more rule now w more (line ∷ some) first w0 (inl s) = inl s
+point-more rule now w more (line ∷ some) first w0 (inr (inl s)) = inr (inl s)
+point-more rule now w more (line ∷ some) first w0 (inr (inr s)) =
+    inr (inr (point-more rule now w more some (next_history rule first line) (append_known w0 (reply_line rule first line)) s))
 
 -- answering stopped before the first of some lines
 pub stops-before : {E : Type 0} (rule : Rule E) (first : List E) (w : Option (List ℕ)) (all : List (List ℕ))
     → StopsIn rule first w all first w
-stops-before rule first w all = record { place = place-before rule first w all }
+stops-before rule first w all = record { point = point-before rule first w all }
 
 -- answering stopped before a byte of the reply to a line was put
 pub stops-unshown : {E : Type 0} (rule : Rule E) (first now : List E) (w : Option (List ℕ)) (line : List ℕ)
     → IsUnshown rule first line now → StopsIn rule first w (line ∷ []) now w
-stops-unshown rule first now w line (inl same) = record { place = inl (same, refl) }
+stops-unshown rule first now w line (inl same) = record { point = inl (same, refl) }
 stops-unshown rule first now w line (inr next) = record {
-  place = inr (inl (next, (0, omega (arith, length-append ((rule first line).0) (10 ∷ [])), sym (append_known-nil w))));
+  point = inr (inl (next, (0, omega (arith, length-append ((rule first line).0) (10 ∷ [])), sym (append_known-nil w))));
 }
 
 pub ruleset unshown = (stops-unshown)
@@ -93,13 +93,13 @@ pub ruleset unshown = (stops-unshown)
 pub stops-append : {E : Type 0} {rule : Rule E} {first mid now : List E} {w0 w1 w : Option
     (List ℕ)} {some more : List (List ℕ)}
     → Answered rule first w0 some mid w1 → StopsIn rule mid w1 more now w → StopsIn rule first w0 (some ++ more) now w
-stops-append {E} {rule} {first} {mid} {now} {w0} {w1} {w} {some} {more} a s = record { place = place-append rule mid now w1 w more some first w0 a s.place }
+stops-append {E} {rule} {first} {mid} {now} {w0} {w1} {w} {some} {more} a s = record { point = point-append rule mid now w1 w more some first w0 a s.point }
 
 -- answering stopped among the first of some lines
 pub stops-more : {E : Type 0} {rule : Rule E} {first now : List E} {w0 w : Option
     (List ℕ)} {some : List (List ℕ)} (more : List (List ℕ))
     → StopsIn rule first w0 some now w → StopsIn rule first w0 (some ++ more) now w
-stops-more {E} {rule} {first} {now} {w0} {w} {some} more s = record { place = place-more rule now w more some first w0 s.place }
+stops-more {E} {rule} {first} {now} {w0} {w} {some} more s = record { point = point-more rule now w more some first w0 s.point }
 
 -- of all lines some were answered, and these are left
 pub record Reached {E : Type 0} (rule : Rule E) (first : List E) (w0 : Option (List ℕ)) (all : List (List ℕ))

@@ -7,5 +7,6 @@ pub mod Helds
 pub mod LineEnds
 pub mod LineLaws
 pub mod SameAnswers
+pub mod ShownLines
 pub mod SoFar
 pub mod SomeLines

@@ -4,7 +4,7 @@ use Rattle.std.proofs.lemmas.Bool.{cases_eq}
 use Rattle.std.specs.Io.KnownBytes.{append_known}
 use Rattle.farm_script.specs.Lines.{ended_after, rest_after}
 use Rattle.farm_script.specs.Held.{held}
-use Rattle.farm_script.specs.Script.{IsByHeld, Rule, reply_line, next_history, text_of, history_of, Answered, StopPlace, StopsIn}
+use Rattle.farm_script.specs.Script.{IsByHeld, Rule, reply_line, next_history, text_of, history_of, Answered, StopPoint, StopsIn}
 use Rattle.farm_script.proofs.LineEnds.{ended_after-feed, ended_after-other, rest_after-feed, rest_after-other}
 use Rattle.farm_script.proofs.Helds.{held-append-same}
 
@@ -54,29 +54,29 @@ answered-same {E} {rule} {first} {now} {w0} {w} {xs} {ys} alike same a = record 
   written = a.written ∙ ap (λ t. append_known w0 t) (text_of-same rule alike first xs ys same);
 }
 
-place-same : {E : Type 0} (rule : Rule E) → IsByHeld rule → (now : List E) (w : Option
+point-same : {E : Type 0} (rule : Rule E) → IsByHeld rule → (now : List E) (w : Option
     (List ℕ)) (xs ys : List (List ℕ)) (first : List E) (w0 : Option (List ℕ))
-    → map held xs ≡ map held ys → StopPlace rule first w0 xs now w → StopPlace rule first w0 ys now w
-place-same rule alike now w [] [] first w0 same s = s
-place-same rule alike now w [] (y ∷ ys) first w0 same s = absurd (cc)
-place-same rule alike now w (x ∷ xs) [] first w0 same s = absurd (cc)
-place-same rule alike now w (x ∷ xs) (y ∷ ys) first w0 same (inl s) = inl s
-place-same {E} rule alike now w (x ∷ xs) (y ∷ ys) first w0 same (inr (inl s)) =
+    → map held xs ≡ map held ys → StopPoint rule first w0 xs now w → StopPoint rule first w0 ys now w
+point-same rule alike now w [] [] first w0 same s = s
+point-same rule alike now w [] (y ∷ ys) first w0 same s = absurd (cc)
+point-same rule alike now w (x ∷ xs) [] first w0 same s = absurd (cc)
+point-same rule alike now w (x ∷ xs) (y ∷ ys) first w0 same (inl s) = inl s
+point-same {E} rule alike now w (x ∷ xs) (y ∷ ys) first w0 same (inr (inl s)) =
     let one : held x ≡ held y = cc in
     let P : List ℕ → List E → Type 0 = λ r h. (now ≡ h) × ((k : ℕ) × (k < length r) × (w ≡ append_known w0 (take k r))) in
     let with_reply : P (reply_line rule first y) (next_history rule first x) = subst (λ r. P r (next_history rule first x)) (reply_line-same rule alike first x y one) s in
     inr (inl (subst (λ h. P (reply_line rule first y) h) (next_history-same rule alike first x y one) with_reply))
-place-same {E} rule alike now w (x ∷ xs) (y ∷ ys) first w0 same (inr (inr s)) =
+point-same {E} rule alike now w (x ∷ xs) (y ∷ ys) first w0 same (inr (inr s)) =
     let one : held x ≡ held y = cc in
     let others : map held xs ≡ map held ys = cc in
-    let s1 : StopPlace rule (next_history rule first x) (append_known w0 (reply_line rule first x)) ys now w = place-same rule alike now w xs ys (next_history rule first x) (append_known w0 (reply_line rule first x)) others s in
-    let P : List ℕ → List E → Type 0 = λ r h. StopPlace rule h (append_known w0 r) ys now w in
+    let s1 : StopPoint rule (next_history rule first x) (append_known w0 (reply_line rule first x)) ys now w = point-same rule alike now w xs ys (next_history rule first x) (append_known w0 (reply_line rule first x)) others s in
+    let P : List ℕ → List E → Type 0 = λ r h. StopPoint rule h (append_known w0 r) ys now w in
     let with_reply : P (reply_line rule first y) (next_history rule first x) = subst (λ r. P r (next_history rule first x)) (reply_line-same rule alike first x y one) s1 in
     inr (inr (subst (λ h. P (reply_line rule first y) h) (next_history-same rule alike first x y one) with_reply))
 
 pub stops-same : {E : Type 0} {rule : Rule E} {first now : List E} {w0 w : Option (List ℕ)} {xs ys : List (List ℕ)}
     → IsByHeld rule → map held xs ≡ map held ys → StopsIn rule first w0 xs now w → StopsIn rule first w0 ys now w
-stops-same {E} {rule} {first} {now} {w0} {w} {xs} {ys} alike same s = record { place = place-same rule alike now w xs ys first w0 same s.place }
+stops-same {E} {rule} {first} {now} {w0} {w} {xs} {ys} alike same s = record { point = point-same rule alike now w xs ys first w0 same s.point }
 
 -- what was read before a text matters only as far as it is held
 pub ended_after-same : (line other bytes : List ℕ) → held line ≡ held other

@@ -4,7 +4,7 @@ use Rattle.std.proofs.lemmas.List.{append-nil, length-append, length-take-le, ta
 use Rattle.std.specs.Prelude.{◌⊎◌}
 use Rattle.std.specs.Io.KnownBytes.{append_known}
 use Rattle.link_io.proofs.Told.{append_known-nil, append_known-append}
-use Rattle.farm_script.specs.Script.{Rule, reply_line, next_history, text_of, SomeAnswered, StopPlace, StopsIn}
+use Rattle.farm_script.specs.Script.{Rule, reply_line, next_history, text_of, SomeAnswered, StopPoint, StopsIn}
 
 -- no reply is empty
 reply_line-some : {E : Type 0} (rule : Rule E) (first : List E) (line : List ℕ)
@@ -100,17 +100,17 @@ some-more rule first now w0 w line others r =
       };
     }
 
-some-from_place : {E : Type 0} (rule : Rule E) (now : List E) (w : Option
+some-from_point : {E : Type 0} (rule : Rule E) (now : List E) (w : Option
     (List ℕ)) (counted : List (List ℕ)) (first : List E) (w0 : Option (List ℕ))
-    → StopPlace rule first w0 counted now w → SomeAnswered rule first w0 counted now w
-some-from_place rule now w [] first w0 s = some-none rule first now w0 w [] s.0 s.1
-some-from_place rule now w (line ∷ others) first w0 (inl s) = some-none rule first now w0 w (line ∷ others) s.0 s.1
-some-from_place rule now w (line ∷ others) first w0 (inr (inl s)) = some-first rule first now w0 w line others s.1.0 s.0 s.1.1 s.1.2
-some-from_place rule now w (line ∷ others) first w0 (inr (inr s)) =
-    some-more rule first now w0 w line others (some-from_place rule now w others (next_history rule first line) (append_known w0 (reply_line rule first line)) s)
+    → StopPoint rule first w0 counted now w → SomeAnswered rule first w0 counted now w
+some-from_point rule now w [] first w0 s = some-none rule first now w0 w [] s.0 s.1
+some-from_point rule now w (line ∷ others) first w0 (inl s) = some-none rule first now w0 w (line ∷ others) s.0 s.1
+some-from_point rule now w (line ∷ others) first w0 (inr (inl s)) = some-first rule first now w0 w line others s.1.0 s.0 s.1.1 s.1.2
+some-from_point rule now w (line ∷ others) first w0 (inr (inr s)) =
+    some-more rule first now w0 w line others (some-from_point rule now w others (next_history rule first line) (append_known w0 (reply_line rule first line)) s)
 
 -- where answering stopped, so many lines are in the history, and so many were shown
 pub some-from_stops : {E : Type 0} {rule : Rule E} {first now : List E} {w0 w : Option
     (List ℕ)} {counted : List (List ℕ)}
     → StopsIn rule first w0 counted now w → SomeAnswered rule first w0 counted now w
-some-from_stops {E} {rule} {first} {now} {w0} {w} {counted} s = some-from_place rule now w counted first w0 s.place
+some-from_stops {E} {rule} {first} {now} {w0} {w} {counted} s = some-from_point rule now w counted first w0 s.point

@@ -7,3 +7,4 @@ pub mod LineFaults
 pub mod Lines
 pub mod RunEnds
 pub mod Script
+pub mod Shown

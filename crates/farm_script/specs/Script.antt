@@ -63,18 +63,18 @@ IsUnshown rule first line now = (now ≡ first) ⊎ (now ≡ next_history rule f
 
 -- where answering lines stopped: before the first of them, after it changed the history and a part of its reply was
 -- put, or among the others
-abbrev pub StopPlace : {E : Type 0} → Rule E → List E → Option (List ℕ) → List (List ℕ) → List E → Option (List ℕ)
+abbrev pub StopPoint : {E : Type 0} → Rule E → List E → Option (List ℕ) → List (List ℕ) → List E → Option (List ℕ)
     → Type 0
-StopPlace rule first written_first [] now written_now = (now ≡ first) × (written_now ≡ written_first)
-StopPlace rule first written_first (line ∷ others) now written_now =
+StopPoint rule first written_first [] now written_now = (now ≡ first) × (written_now ≡ written_first)
+StopPoint rule first written_first (line ∷ others) now written_now =
     ((now ≡ first) × (written_now ≡ written_first))
     ⊎ ((now ≡ next_history rule first line)
     × ((k : ℕ) × (k < length (reply_line rule first line))
     × (written_now ≡ append_known written_first (take k (reply_line rule first line)))))
-    ⊎ StopPlace rule (next_history rule first line) (append_known written_first (reply_line rule first line))
+    ⊎ StopPoint rule (next_history rule first line) (append_known written_first (reply_line rule first line))
     others now written_now
 
 -- answering these lines stopped among them
 pub record StopsIn {E : Type 0} (rule : Rule E) (first : List E) (written_first : Option (List ℕ))
     (answered : List (List ℕ)) (now : List E) (written_now : Option (List ℕ)) : Type 0 where
-  pub place : StopPlace rule first written_first answered now written_now
+  pub point : StopPoint rule first written_first answered now written_now

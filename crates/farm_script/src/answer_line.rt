@@ -88,7 +88,7 @@ pub fn answer_line<F: ScriptFarm, K: Sink>(
         (F.history farm.new) (K.written output.new)) }
     ensures cause { HasCause result (K.count output.old) (K.count output.new)
         (F.count farm.old) (F.count farm.new) (F.pending farm.new) }
-    ensures images { Grows F.moment F.left_since F.history F.pending farm.old farm.new }
+    ensures images { Grows F.tells F.told F.stands_for F.history F.pending farm.old farm.new }
 {
     let mut reply = reply_to(alloc, farm, line)?;
     reply.push('\n')?;
@@ -107,7 +107,7 @@ fn reply_to<F: ScriptFarm>(alloc: Global, farm: &mut F, line: &[u8]) -> Result<S
     ensures decided { ¬ IsErrOf result LineFault.StoreFault → F.pending farm.new ≡ [] }
     ensures store_fault { IsErrOf result LineFault.StoreFault → Rose (F.count farm.old) (F.count farm.new) }
     ensures stores { F.count farm.old ≤ F.count farm.new }
-    ensures images { Grows F.moment F.left_since F.history F.pending farm.old farm.new }
+    ensures images { Grows F.tells F.told F.stands_for F.history F.pending farm.old farm.new }
 {
     Ok(farm.reply(alloc, line)?)
 }

@@ -33,7 +33,7 @@ pub fn answer_piece<F: ScriptFarm, K: Sink>(
         (F.history farm.new) (K.written output.new)) }
     ensures cause { HasCause result (K.count output.old) (K.count output.new)
         (F.count farm.old) (F.count farm.new) (F.pending farm.new) }
-    ensures images { Grows F.moment F.left_since F.history F.pending farm.old farm.new }
+    ensures images { Grows F.tells F.told F.stands_for F.history F.pending farm.old farm.new }
 {
     let mut rest = piece;
     while let Some((end, after)) = split_line(rest) {
@@ -63,7 +63,7 @@ fn end_line<F: ScriptFarm, K: Sink>(
         (F.history farm.new) (K.written output.new)) }
     ensures cause { HasCause result (K.count output.old) (K.count output.new)
         (F.count farm.old) (F.count farm.new) (F.pending farm.new) }
-    ensures images { Grows F.moment F.left_since F.history F.pending farm.old farm.new }
+    ensures images { Grows F.tells F.told F.stands_for F.history F.pending farm.old farm.new }
 {
     line.hold(end)?;
     answer_line(alloc, farm, output, line.bytes())?;

@@ -21,8 +21,10 @@ mod memory_farm;
 mod run_end;
 mod script_farm;
 mod script_run;
+mod shown;
 
 pub use founded::run_founded;
 pub use run_end::RunEnd;
 pub use script_farm::{ReplyFault, ScriptFarm};
 pub use script_run::run_script;
+pub use shown::shown_text;

@@ -15,7 +15,7 @@ use std::alloc::Global;
 impl ScriptFarm for Farm {
     type Entry = Entry;
 
-    ghost use Rattle.std.specs.Prelude.{[]};
+    ghost use Rattle.std.specs.Prelude.{[], false};
     ghost use Rattle.farm_script.specs.ByHeld.{farm_rule-by_held};
     ghost use Rattle.farm_script.specs.FarmRule.{farm_rule};
 
@@ -27,10 +27,12 @@ impl ScriptFarm for Farm {
 
     ghost count = { λ _. 0 };
 
-    ghost moment = { λ _. 0 };
+    // It has no disk.
+    ghost tells = { λ _. false };
 
-    // A crash leaves nothing.
-    ghost left_since = { λ _ _ _. ⊥ };
+    ghost told = { λ _. record { bytes = []; steps = [] } };
+
+    ghost stands_for = { λ _ _. ⊥ };
 
     fn reply(&mut self, alloc: Global, line: &[u8]) -> Result<String, ReplyFault> {
         Ok(answer_line(alloc, self, line)?)

@@ -1,6 +1,7 @@
 //! What answers the lines of a script.
 
-ghost use Rattle.std.specs.Prelude.{◌≡◌, ◌≤◌, ◌⊎◌, ◌++◌, ℕ, List, [], IfOk, OnOk, IsErrOf, string_bytes};
+ghost use Rattle.std.specs.Prelude.{◌≡◌, ◌≤◌, ◌⊎◌, ◌++◌, ℕ, Bool, List, [], IfOk, OnOk, IsErrOf, string_bytes};
+ghost use Rattle.farm_disk.specs.Images.{DiskState};
 ghost use Rattle.link_io.specs.Counts.{Rose};
 ghost use Rattle.farm_script.specs.Held.{held};
 ghost use Rattle.farm_script.specs.Images.{Grows};
@@ -46,11 +47,14 @@ pub trait ScriptFarm {
     /// How often the store has failed so far.
     ghost count: { Self → ℕ };
 
-    /// A number that never falls, by which moments in the life of the store are told apart.
-    ghost moment: { Self → ℕ };
+    /// Whether it tells contracts of the disk that its history stands on. A farm in memory has none.
+    ghost tells: { Self → Bool };
 
-    /// The histories that a crash since a moment might have left.
-    ghost left_since: { Self → ℕ → List Self.Entry → Type 0 };
+    /// What that disk reads as, and what was done to it so far.
+    ghost told: { Self → DiskState };
+
+    /// The bytes of a disk stand for a history.
+    ghost stands_for: { List Self.Entry → List ℕ → Type 0 };
 
     /// Answers a line. Of a line that is too long, its first bytes are enough.
     fn reply(&mut self, alloc: Global, line: &[u8]) -> Result<String, ReplyFault>
@@ -70,7 +74,7 @@ pub trait ScriptFarm {
             × ((history self.new ≡ history self.old) ⊎ (history self.new ≡ (rule (history self.old) line.now).1)) }
 
         // A crash in the call leaves a history between the two.
-        ensures images { Grows moment left_since history pending self.old self.new };
+        ensures images { Grows tells told stands_for history pending self.old self.new };
 
     /// A line is answered by what is held of it.
     ghost by_held: { (H : List Self.Entry) (line : List ℕ) → rule H (held line) ≡ rule H line };

@@ -14,11 +14,8 @@ use crate::answer_piece::answer_piece;
 use crate::held_line::HeldLine;
 use crate::run_end::RunEnd;
 use crate::script_farm::ScriptFarm;
-use link_io::{INPUT_LIMIT, Sink, Source, take_piece};
+use link_io::{INPUT_LIMIT, PIECE, Sink, Source, take_piece};
 use std::alloc::Global;
-
-/// How many bytes are taken at once at most.
-const PIECE: usize = 8_192;
 
 /// Runs the script that an input holds: reads what there is, answers each line as soon as it is whole, and puts its
 /// reply line before more is taken. A last line without a line feed is answered once the input has ended. No more is
@@ -40,7 +37,7 @@ pub fn run_script<F: ScriptFarm, S: Source, K: Sink>(
         (streams S.Source K.Sink input.old output.old) (streams S.Source K.Sink input.new output.new) }
     ensures store_fault { result ≡ RunEnd.StoreFault → Rose (F.count farm.old) (F.count farm.new) }
     ensures decided { result ≢ RunEnd.StoreFault → F.pending farm.new ≡ [] }
-    ensures images { Grows F.moment F.left_since F.history F.pending farm.old farm.new }
+    ensures images { Grows F.tells F.told F.stands_for F.history F.pending farm.old farm.new }
 {
     run_lines(alloc, farm, input, output)
 }
@@ -59,7 +56,7 @@ fn run_lines<F: ScriptFarm, S: Source, K: Sink>(
         (record { streams = streams S.Source K.Sink input.new output.new; history = F.history farm.new }) }
     ensures store_fault { result ≡ RunEnd.StoreFault → Rose (F.count farm.old) (F.count farm.new) }
     ensures decided { result ≢ RunEnd.StoreFault → F.pending farm.new ≡ [] }
-    ensures images { Grows F.moment F.left_since F.history F.pending farm.old farm.new }
+    ensures images { Grows F.tells F.told F.stands_for F.history F.pending farm.old farm.new }
 {
     let mut line = HeldLine::new(alloc);
     let mut buf = [0; PIECE];
@@ -101,7 +98,7 @@ fn answer_rest<F: ScriptFarm, K: Sink>(
         (F.history farm.new) (K.written output.new)) }
     ensures cause { HasCause result (K.count output.old) (K.count output.new)
         (F.count farm.old) (F.count farm.new) (F.pending farm.new) }
-    ensures images { Grows F.moment F.left_since F.history F.pending farm.old farm.new }
+    ensures images { Grows F.tells F.told F.stands_for F.history F.pending farm.old farm.new }
 {
     let bytes = line.bytes();
     if bytes.is_empty() {

@@ -5,11 +5,8 @@ ghost use Rattle.std.specs.Io.KnownBytes.{prepend_known};
 ghost use Rattle.link_io.specs.Counts.{Rose};
 ghost use Rattle.finder_program.specs.ReadInput.{WasRead};
 
-use link_io::{INPUT_LIMIT, Source, TakeFailed, take_piece};
+use link_io::{INPUT_LIMIT, PIECE, Source, TakeFailed, take_piece};
 use std::alloc::{AllocError, Global};
-
-/// How many bytes are taken at once at most.
-const PIECE: usize = 8_192;
 
 /// Why an input was not read to its end.
 #[derive(Clone, Copy, Debug, PartialEq, Eq)]

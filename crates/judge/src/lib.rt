@@ -5,7 +5,7 @@
 //! fate of each run line (`Fates`) and the text of the answer (`Answer`), over the definitions of the inference in
 //! `weight_exact`. The code reads the input once and keeps a `posterior::Belief` in place of the runs; limits are those
 //! of `flake_rate` and `weight_exact`, and line feeds are found by `memchr`. The layer above may use [`judge`], whose
-//! contract is that definition, and cite the laws over it ([`laws`]).
+//! contract is that definition, [`number`], which reads a number in text, and cite the laws over the definition ([`laws`]).
 #![tactic(auto)]
 
 mod answer;
@@ -26,5 +26,6 @@ mod words;
 pub use answer::judge;
 pub use fate::Fate;
 pub use fault::JudgeFault;
+pub use numeral::number;
 pub use run_line::RunLine;
 pub use standing::Standing;

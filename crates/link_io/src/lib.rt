@@ -27,6 +27,6 @@ mod tests;
 pub use clock::Clock;
 pub use memory::{MemClock, MemSink, MemSource};
 pub use sink::{Put, PutFault, Sink, put_all};
-pub use source::{INPUT_LIMIT, Source, TakeFailed, Took, take_piece};
+pub use source::{INPUT_LIMIT, PIECE, Source, TakeFailed, Took, take_piece};
 pub use standard::{InputSource, OutputSink};
 pub use system_clock::SystemClock;

@@ -8,6 +8,9 @@ ghost use Rattle.link_io.specs.Took.{IfTook, OnTookFailed};
 /// How many bytes are taken from one input at most.
 pub const INPUT_LIMIT: usize = 1 << 30;
 
+/// How many bytes are taken at once at most: the size of a buffer for [`take_piece`].
+pub const PIECE: usize = 8_192;
+
 /// What a take answers.
 #[derive(Clone, Copy, Debug, PartialEq, Eq)]
 pub enum Took {

@@ -9,7 +9,7 @@ abbrev pub invariant-loop-end : goal.invariant-loop-end
 invariant-loop-end g l = record {
   answered : Reached g.F.ScriptFarm.rule (g.F.ScriptFarm.history l.fn.farm) (g.K.Sink.written l.fn.output) (ended_after l.fn.line l.fn.piece) (g.F.ScriptFarm.history l.farm) (g.K.Sink.written l.output) (ended_after l.line l.rest);
   rest : rest_after l.line l.rest ≡ rest_after l.fn.line l.fn.piece;
-  images : Grows g.F.ScriptFarm.moment g.F.ScriptFarm.left_since g.F.ScriptFarm.history g.F.ScriptFarm.pending l.fn.farm l.farm;
+  images : Grows g.F.ScriptFarm.tells g.F.ScriptFarm.told g.F.ScriptFarm.stands_for g.F.ScriptFarm.history g.F.ScriptFarm.pending l.fn.farm l.farm;
   decided : g.F.ScriptFarm.pending l.farm ≡ [];
   writes : g.K.Sink.count l.fn.output ≤ g.K.Sink.count l.output;
   stores : g.F.ScriptFarm.count l.fn.farm ≤ g.F.ScriptFarm.count l.farm;

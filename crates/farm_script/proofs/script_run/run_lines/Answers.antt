@@ -32,8 +32,8 @@ returns-in-Err-answer_rest-clause-ends g c =
     let old = c.loop-taken.invariant in
     let took = c.in-Ok.ensures in
     let none = nil_from_length c.in-Ok.piece.now (eqb-true _ _ (sym c.is_empty.ensures ∙ c.if-is_empty.true)) in
-    let place = so_far-stop_end g.met.F.ScriptFarm.by_held (so_far-nothing c.in-Ok.piece.now none old.so_far took.taken) c.in-Err-answer_rest.ensures.stops in
-    let stopped = stopped-at _ _ _ true c.loop-taken.taken place old.few (λ _. ended-from _ _ _ none took.taken took.end) in
+    let point = so_far-stop_end g.met.F.ScriptFarm.by_held (so_far-nothing c.in-Ok.piece.now none old.so_far took.taken) c.in-Err-answer_rest.ensures.stops in
+    let stopped = stopped-at _ _ _ true c.loop-taken.taken point old.few (λ _. ended-from _ _ _ none took.taken took.end) in
     rw c.end_after.ensures (stopped-ends _ c.in-Err-answer_rest.fault _ _ old.writes c.in-Err-answer_rest.ensures.cause stopped)
 
 pub returns-in-Err-answer_piece-clause-ends : goal.returns-in-Err-answer_piece-clause-ends
@@ -41,6 +41,6 @@ returns-in-Err-answer_piece-clause-ends g c =
     let old = c.loop-taken.invariant in
     let stop = c.in-Err-answer_piece.ensures in
     let few : c.loop-taken.taken + length c.in-Ok.piece.now ≤ INPUT_LIMIT = search rules in
-    let place = so_far-stop c.in-Ok.piece.now g.met.F.ScriptFarm.by_held old.so_far c.in-Ok.ensures.taken stop.stops in
-    let stopped = stopped-at _ _ _ false _ place few (λ e. absurd {0} (false≢true e)) in
+    let point = so_far-stop c.in-Ok.piece.now g.met.F.ScriptFarm.by_held old.so_far c.in-Ok.ensures.taken stop.stops in
+    let stopped = stopped-at _ _ _ false _ point few (λ e. absurd {0} (false≢true e)) in
     rw c.end_after-in-Err-answer_piece.ensures (stopped-ends _ c.in-Err-answer_piece.fault _ _ old.writes stop.cause stopped)

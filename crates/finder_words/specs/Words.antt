@@ -1,0 +1,78 @@
+-- What the program's words ask for.
+use Rattle.std.specs.Prelude.{ℕ, ℤ, pos, neg_ℤ, Bool, true, false, not, ◌&&◌, ◌==◌, List, [], ◌∷◌, take, drop, Option, Some, None, is_none, is_some, if◌then◌else◌, codes}
+use Rattle.std.specs.Option.{option_map}
+use Rattle.std.specs.Str.{bytes_eq}
+use Rattle.farm_entry.specs.Settings.{settings_daily, settings_fault, settings_lease_ms, settings_zone_minutes}
+use Rattle.judge.specs.Text.{number}
+use Rattle.finder_words.specs.declared.subcommand.Subcommand.{Subcommand}
+use Rattle.finder_words.specs.declared.subcommand.Subcommand.TheVariants as sub
+
+-- What is asked for: a search judged; a script run over a farm in memory; a journal founded, with how long a lease lasts
+-- in milliseconds, how many orders a day may have, and how far its zone lies east of UTC in minutes; a journal shown; a
+-- script run over a journal.
+pub data Asked : Type 0 where
+  judge : Asked
+  run : Asked
+  found : ℕ → ℕ → ℤ → Asked
+  show : Asked
+  run_journal : Asked
+
+-- what a subcommand does
+abbrev pub asked_by : Subcommand → Asked
+asked_by sub.Judge = judge
+asked_by sub.Run = run
+asked_by (sub.Found settings) =
+    found (settings_lease_ms settings) (settings_daily settings) (settings_zone_minutes settings)
+asked_by sub.Show = show
+asked_by sub.RunJournal = run_journal
+
+-- whether a word may name a journal: it isn't empty, and doesn't begin with a dash
+abbrev pub names_journal : List ℕ → Bool
+names_journal [] = false
+names_journal (b ∷ bs) = not (b == 45)
+
+-- how far a zone lies east of UTC, in minutes: `east:` or `west:` and a number
+abbrev pub zone_named : List ℕ → Option ℤ
+zone_named word =
+    if bytes_eq (take 5 word) (codes "east:") then option_map pos (number (drop 5 word))
+    else if bytes_eq (take 5 word) (codes "west:") then option_map (λ minutes. neg_ℤ (pos minutes)) (number (drop 5 word))
+    else None
+
+-- a journal to be founded with these numbers, where they are settings
+abbrev pub founding_asked : Option ℕ → Option ℕ → Option ℤ → Option Asked
+founding_asked (Some lease_ms) (Some daily) (Some zone) =
+    if is_none (settings_fault lease_ms daily zone) then Some (found lease_ms daily zone) else None
+founding_asked _ _ _ = None
+
+-- a word alone
+abbrev pub asked_alone : List ℕ → Option Asked
+asked_alone word =
+    if bytes_eq word (codes "judge") then Some judge else if bytes_eq word (codes "run") then Some run else None
+
+-- a word before the name of a journal
+abbrev pub asked_of_journal : List ℕ → Option Asked
+asked_of_journal word =
+    if bytes_eq word (codes "show") then Some show
+    else if bytes_eq word (codes "run") then Some run_journal else None
+
+-- the same with the word that names the journal, where it may name one
+abbrev pub asked_with : (word journal : List ℕ) → Option Asked
+asked_with word journal = if names_journal journal then asked_of_journal word else None
+
+-- what a list of words asks for, if it asks for anything
+abbrev pub asked : List (List ℕ) → Option Asked
+asked (word ∷ []) = asked_alone word
+asked (word ∷ journal ∷ []) = asked_with word journal
+asked (word ∷ journal ∷ lease_ms ∷ daily ∷ zone ∷ []) =
+    if bytes_eq word (codes "found") && names_journal journal
+    then founding_asked (number lease_ms) (number daily) (zone_named zone) else None
+asked _ = None
+
+-- the second of a list of words, or nothing
+abbrev pub second_word : List (List ℕ) → List ℕ
+second_word (word ∷ second ∷ others) = second
+second_word _ = []
+
+-- the journal that a list of words names, where it asks for something and names one, or nothing
+abbrev pub journal_named : List (List ℕ) → List ℕ
+journal_named words = if is_some (asked words) then second_word words else []

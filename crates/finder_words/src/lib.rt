@@ -1,0 +1,15 @@
+//! The words that the program is called with: which subcommand they name, with its numbers, and which journal.
+//!
+//! `asked` of `specs/Words` says what a list of words asks for, if it asks for anything; [`read_subcommand`] reads just
+//! that, and [`read_places`] gives the path of the journal. A word that begins with a dash names nothing, and neither do words
+//! of which one is missing or one too many.
+//!
+//! The crate stands on `judge` for numbers in text, on `farm_entry` for the settings of a farm and their limits, and on
+//! `farm_types`. The layer above may use every name below.
+#![tactic(auto)]
+
+mod places;
+mod subcommand;
+
+pub use places::{Places, read_places};
+pub use subcommand::{Subcommand, read_subcommand};
