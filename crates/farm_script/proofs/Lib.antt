@@ -10,3 +10,4 @@ pub mod SameAnswers
 pub mod ShownLines
 pub mod SoFar
 pub mod SomeLines
+pub mod StoreAnswers

@@ -8,3 +8,4 @@ pub mod Lines
 pub mod RunEnds
 pub mod Script
 pub mod Shown
+pub mod StoreFarm

@@ -22,6 +22,7 @@ mod run_end;
 mod script_farm;
 mod script_run;
 mod shown;
+mod store_farm;
 
 pub use founded::run_founded;
 pub use run_end::RunEnd;

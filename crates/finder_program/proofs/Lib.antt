@@ -1,2 +1,5 @@
-pub mod Taken
+pub mod Causes
+pub mod JournalRuns
 pub mod Judging
+pub mod Putting
+pub mod Taken

@@ -6,7 +6,7 @@ use Rattle.judge.specs.Answer.{judged}
 use Rattle.link_io.specs.Streams.{Streams}
 use Rattle.link_io.specs.declared.source.TheConstants.{INPUT_LIMIT}
 use Rattle.finder_program.specs.declared.status.Status.{Status}
-use Rattle.finder_program.specs.declared.status.Status.TheVariants.{Done, Usage, ReadFault, WriteFault, Memory, BadInput, InputLimit}
+use Rattle.finder_program.specs.declared.status.Status.TheVariants.{Done, Usage, ReadFault, WriteFault, StoreFault, Damaged, Unborn, AlreadyBorn, Memory, BadInput, InputLimit}
 
 -- the answer's text, or nothing where the input is outside the form
 abbrev pub text_of : Result (List ℕ) ℕ → List ℕ
@@ -30,6 +30,10 @@ JudgeEnds WriteFault before after =
     (after.left ≡ Some [])
     × ((text : List ℕ) × (judged all ≡ Ok text)
     × ((n : ℕ) × (n < length text) × (after.written ≡ append_known before.written (take n text)))))
+JudgeEnds (StoreFault faults_before faults_after) before after = ⊥
+JudgeEnds (Damaged offset) before after = ⊥
+JudgeEnds Unborn before after = ⊥
+JudgeEnds AlreadyBorn before after = ⊥
 JudgeEnds Memory before after =
     (all : List ℕ) → before.left ≡ Some all →
     (n : ℕ) × (after.written ≡ append_known before.written (take n (text_of (judged all))))

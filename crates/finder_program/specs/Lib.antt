@@ -1,5 +1,10 @@
-pub mod Words
 pub mod Statuses
 pub mod ReadInput
 pub mod JudgeCommand
 pub mod RunCommand
+pub mod Disks
+pub mod TextPut
+pub mod Opening
+pub mod RunJournal
+pub mod Show
+pub mod Found

@@ -7,13 +7,17 @@ use Rattle.link_io.specs.declared.sink.PutFault.TheVariants as put
 use Rattle.finder_program.specs.declared.read_input.InputFault.{InputFault}
 use Rattle.finder_program.specs.declared.read_input.InputFault.TheVariants as input
 use Rattle.finder_program.specs.declared.status.Status.{Status}
-use Rattle.finder_program.specs.declared.status.Status.TheVariants.{Done, Usage, ReadFault, WriteFault, Memory, BadInput, InputLimit}
+use Rattle.finder_program.specs.declared.status.Status.TheVariants.{Done, Usage, ReadFault, WriteFault, StoreFault, Damaged, Unborn, AlreadyBorn, Memory, BadInput, InputLimit}
 
 abbrev pub exit_code_of : Status → ℕ
 exit_code_of Done = 0
 exit_code_of Usage = 2
 exit_code_of ReadFault = 3
 exit_code_of WriteFault = 4
+exit_code_of (StoreFault before after) = 5
+exit_code_of (Damaged offset) = 6
+exit_code_of Unborn = 7
+exit_code_of AlreadyBorn = 8
 exit_code_of Memory = 11
 exit_code_of (BadInput line) = 12
 exit_code_of InputLimit = 13

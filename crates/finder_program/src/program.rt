@@ -1,53 +1,97 @@
 //! The call that the program is.
 
-ghost use Rattle.std.specs.Prelude.{◌≡◌, ◌↔◌, Some, None, map, string_bytes};
+ghost use Rattle.std.specs.Prelude.{◌≡◌, ◌⊎◌, ◌↔◌, ℕ, ℤ, Some, None, map, string_bytes};
+ghost use Rattle.farm_entry.specs.declared.settings.Settings.{Settings};
 ghost use Rattle.link_io.specs.Streams.{streams};
-ghost use Rattle.finder_program.specs.Words.{subcommand_of};
+ghost use Rattle.finder_words.specs.Words.{asked, found, judge, run, run_journal, show};
+ghost use Rattle.finder_program.specs.Disks.{HasStoreCause, disk_seen};
+ghost use Rattle.finder_program.specs.Found.{HasNumbers, JournalFoundEnds};
 ghost use Rattle.finder_program.specs.JudgeCommand.{JudgeCompletes, JudgeEnds};
 ghost use Rattle.finder_program.specs.RunCommand.{MemoryRunCompletes, MemoryRunEnds};
+ghost use Rattle.finder_program.specs.RunJournal.{JournalRunEnds};
+ghost use Rattle.finder_program.specs.Show.{ShowEnds};
+ghost use Rattle.finder_program.specs.TextPut.{output_seen};
 
+use crate::found_command::found_command;
 use crate::judge_command::judge_command;
 use crate::run_command::run_command;
+use crate::run_journal::run_journal;
+use crate::show_command::show_command;
 use crate::status::Status;
-use crate::subcommand::{Subcommand, read_subcommand};
-use link_io::{Sink, Source};
+use farm_disk::Disk;
+use finder_words::{Subcommand, read_subcommand};
+use link_io::{Clock, Sink, Source};
 use std::alloc::Global;
 
-/// Runs the subcommand that the words name, over the objects that it is handed. `words` are the program's words
-/// without its own name.
-pub fn finder<S: Source, K: Sink>(
+/// Runs the subcommand that the words name, over the objects that it is handed, and gives the disk back. `words` are the
+/// program's words without its own name; `disk` is that of the journal which they name.
+pub fn finder<S: Source, K: Sink, D: Disk, C: Clock>(
     alloc: Global,
     words: &[String],
     input: &mut S,
     output: &mut K,
-) -> Status
+    disk: D,
+    clock: &C,
+) -> (Status, D)
     // Words that name no subcommand are refused, and nothing is read or written then.
-    ensures usage { (result ≡ Status.Usage) ↔ (subcommand_of (map string_bytes words.now) ≡ None) }
-    ensures untouched { result ≡ Status.Usage → (input.new ≡ input.old) × (output.new ≡ output.old) }
+    ensures usage { (result.0 ≡ Status.Usage) ↔ (asked (map string_bytes words.now) ≡ None) }
+    ensures untouched { result.0 ≡ Status.Usage
+        → (input.new ≡ input.old) × (output.new ≡ output.old) × (result.1 ≡ disk) }
 
     // What each status of `judge` says, and that an input in its form is answered.
-    ensures judge { subcommand_of (map string_bytes words.now) ≡ Some Subcommand.Judge →
+    ensures judge { asked (map string_bytes words.now) ≡ Some judge →
         let before = streams S.Source K.Sink input.old output.old in
         let after = streams S.Source K.Sink input.new output.new in
-        JudgeEnds result before after }
-    ensures judge_completes { subcommand_of (map string_bytes words.now) ≡ Some Subcommand.Judge →
+        JudgeEnds result.0 before after }
+    ensures judge_completes { asked (map string_bytes words.now) ≡ Some judge →
         let before = streams S.Source K.Sink input.old output.old in
         let after = streams S.Source K.Sink input.new output.new in
-        JudgeCompletes result before after }
+        JudgeCompletes result.0 before after }
 
     // What each status of `run` says, and that a script is run to its end.
-    ensures run { subcommand_of (map string_bytes words.now) ≡ Some Subcommand.Run →
+    ensures run { asked (map string_bytes words.now) ≡ Some run →
         let before = streams S.Source K.Sink input.old output.old in
         let after = streams S.Source K.Sink input.new output.new in
-        MemoryRunEnds result before after }
-    ensures run_completes { subcommand_of (map string_bytes words.now) ≡ Some Subcommand.Run →
+        MemoryRunEnds result.0 before after }
+    ensures run_completes { asked (map string_bytes words.now) ≡ Some run →
         let before = streams S.Source K.Sink input.old output.old in
         let after = streams S.Source K.Sink input.new output.new in
-        MemoryRunCompletes result before after }
+        MemoryRunCompletes result.0 before after }
+
+    // Neither touches the disk.
+    ensures no_disk { (asked (map string_bytes words.now) ≡ Some judge) ⊎ (asked (map string_bytes words.now) ≡ Some run)
+        → result.1 ≡ disk }
+
+    // What each status of `found` says, and what a crash leaves.
+    ensures found { (lease_ms daily : ℕ) (zone_minutes : ℤ)
+        → asked (map string_bytes words.now) ≡ Some (found lease_ms daily zone_minutes) →
+        let before = output_seen K.Sink output.old in
+        let after = output_seen K.Sink output.new in
+        (settings : Settings) × HasNumbers settings lease_ms daily zone_minutes
+        × JournalFoundEnds C.Clock clock.now settings result.0 before after
+        (disk_seen D.Disk disk) (disk_seen D.Disk result.1) }
+
+    // What each status of `show` says.
+    ensures show { asked (map string_bytes words.now) ≡ Some show →
+        let before = output_seen K.Sink output.old in
+        let after = output_seen K.Sink output.new in
+        ShowEnds result.0 before after (disk_seen D.Disk disk) (disk_seen D.Disk result.1) }
+
+    // What each status of `run JOURNAL` says, and what a crash leaves at any moment.
+    ensures run_journal { asked (map string_bytes words.now) ≡ Some run_journal →
+        let before = streams S.Source K.Sink input.old output.old in
+        let after = streams S.Source K.Sink input.new output.new in
+        JournalRunEnds result.0 before after (disk_seen D.Disk disk) (disk_seen D.Disk result.1) }
+
+    // A fault of the store is answered only where the disk failed in this call.
+    ensures store_fault { HasStoreCause result.0 (disk_seen D.Disk disk) (disk_seen D.Disk result.1) }
 {
     match read_subcommand(words) {
-        Some(Subcommand::Judge) => judge_command(alloc, input, output),
-        Some(Subcommand::Run) => run_command(alloc, input, output),
-        None => Status::Usage,
+        Some(Subcommand::Judge) => (judge_command(alloc, input, output), disk),
+        Some(Subcommand::Run) => (run_command(alloc, input, output), disk),
+        Some(Subcommand::Found(settings)) => found_command(alloc, settings, output, disk, clock),
+        Some(Subcommand::Show) => show_command(alloc, output, disk),
+        Some(Subcommand::RunJournal) => run_journal(alloc, input, output, disk),
+        None => (Status::Usage, disk),
     }
 }

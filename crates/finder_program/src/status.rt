@@ -18,6 +18,19 @@ pub enum Status {
     ReadFault,
     /// The output failed.
     WriteFault,
+    /// The disk of the journal failed: its count of faults before, and after.
+    StoreFault {
+        /// The count before.
+        before: u64,
+        /// The count after.
+        after: u64,
+    },
+    /// The journal is damaged from this offset on.
+    Damaged(u64),
+    /// The journal has not been founded.
+    Unborn,
+    /// The journal is founded already.
+    AlreadyBorn,
     /// Out of memory.
     Memory,
     /// The line with this number, counted from 1, is the first outside the form.
@@ -38,6 +51,10 @@ impl Status {
             Status::Usage => 2,
             Status::ReadFault => 3,
             Status::WriteFault => 4,
+            Status::StoreFault { .. } => 5,
+            Status::Damaged(_) => 6,
+            Status::Unborn => 7,
+            Status::AlreadyBorn => 8,
             Status::Memory => 11,
             Status::BadInput(_) => 12,
             Status::InputLimit => 13,
@@ -52,6 +69,10 @@ impl fmt::Display for Status {
             Status::Usage => write!(f, "usage"),
             Status::ReadFault => write!(f, "the input could not be read"),
             Status::WriteFault => write!(f, "the output could not be written"),
+            Status::StoreFault { .. } => write!(f, "the journal could not be used"),
+            Status::Damaged(offset) => write!(f, "the journal is damaged at byte {offset}"),
+            Status::Unborn => write!(f, "the journal has not been founded"),
+            Status::AlreadyBorn => write!(f, "the journal is already founded"),
             Status::Memory => write!(f, "out of memory"),
             Status::BadInput(line) => write!(f, "line {line} is not in the written form"),
             Status::InputLimit => write!(f, "the input is too long"),

@@ -2,9 +2,10 @@
 
 ghost use Rattle.std.specs.Prelude.{None};
 
-use crate::played::{Played, play, play_with_fault, words_of};
+use crate::played::{Played, first_moment, play, play_with_fault, words_of};
+use farm_disk::CalmDisk;
 use finder_program::{Status, finder};
-use link_io::{MemSink, MemSource, Put, Sink};
+use link_io::{MemSource, Put, Sink};
 use std::alloc::{AllocError, Global};
 use std::test::Fail;
 
@@ -109,7 +110,8 @@ fn play_to_stop(
         stop,
         faults: 0,
     };
-    let status = finder(alloc, &words, &mut source, &mut sink);
+    let disk = CalmDisk::of(Vec::new(alloc));
+    let (status, _) = finder(alloc, &words, &mut source, &mut sink, disk, &first_moment());
     Ok(Played {
         status,
         written: Vec::from_slice(alloc, sink.bytes.as_slice())?,
@@ -142,33 +144,5 @@ fn a_put_that_stops_leaves_the_bytes_before_it(rt: HostRuntime) -> Result<(), Fa
             }
         }
     }
-    Ok(())
-}
-
-#[test]
-fn other_words_are_refused(rt: HostRuntime) -> Result<(), Fail> {
-    for word in [
-        "",
-        "Judge",
-        "judge ",
-        "--help",
-        "-h",
-        "--version",
-        "running",
-        "serve",
-    ] {
-        let ended = play(rt.alloc(), word, SCRIPT.as_bytes(), 0)?;
-        assert_eq!(rt; ended.status, Status::Usage, "at {word}");
-        assert!(rt; ended.written.is_empty(), "at {word}");
-    }
-    // There are no journals yet.
-    let mut words = words_of(rt.alloc(), "run")?;
-    words.push(String::from_str(rt.alloc(), "journal")?)?;
-    let mut source = MemSource::of(Vec::new(rt.alloc()), Vec::new(rt.alloc()));
-    let mut sink = MemSink::of(rt.alloc(), Vec::new(rt.alloc()));
-    assert_eq!(rt;
-        finder(rt.alloc(), &words, &mut source, &mut sink),
-        Status::Usage
-    );
     Ok(())
 }

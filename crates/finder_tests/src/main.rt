@@ -1,17 +1,21 @@
 //! Plays the cases of standard input through `finder`, each whole and in pieces, and prints what each was answered. A
 //! case is a line `# SUBCOMMAND: NAME`, its input, and a line feed. The file `stdout` has the answers that are wanted:
 //! they come from worked numbers and from a program of its own over the definitions, not from this one. The tests
-//! beside it are of what no text file holds well: long lines, bytes that are no text, faults in mid-stream, and each
-//! status.
+//! beside it are of what no text file holds well: long lines, bytes that are no text, faults in mid-stream, journals, words,
+//! and each status.
 #![tactic(auto)]
 
 #[cfg(test)]
 mod faults;
 #[cfg(test)]
+mod journals;
+#[cfg(test)]
 mod long_lines;
 mod played;
 #[cfg(test)]
 mod statuses;
+#[cfg(test)]
+mod words;
 
 use finder_program::Status;
 use played::play;

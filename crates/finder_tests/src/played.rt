@@ -1,7 +1,9 @@
 //! A call of `finder` over inputs and outputs in memory.
 
+use farm_disk::CalmDisk;
+use farm_types::{MOMENT_MIN_MS, Moment};
 use finder_program::{Status, finder};
-use link_io::{MemSink, MemSource};
+use link_io::{MemClock, MemSink, MemSource};
 use std::alloc::{AllocError, Global};
 
 /// How a call ended, and what it wrote.
@@ -9,6 +11,14 @@ use std::alloc::{AllocError, Global};
 pub struct Played {
     pub status: Status,
     pub written: Vec<u8>,
+}
+
+/// A clock that stands at the first moment that there is.
+pub fn first_moment() -> MemClock {
+    match Moment::of(MOMENT_MIN_MS) {
+        Ok(at) => MemClock::at(at),
+        Err(_) => unreachable!(),
+    }
 }
 
 /// The words of a subcommand that takes no further word.
@@ -47,7 +57,15 @@ pub fn play_with_fault(
 fn play_source(alloc: Global, word: &str, mut input: MemSource) -> Result<Played, AllocError> {
     let words = words_of(alloc, word)?;
     let mut output = MemSink::of(alloc, Vec::new(alloc));
-    let status = finder(alloc, &words, &mut input, &mut output);
+    let disk = CalmDisk::of(Vec::new(alloc));
+    let (status, _) = finder(
+        alloc,
+        &words,
+        &mut input,
+        &mut output,
+        disk,
+        &first_moment(),
+    );
     Ok(Played {
         status,
         written: Vec::from_slice(alloc, output.bytes())?,

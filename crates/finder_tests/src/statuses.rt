@@ -11,6 +11,17 @@ fn each_status_has_its_text_and_its_number(rt: HostRuntime) -> Result<(), Fail> 
         (Status::Usage, 2, "usage"),
         (Status::ReadFault, 3, "the input could not be read"),
         (Status::WriteFault, 4, "the output could not be written"),
+        (
+            Status::StoreFault {
+                before: 0,
+                after: 1,
+            },
+            5,
+            "the journal could not be used",
+        ),
+        (Status::Damaged(29), 6, "the journal is damaged at byte 29"),
+        (Status::Unborn, 7, "the journal has not been founded"),
+        (Status::AlreadyBorn, 8, "the journal is already founded"),
         (Status::Memory, 11, "out of memory"),
         (Status::BadInput(1), 12, "line 1 is not in the written form"),
         (

@@ -1,0 +1,66 @@
+#!/usr/bin/env python3
+"""Times `run JOURNAL` over leases that each expire before the next one, beside a plain program in C that makes the same
+writes and syncs (plain_journal.c, built here by `cc`), and prints the ratio of the two; and how long `show` takes to open
+the journal afterwards.
+
+    bench/journal.py [FOLDER [LEASES]]        1000 leases in the folder for temporary files, if not said
+
+Run it after `./finder build`. The two programs are run in turn, and each has the least of its times. What a sync takes is
+the disk's: on a folder in memory it is nothing, and the ratio is then that of the processor's work alone.
+"""
+import json
+import os
+import subprocess
+import sys
+import tempfile
+import time
+
+ROOT = os.path.dirname(os.path.dirname(os.path.abspath(__file__)))
+PROGRAM = os.path.join(ROOT, "crates", "culprit_finder", "out", "culprit_finder")
+START = 86_400_000
+LEASE_MS = 60_000
+TURNS = 5
+
+
+def script(leases):
+    """One search, and leases of it, each at the moment at which the one before expires."""
+    ids = [f"{i:040d}" for i in range(6)]
+    lines = [{
+        "at": START, "do": "open", "key": f"{1:032x}", "test": "//bench:test", "base": ids[0],
+        "suspects": [[one, 1] for one in ids[1:]], "calm": 1, "rate": [1, 10], "bar": [9, 10], "width": 1, "reruns": 1,
+    }]
+    lines += [
+        {"at": START + LEASE_MS * i, "do": "lease", "key": f"{i + 2:032x}", "worker": "bot"} for i in range(leases)
+    ]
+    return "".join(json.dumps(line, separators=(",", ":")) + "\n" for line in lines).encode()
+
+
+def main():
+    words = sys.argv[1:]
+    where = words[0] if words else None
+    leases = int(words[1]) if len(words) > 1 else 1_000
+    lines = script(leases)
+    with tempfile.TemporaryDirectory() as built, tempfile.TemporaryDirectory(dir=where) as folder:
+        plain = os.path.join(built, "plain_journal")
+        subprocess.run(["cc", "-O2", "-o", plain, os.path.join(ROOT, "bench", "plain_journal.c")], check=True)
+        journal, copy = (os.path.join(folder, name) for name in ("journal", "copy"))
+        ours, theirs = [], []
+        for _ in range(TURNS):
+            if os.path.exists(journal):
+                os.remove(journal)
+            subprocess.run([PROGRAM, "found", journal, str(LEASE_MS), "10", "east:0"], check=True, stdout=subprocess.DEVNULL)
+            began = time.monotonic()
+            subprocess.run([PROGRAM, "run", journal], input=lines, check=True, stdout=subprocess.DEVNULL)
+            ours.append(time.monotonic() - began)
+            told = subprocess.run([plain, journal, copy], check=True, stdout=subprocess.PIPE).stdout
+            theirs.append(int(told) / 1e9)
+        began = time.monotonic()
+        subprocess.run([PROGRAM, "show", journal], check=True, stdout=subprocess.DEVNULL)
+        opened = time.monotonic() - began
+    print(f"{leases} leases: {min(ours):.3f} s, and {min(theirs):.3f} s in a plain program, ratio {min(ours) / min(theirs):.2f}")
+    print(f"opened and shown in {opened:.3f} s, {opened / (leases + 2) * 1e6:.0f} us an entry")
+    print("in turn " + ", ".join(f"{a / b:.2f}" for a, b in zip(ours, theirs)))
+
+
+if __name__ == "__main__":
+    main()

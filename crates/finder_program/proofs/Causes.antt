@@ -1,0 +1,65 @@
+-- What a status says of the disk's faults.
+use Rattle.std.proofs.Common.{◌≡◌, ◌≢◌, ◌∙◌, ℕ, List, refl}
+use Rattle.farm_journal.specs.Created.{CreatingCause}
+use Rattle.farm_journal.specs.Opened.{OpeningCause}
+use Rattle.farm_journal.specs.declared.fault.CreateFault.{CreateFault}
+use Rattle.farm_journal.specs.declared.fault.CreateFault.TheVariants as creating
+use Rattle.farm_journal.specs.declared.fault.OpeningFault.{OpeningFault}
+use Rattle.farm_journal.specs.declared.fault.OpeningFault.TheVariants as opening
+use Rattle.farm_script.specs.declared.run_end.RunEnd.{RunEnd}
+use Rattle.farm_script.specs.declared.run_end.RunEnd.TheVariants as script
+use Rattle.link_io.specs.Counts.{Rose}
+use Rattle.finder_program.specs.RunJournal.{IsStoreFaultOf}
+use Rattle.finder_program.specs.Disks.{DiskSeen, HasStoreCause}
+use Rattle.finder_program.specs.Found.{status_of_creating}
+use Rattle.finder_program.specs.Opening.{status_of_opening}
+use Rattle.finder_program.specs.TextPut.{OutputSeen, TextPut}
+use Rattle.finder_program.specs.declared.status.Status.{Status}
+use Rattle.finder_program.specs.declared.status.Status.TheVariants.{Done, Usage, ReadFault, WriteFault, StoreFault, Damaged, Unborn, AlreadyBorn, Memory, BadInput, InputLimit}
+
+-- of a journal that was not opened
+pub opening-cause : (fault : OpeningFault) (old new : DiskSeen) → OpeningCause fault old.faults new.faults
+    → HasStoreCause (status_of_opening fault) old new
+opening-cause opening.Unborn old new cause = tt
+opening-cause (opening.Damaged o) old new cause = tt
+opening-cause (opening.StoreFault before after) old new cause = cause
+opening-cause opening.Memory old new cause = tt
+
+-- of a journal that was not founded
+pub creating-cause : (fault : CreateFault) (old new : DiskSeen) → CreatingCause fault old.faults new.faults
+    → HasStoreCause (status_of_creating fault) old new
+creating-cause creating.AlreadyBorn old new cause = tt
+creating-cause (creating.StoreFault before after) old new cause = cause
+creating-cause creating.Memory old new cause = tt
+
+-- of a text that was put
+pub text-cause : (text : List ℕ) (status : Status) (before after : OutputSeen) (old new : DiskSeen)
+    → TextPut text status before after → HasStoreCause status old new
+text-cause text Done before after old new put = tt
+text-cause text Usage before after old new put = tt
+text-cause text ReadFault before after old new put = tt
+text-cause text WriteFault before after old new put = tt
+text-cause text (StoreFault b a) before after old new put = absurd put
+text-cause text (Damaged o) before after old new put = tt
+text-cause text Unborn before after old new put = tt
+text-cause text AlreadyBorn before after old new put = tt
+text-cause text Memory before after old new put = tt
+text-cause text (BadInput l) before after old new put = tt
+text-cause text InputLimit before after old new put = tt
+
+-- of a script that was run over a journal
+pub end-cause : (status : Status) (before after : ℕ) (end : RunEnd) (old new : DiskSeen)
+    → IsStoreFaultOf status before after end → before ≡ old.faults → after ≡ new.faults
+    → (end ≡ script.StoreFault → Rose old.faults new.faults) → HasStoreCause status old new
+end-cause Done before after end old new said first last rises = tt
+end-cause Usage before after end old new said first last rises = tt
+end-cause ReadFault before after end old new said first last rises = tt
+end-cause WriteFault before after end old new said first last rises = tt
+end-cause (StoreFault b a) before after end old new said first last rises =
+    (said.0 ∙ first, said.1 ∙ last, rises said.2)
+end-cause (Damaged o) before after end old new said first last rises = tt
+end-cause Unborn before after end old new said first last rises = tt
+end-cause AlreadyBorn before after end old new said first last rises = tt
+end-cause Memory before after end old new said first last rises = tt
+end-cause (BadInput l) before after end old new said first last rises = tt
+end-cause InputLimit before after end old new said first last rises = tt

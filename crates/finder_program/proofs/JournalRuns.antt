@@ -1,0 +1,90 @@
+-- A run over a journal, from its opening on.
+use Rattle.std.proofs.Common.{◌≡◌, ◌++◌, ◌+◌, ◌<◌, ◌≤◌, ℕ, true, List, [], ◌∷◌, length, sym, ap, ◌∙◌, subst, ⊎_elim, append_assoc, length-append, arith}
+use Rattle.std.proofs.lemmas.Bool.{cases_lt}
+use Rattle.farm_disk.proofs.Moments.{leaves-append, leaves-later, leaves-weaker, leaves_only-trans, leaves_only-weaker}
+use Rattle.farm_disk.specs.Images.{DiskState, IsSettled, IsSyncedAt, LeavesOnly, LeavesSince, LeavesSinceSync, Step, cut, moment, still, sync, write}
+use Rattle.farm_disk.specs.declared.disk.Disk as disk
+use Rattle.farm_entry.specs.declared.entry.Entry.{Entry}
+use Rattle.farm_journal.specs.ReadsOnly.{ReadsOnly}
+use Rattle.farm_script.proofs.Growing.{between-first}
+use Rattle.farm_script.specs.Images.{Rests, StandsBetween}
+use Rattle.farm_script.specs.declared.run_end.RunEnd.{RunEnd}
+use Rattle.farm_store.specs.Bytes.{StandsFor}
+use Rattle.farm_store.specs.State.{IsStored, StoreState}
+use Rattle.link_io.specs.Streams.{Streams}
+use Rattle.finder_program.specs.Disks.{disk_seen}
+use Rattle.finder_program.specs.RunJournal.{JournalRan, StoreRan}
+
+-- a sync at a moment that has passed is among the steps up to then
+synced-before : (more steps : List Step) (t : ℕ) → t ≤ length steps → IsSyncedAt (more ++ steps) t → IsSyncedAt steps t
+synced-before [] steps t low at = at
+synced-before (still ∷ more) steps t low at = synced-before more steps t low at
+synced-before (write from n ∷ more) steps t low at = synced-before more steps t low at
+synced-before (cut n ∷ more) steps t low at = synced-before more steps t low at
+synced-before (sync bytes ∷ more) steps t low at = ⊎_elim
+    (λ (here : t ≡ length (more ++ steps) + 1). absurd (omega (arith, length-append more steps, low, here)))
+    (λ (before : IsSyncedAt (more ++ steps) t). synced-before more steps t low before)
+    at
+
+-- what was left as a disk was only read and then of what came after, since the first sync of the reading
+pub since_sync-opened : (old mid new : DiskState) (P : List ℕ → Type 0) → P old.bytes → ReadsOnly old mid
+    → LeavesOnly mid new P → LeavesSinceSync old new P
+since_sync-opened old mid new P holds only leaves t later at =
+    let same : (c : List ℕ) → c ≡ old.bytes → P c = λ c is. subst P (sym is) holds in
+    ⊎_elim
+    (λ (past : moment mid < t). leaves-later (moment mid) t new.steps P (omega (arith, past)) leaves.each)
+    (λ (low : t ≤ moment mid).
+    let at_mid : IsSyncedAt mid.steps t =
+    synced-before leaves.since mid.steps t low (subst (λ (l : List Step). IsSyncedAt l t) leaves.extends at) in
+    let first : LeavesSince t mid.steps P =
+    leaves-weaker t mid.steps (λ (c : List ℕ). c ≡ old.bytes) P same (only.since_sync t later at_mid) in
+    let last : LeavesSince (moment mid) (leaves.since ++ mid.steps) P =
+    subst (λ (l : List Step). LeavesSince (moment mid) l P) leaves.extends leaves.each in
+    subst (λ (l : List Step). LeavesSince t l P) (sym leaves.extends)
+    (leaves-append t leaves.since mid.steps P first last))
+    (cases_lt (moment mid) t)
+
+-- the same since the start, where the one image was what a read gave
+pub any_moment-opened : (old mid new : DiskState) (P : List ℕ → Type 0) → P old.bytes → ReadsOnly old mid
+    → LeavesOnly mid new P → IsSettled old → LeavesOnly old new P
+any_moment-opened old mid new P holds only leaves settled =
+    leaves_only-trans old mid new P
+    (leaves_only-weaker old mid (λ (c : List ℕ). c ≡ old.bytes) P (λ c is. subst P (sym is) holds)
+    (only.any_moment settled))
+    leaves
+
+-- what is known of a store that was opened
+pub record WasOpened {D : Type 0} (meant : disk.Ghosts D) (store : StoreState D) (old : D) : Type 0 where
+  pub none : store.pending ≡ []
+  pub same : meant.tells store.disk ≡ meant.tells old
+  pub held : meant.tells old ≡ true → StandsFor store.history (meant.told old).bytes
+  pub stored : meant.tells old ≡ true → IsStored store.history [] (meant.told store.disk)
+  pub only : meant.tells old ≡ true → ReadsOnly (meant.told old) (meant.told store.disk)
+
+-- a run over a store that was opened is one over its journal
+pub ran-opened : {D : Type 0} (meant : disk.Ghosts D) (end : RunEnd) (before after : Streams) (store : StoreState D)
+    (old new : D) → WasOpened meant store old → StoreRan meant end before after store new
+    → JournalRan end before after (disk_seen meant old) (disk_seen meant new)
+ran-opened {D} meant end before after store old new opened ran =
+    let P : List ℕ → Type 0 = StandsBetween StandsFor store.history (ran.last ++ ran.pending) in
+    let on : ran.last ++ ran.pending ≡ store.history ++ (ran.more ++ ran.pending) =
+    ap (λ (l : List Entry). l ++ ran.pending) ran.longer ∙ append_assoc store.history ran.more ran.pending in
+    let first : meant.tells old ≡ true → P (meant.told old).bytes =
+    λ tell. subst (λ (l : List Entry). StandsBetween StandsFor store.history l (meant.told old).bytes) (sym on)
+    (between-first StandsFor store.history (ran.more ++ ran.pending) (meant.told old).bytes (opened.held tell)) in
+    let rested : meant.tells old ≡ true → Rests StandsFor store.history store.pending (meant.told store.disk) =
+    λ tell. subst (λ (p : List Entry). Rests StandsFor store.history p (meant.told store.disk)) (sym opened.none)
+    (record { reads = (opened.stored tell).reads; images = (opened.stored tell).images }) in
+    record {
+      first = store.history;
+      last = ran.last;
+      pending = ran.pending;
+      held = opened.held;
+      ends = ran.ends;
+      decided = ran.decided;
+      at_exit = λ tell. ran.rests (opened.same ∙ tell) (rested tell);
+      since_sync = λ tell. since_sync-opened (meant.told old) (meant.told store.disk) (meant.told new) P (first tell)
+          (opened.only tell) (ran.each (opened.same ∙ tell) (rested tell));
+      any_moment = λ tell settled. any_moment-opened (meant.told old) (meant.told store.disk) (meant.told new) P
+          (first tell) (opened.only tell) (ran.each (opened.same ∙ tell) (rested tell)) settled;
+    }

@@ -1,0 +1,22 @@
+-- What the subcommand `show JOURNAL` does.
+use Rattle.std.specs.Prelude.{◌≡◌, ◌⊎◌, true, List}
+use Rattle.farm_entry.specs.declared.entry.Entry.{Entry}
+use Rattle.farm_journal.specs.ReadsOnly.{ReadsOnly}
+use Rattle.farm_script.specs.Shown.{shown_text}
+use Rattle.farm_store.specs.Bytes.{StandsFor}
+use Rattle.finder_program.specs.Disks.{DiskSeen}
+use Rattle.finder_program.specs.Opening.{IsNotOpened}
+use Rattle.finder_program.specs.TextPut.{OutputSeen, TextPut}
+use Rattle.finder_program.specs.declared.status.Status.{Status}
+
+-- the journal held a history, whose text was put, and its disk was only read
+pub record JournalShown (status : Status) (before after : OutputSeen) (old new : DiskSeen) : Type 0 where
+  pub history : List Entry
+  pub held : old.tells ≡ true → StandsFor history old.told.bytes
+  pub only : old.tells ≡ true → ReadsOnly old.told new.told
+  pub text : TextPut (shown_text history) status before after
+
+-- what a status says: the journal was not opened, or it was shown
+abbrev pub ShowEnds : Status → OutputSeen → OutputSeen → DiskSeen → DiskSeen → Type 0
+ShowEnds status before after old new =
+    IsNotOpened status before after old new ⊎ JournalShown status before after old new
