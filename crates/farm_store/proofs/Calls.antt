@@ -1,23 +1,21 @@
 -- What a call came to, from what its repair and its decisions came to.
-use Rattle.std.proofs.Common.{◌≡◌, ◌≢◌, ◌⊎◌, inl, inr, ⊎_elim, ℕ, ◌+◌, ◌-◌, ◌≤◌, Bool, true, List, [], ◌∷◌, ◌++◌, length, take, drop, map, Option, Some, None, refl, sym, ◌∙◌, ap, subst, arith}
+use Rattle.std.proofs.Common.{◌≡◌, ◌≢◌, inl, inr, ⊎_elim, ℕ, ◌+◌, ◌≤◌, Bool, true, List, [], ◌∷◌, ◌++◌, length, Option, Some, None, refl, sym, ◌∙◌, ap, subst, arith}
 use Rattle.std.specs.Prelude.{Result, Ok, Err}
-use Rattle.std.proofs.lemmas.List.{append-nil, append_assoc, length-append, drop_all}
-use Rattle.farm_types.specs.declared.moment.Moment.{Moment}
+use Rattle.std.proofs.lemmas.List.{append-nil, append_assoc, length-append}
 use Rattle.farm_disk.specs.Images.{DiskState, LeavesOnly}
 use Rattle.farm_disk.proofs.Moments.{leaves_only-trans, leaves_only-weaker}
 use Rattle.farm_core.specs.FarmView.{FarmView}
 use Rattle.farm_entry.specs.Decision.{decide}
 use Rattle.farm_entry.specs.Legal.{IsLegal}
-use Rattle.farm_entry.specs.Playing.{after, played}
-use Rattle.farm_entry.specs.declared.command.Command.{Command}
+use Rattle.farm_entry.specs.Playing.{after}
 use Rattle.farm_entry.specs.declared.decision.Decision.{Decision}
 use Rattle.farm_entry.specs.declared.decision.Decision.TheVariants as decision
 use Rattle.farm_entry.specs.declared.entry.Entry.{Entry}
 use Rattle.farm_journal.specs.State.{JournalState}
-use Rattle.farm_store.specs.Answering.{AreAnswers, BatchSays, IsAnswer, IsAnswered, IsUnanswered, IsUndecided, IsUnrepaired, IsUnrepairedBy, asked, history_after}
+use Rattle.farm_store.specs.Answering.{BatchSays, IsUndecided, IsUnrepaired, IsUnrepairedBy, history_after}
 use Rattle.farm_store.specs.Bytes.{StandsFor}
 use Rattle.farm_store.specs.State.{StoreState, IsLeft, IsRepaired, IsStored, IsWithOrWithout}
-use Rattle.farm_store.specs.StoreInside.{IsStore, Keeps, store_view, undecided}
+use Rattle.farm_store.specs.StoreInside.{IsStore, store_view, undecided}
 use Rattle.farm_store.specs.declared.asking.Answer.{Answer}
 use Rattle.farm_store.specs.declared.asking.Ask.{Ask}
 use Rattle.farm_store.specs.declared.asking.CallFault.{CallFault}
@@ -68,7 +66,8 @@ repaired-idle mid H none found = ⊎_elim (λ (same : H ≡ mid.history). same)
     more ∙ ap (λ (l : List Entry). mid.history ++ l) none ∙ append-nil mid.history)
     found
 
-module _ {D : Type 0} (old mid new : StoreState D) (none : mid.pending ≡ []) (repaired : IsRepaired old mid.history) where
+module _ {D : Type 0} (old mid new : StoreState D) (none : mid.pending ≡ [])
+    (repaired : IsRepaired old mid.history) where
   repaired-on : (H : List Entry) → IsRepaired mid H → IsRepaired old H
   repaired-on H found = subst (λ (l : List Entry). IsRepaired old l) (sym (repaired-idle mid H none found)) repaired
 

@@ -1,7 +1,7 @@
 -- What deciding asks came to, from what storing their new entries came to.
 use Rattle.std.proofs.Common.{◌≡◌, ◌≢◌, ◌⊎◌, inl, inr, ⊎_elim, ℕ, ◌+◌, ◌-◌, ◌≤◌, Bool, true, List, [], ◌∷◌, ◌++◌, length, take, drop, Option, Some, None, refl, sym, ◌∙◌, ap, subst, arith}
-use Rattle.std.specs.Prelude.{Result, Ok, Err, OnOk}
-use Rattle.std.proofs.lemmas.List.{append-nil, length-append, take_at, drop_at, drop_all}
+use Rattle.std.specs.Prelude.{Ok, Err, OnOk}
+use Rattle.std.proofs.lemmas.List.{append-nil, length-append, take_at, drop_at}
 use Rattle.std.proofs.lemmas.Option.{none-some}
 use Rattle.farm_disk.specs.Images.{DiskState, LeavesOnly}
 use Rattle.farm_disk.proofs.Moments.{leaves_only-weaker}
@@ -15,7 +15,6 @@ use Rattle.farm_entry.specs.declared.decision.Decision.{Decision}
 use Rattle.farm_entry.specs.declared.decision.Decision.TheVariants as decision
 use Rattle.farm_entry.specs.declared.entry.Entry.{Entry}
 use Rattle.farm_entry.specs.declared.refusal.Refusal.{Refusal}
-use Rattle.farm_entry.specs.declared.reply.Reply.{Reply}
 use Rattle.farm_journal.specs.State.{JournalState}
 use Rattle.farm_laws.proofs.Induct.{IsLegal-push}
 use Rattle.farm_laws.proofs.Recorded.{recorded}
@@ -157,7 +156,7 @@ module _ {D : Type 0} (tells : D → Bool) (told : D → DiskState) (farm : Farm
       leaves-stored counts same none leaves =
           let pending = undecided-none journal''.pending farm''.ready none in
           let now : take start farm'.history ++ drop start farm'.history
-              ≡ farm''.history ++ undecided journal''.pending farm''.ready =
+          ≡ farm''.history ++ undecided journal''.pending farm''.ready =
           ap (λ (l : List Entry). l ++ drop start farm'.history) (front-at start is)
           ∙ ap (λ (l : List Entry). farm.history ++ l) (rest-at start is)
           ∙ sym grows.longer
@@ -186,6 +185,7 @@ module _ {D : Type 0} (tells : D → Bool) (told : D → DiskState) (farm : Farm
         where
           sizes : length farm'.history ≡ length farm.history
           sizes = ap length (sym same ∙ old ∙ sym same-history)
+
           none-more : (xs : List Entry) → length xs ≡ 0 → xs ≡ []
           none-more [] zero = refl
           none-more (x ∷ xs) zero = absurd (omega (arith, zero))
@@ -245,6 +245,7 @@ module _ {D : Type 0} (tells : D → Bool) (told : D → DiskState) (farm : Farm
               → IsLeft s (store_view farm'' journal'' count) c
           left-old c old =
               inl (inl (subst (λ (l : List Entry). StandsFor l c) (front-at start is ∙ same-history) old))
+
           left-missed : (f : CallFault) → IsOfStore f
               → OnCallFault {T = Unit {0}} (Err f) (farm''.ready ≡ drop start farm'.history)
               → OnCallFault {T = Unit {0}} (Err f) (journal''.pending ≢ None) → (c : List ℕ)

@@ -1,5 +1,5 @@
 -- Bytes that stand for a history aren't damaged, and bytes are damaged at one offset.
-use Rattle.std.proofs.Common.{◌≡◌, ◌≢◌, ◌⊎◌, inl, inr, ⊎_elim, ℕ, zero, suc, ◌+◌, ◌≤◌, ◌<◌, List, [], ◌∷◌, ◌++◌, length, map, take, drop, All, refl, sym, ◌∙◌, ap, subst, arith}
+use Rattle.std.proofs.Common.{◌≡◌, ◌≢◌, ◌⊎◌, ⊎_elim, ℕ, ◌+◌, List, [], ◌∷◌, ◌++◌, length, map, All, refl, sym, ◌∙◌, ap, subst, arith}
 use Rattle.std.proofs.lemmas.Grind.{flat_map-append}
 use Rattle.std.proofs.lemmas.List.{append_assoc, length-append, take_at, drop_at}
 use Rattle.std.proofs.lemmas.List.Elements.{All-drop, All-head, All-take}
@@ -9,8 +9,7 @@ use Rattle.farm_entry.specs.Legal.{IsLegal}
 use Rattle.farm_entry.specs.declared.entry.Entry.{Entry}
 use Rattle.farm_laws.proofs.Induct.{IsLegal-first}
 use Rattle.farm_journal.proofs.Fits.{opens-fit}
-use Rattle.farm_journal.specs.Layout.{Opening, IsPayload, damaged, gate_of, holds, opens, unborn}
-use Rattle.farm_journal.specs.declared.layout.TheConstants.{FIRST_GATE}
+use Rattle.farm_journal.specs.Layout.{IsPayload, damaged, gate_of, holds, opens, unborn}
 use Rattle.farm_store.specs.Bytes.{Spells, StandsFor, joined}
 use Rattle.farm_store.specs.Damage.{HoldsUnfit, IsDamagedAt, IsEmptyAt, IsUnfitAt}
 use Rattle.farm_store.proofs.Spellings.{spelling-nonempty, spells-none, spells-unique}

@@ -1,13 +1,12 @@
 -- What founding a store leaves, from what creating its journal leaves.
-use Rattle.std.proofs.Common.{◌≡◌, ◌≢◌, ◌⊎◌, inl, inr, ⊎_elim, ℕ, Bool, true, Some, None, ◌+◌, ◌≤◌, ◌<◌, List, [], ◌∷◌, length, refl, sym, ◌∙◌, ap, subst, arith}
+use Rattle.std.proofs.Common.{◌≡◌, ◌≢◌, inl, inr, ⊎_elim, ℕ, Bool, true, None, ◌≤◌, List, [], ◌∷◌, length, sym, ◌∙◌, subst, arith}
 use Rattle.std.proofs.lemmas.Option.{none-some}
-use Rattle.farm_disk.specs.Images.{DiskState, EachImage, IsSyncedAt, LeavesOnly, LeavesSince, LeavesSinceSync, moment}
+use Rattle.farm_disk.specs.Images.{DiskState, EachImage, LeavesOnly, LeavesSinceSync}
 use Rattle.farm_disk.proofs.Moments.{leaves-weaker, leaves_only-start, leaves_only-weaker, synced-le}
 use Rattle.farm_types.specs.declared.moment.Moment.{Moment}
 use Rattle.entry_codec.specs.Grammar.{AreSpelled}
 use Rattle.entry_codec.specs.Spelling.{spelling}
 use Rattle.farm_entry.specs.Legal.{IsLegal}
-use Rattle.farm_entry.specs.declared.entry.Entry.{Entry}
 use Rattle.farm_entry.specs.declared.settings.Settings.{Settings}
 use Rattle.farm_journal.specs.Created.{IsUnborn, IsUnbornOrFirst}
 use Rattle.farm_journal.specs.Layout.{IsPayload, holds, opens, unborn}

@@ -1,5 +1,5 @@
 -- Payloads that go on with a history, one after the other.
-use Rattle.std.proofs.Common.{Bool, true, false, true≢false, ◌≡◌, ◌≢◌, ◌⊎◌, inl, inr, ℕ, ◌+◌, ◌*◌, ◌≤◌, ◌<◌, List, [], ◌∷◌, ◌++◌, length, take, drop, get_or, All, refl, sym, ◌∙◌, ap, subst, arith}
+use Rattle.std.proofs.Common.{Bool, true, false, true≢false, ◌≡◌, ◌≢◌, inl, inr, ℕ, ◌+◌, ◌*◌, ◌≤◌, ◌<◌, List, [], ◌∷◌, ◌++◌, length, take, drop, get_or, All, refl, sym, ◌∙◌, ap, subst, arith}
 use Rattle.std.specs.Prelude.{◌==◌, IfErr, IfOk, Result, Ok, Err, reverse, remove}
 use Rattle.std.proofs.lemmas.Bool.Decides.{nat_tests}
 use Rattle.std.proofs.lemmas.List.{append-nil, append_assoc, length-append, reverse-append, take-append-drop, take_more, drop_more}
@@ -19,8 +19,7 @@ use Rattle.farm_journal.specs.Layout.{gate_of, IsPayload}
 use Rattle.farm_journal.specs.declared.layout.TheConstants.{FIRST_GATE}
 use Rattle.farm_journal.proofs.Scan.{gate_of-push}
 use Rattle.farm_store.specs.Admitted.{GoesOn, IsMisfit, IsMissed, IsNotLegal}
-use Rattle.farm_store.specs.Bytes.{Spells}
-use Rattle.farm_store.specs.Damage.{IsEmptyAt, IsUnfitAt}
+use Rattle.farm_store.specs.Damage.{IsUnfitAt}
 use Rattle.farm_store.specs.StoreInside.{Keeps}
 use Rattle.farm_store.specs.declared.admitting.Misfit.{Misfit}
 use Rattle.farm_store.specs.declared.admitting.Misfit.TheVariants.{Unfit, Memory}

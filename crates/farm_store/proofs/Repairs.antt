@@ -1,13 +1,13 @@
 -- What a repair leaves of a store.
-use Rattle.std.proofs.Common.{◌≡◌, ℕ, Bool, true, true≢false, List, [], ◌∷◌, ◌++◌, Option, Some, None, refl, sym, ◌∙◌, ap, subst}
+use Rattle.std.proofs.Common.{◌≡◌, ℕ, Bool, true, true≢false, List, [], ◌∷◌, ◌++◌, Option, Some, None, refl, sym, ◌∙◌, subst}
 use Rattle.std.specs.Prelude.{IsSome}
-use Rattle.std.proofs.lemmas.Option.{none-some, same_Some}
+use Rattle.std.proofs.lemmas.Option.{none-some}
 use Rattle.farm_disk.specs.Images.{DiskState, LeavesOnly}
 use Rattle.farm_disk.proofs.Moments.{leaves_only-weaker}
 use Rattle.farm_core.specs.FarmView.{FarmView}
 use Rattle.farm_entry.specs.declared.entry.Entry.{Entry}
 use Rattle.farm_journal.specs.State.{JournalState, IsBeforeOrAfter, IsHeld}
-use Rattle.farm_store.specs.State.{StoreState, IsStored, IsWithOrWithout}
+use Rattle.farm_store.specs.State.{StoreState, IsWithOrWithout}
 use Rattle.farm_store.specs.StoreInside.{IsStore, Keeps, store_view, undecided}
 use Rattle.farm_store.proofs.Calls.{stored-store}
 use Rattle.farm_store.proofs.Spellings.{keeps-push}

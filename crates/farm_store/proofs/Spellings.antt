@@ -1,8 +1,8 @@
 -- What payloads spell.
-use Rattle.std.proofs.Common.{◌≡◌, ◌≢◌, ℕ, ◌+◌, ◌*◌, ◌≤◌, ◌<◌, List, [], ◌∷◌, ◌++◌, length, map, refl, sym, ◌∙◌, ap, subst, arith, All}
+use Rattle.std.proofs.Common.{◌≡◌, ◌≢◌, ℕ, ◌*◌, ◌≤◌, ◌<◌, List, [], ◌∷◌, ◌++◌, length, map, refl, sym, ◌∙◌, ap, arith}
 use Rattle.std.specs.List.{flat_map}
 use Rattle.std.proofs.lemmas.Grind.{flat_map-append}
-use Rattle.std.proofs.lemmas.List.{append-nil, append_assoc, map-append, length-append}
+use Rattle.std.proofs.lemmas.List.{append-nil, map-append, length-append}
 use Rattle.std.proofs.lemmas.List.Elements.{All-append, All-nil}
 use Rattle.entry_codec.specs.Grammar.{AreSpelled, HasSpelling}
 use Rattle.entry_codec.specs.Spelling.{entry_bytes, spelling}
@@ -14,7 +14,7 @@ use Rattle.farm_entry.specs.declared.entry.Entry.{Entry}
 use Rattle.farm_entry.specs.declared.limits.TheConstants.{MAX_ENTRIES}
 use Rattle.farm_laws.proofs.Bounds.{entries-bounded}
 use Rattle.farm_journal.specs.Layout.{gate_of, IsPayload}
-use Rattle.farm_journal.specs.declared.layout.TheConstants.{FIRST_GATE, GATE_LIMIT, MAX_PAYLOAD}
+use Rattle.farm_journal.specs.declared.layout.TheConstants.{FIRST_GATE, GATE_LIMIT}
 use Rattle.farm_journal.proofs.Scan.{gate_of-push}
 use Rattle.farm_store.specs.Bytes.{Spells, joined}
 use Rattle.farm_store.specs.StoreInside.{Keeps}

@@ -1,22 +1,18 @@
 -- Which history the bytes of a journal stand for.
-use Rattle.std.proofs.Common.{◌≡◌, ◌⊎◌, inl, inr, ⊎_elim, ℕ, true, Bool, List, [], ◌∷◌, ◌++◌, refl, sym, ◌∙◌, ap, subst}
-use Rattle.std.proofs.lemmas.List.{append-nil}
-use Rattle.farm_disk.specs.Images.{DiskState, EachImage, IsSettled, LeavesOnly}
-use Rattle.farm_disk.proofs.Moments.{leaves_only-start, leaves_only-weaker}
-use Rattle.farm_journal.specs.Layout.{Opening, holds, opens}
+use Rattle.std.proofs.Common.{◌≡◌, inl, inr, ⊎_elim, ℕ, List, [], ◌∷◌, ◌++◌, sym, ◌∙◌, subst}
+use Rattle.farm_disk.specs.Images.{DiskState, LeavesOnly}
+use Rattle.farm_disk.proofs.Moments.{leaves_only-start}
+use Rattle.farm_journal.specs.Layout.{holds, opens}
 use Rattle.farm_journal.specs.declared.fault.OpeningFault.{OpeningFault}
 use Rattle.farm_journal.specs.declared.fault.OpeningFault.TheVariants as opening
 use Rattle.farm_journal.specs.State.{IsBeforeOrAfter, IsHeld, IsPending}
-use Rattle.entry_codec.specs.Grammar.{AreSpelled}
-use Rattle.entry_codec.specs.Spelling.{spelling}
-use Rattle.farm_entry.specs.Legal.{IsLegal}
 use Rattle.farm_entry.specs.declared.entry.Entry.{Entry}
 use Rattle.farm_store.specs.Admitted.{IsMissed}
 use Rattle.farm_store.specs.Bytes.{Spells, StandsFor}
 use Rattle.farm_store.specs.Opened.{IsMissedBy}
 use Rattle.farm_store.specs.State.{IsStored, IsWithOrWithout}
 use Rattle.farm_store.specs.StoreInside.{Keeps}
-use Rattle.farm_store.proofs.Spellings.{keeps-push, spells-unique}
+use Rattle.farm_store.proofs.Spellings.{spells-unique}
 
 holds-same : (ps qs : List (List ℕ)) → holds ps ≡ holds qs → ps ≡ qs
 holds-same ps qs same = cc
@@ -66,7 +62,8 @@ stored-pending ps p H new disk before after some pending = record {
 }
 
 -- where nothing is done, each crash leaves what is stored
-pub leaves-stored : (H P : List Entry) (disk : DiskState) → IsStored H P disk → LeavesOnly disk disk (IsWithOrWithout H P)
+pub leaves-stored : (H P : List Entry) (disk : DiskState) → IsStored H P disk
+    → LeavesOnly disk disk (IsWithOrWithout H P)
 leaves-stored H P disk stored = leaves_only-start disk (IsWithOrWithout H P) stored.images
 
 -- why payloads make no farm is why the bytes stand for no history

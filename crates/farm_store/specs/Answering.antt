@@ -1,5 +1,5 @@
 -- What a store answers to a list of asks, and how its history goes on.
-use Rattle.std.specs.Prelude.{◌≡◌, ◌≢◌, ◌⊎◌, ℕ, ◌+◌, List, [], ◌∷◌, ◌++◌, length, map, Some, Result, Ok, Err, ⊤}
+use Rattle.std.specs.Prelude.{◌≡◌, ◌≢◌, ◌⊎◌, ◌+◌, List, [], ◌∷◌, ◌++◌, length, map, Some, Result, Ok, Err, ⊤}
 use Rattle.farm_types.specs.declared.moment.Moment.{Moment}
 use Rattle.farm_entry.specs.Decision.{decide}
 use Rattle.farm_entry.specs.Playing.{after, played}
@@ -24,8 +24,8 @@ asked ask = (ask.command, ask.at)
 abbrev pub history_after : List Entry → List Ask → List Entry
 history_after H asks = played H (map asked asks)
 
--- the answer to a command that comes to this decision at a history: the reply of the entry that it made or makes, what it
--- shows, or its refusal
+-- the answer to a command that comes to this decision at a history: the reply of the entry that it made or makes,
+-- what it shows, or its refusal
 abbrev pub IsAnswer : List Entry → Decision → Answer → Type 0
 IsAnswer H (decision.Repeat place) (answer.Done r) = reply_at H place ≡ Some r
 IsAnswer H (decision.Show page) (answer.Done r) = r ≡ page
@@ -62,7 +62,8 @@ IsUnrepairedBy (fault.Refused cause) old new = ⊥
 IsUnrepairedBy (fault.StoreFault before after) old new = IsUnrepaired old new
 IsUnrepairedBy fault.Memory old new = ⊥
 
--- the disk failed as the new entries of these asks were stored: the history is as the repair left it, and they are pending
+-- the disk failed as the new entries of these asks were stored: the history is as the repair left it, and they are
+-- pending
 pub record IsUndecided {D : Type 0} (asks : List Ask) (old new : StoreState D) : Type 0 where
   pub found : IsRepaired old new.history
   pub some : new.pending ≢ []

@@ -4,8 +4,8 @@ use Rattle.farm_disk.specs.Images.{DiskState, EachImage, IsSettled}
 use Rattle.farm_entry.specs.declared.entry.Entry.{Entry}
 use Rattle.farm_store.specs.Bytes.{StandsFor}
 
--- A store: its history, the entries of the record that a fault of the disk left undecided, how many entries the last call
--- recorded for its asks, which are the last of the history, and the disk.
+-- A store: its history, the entries of the record that a fault of the disk left undecided, how many entries the last
+-- call recorded for its asks, which are the last of the history, and the disk.
 pub record StoreState (D : Type 0) : Type 0 where
   pub history : List Entry
   pub pending : List Entry
@@ -16,15 +16,15 @@ pub record StoreState (D : Type 0) : Type 0 where
 abbrev pub IsWithOrWithout : (history pending : List Entry) → List ℕ → Type 0
 IsWithOrWithout history pending bytes = StandsFor history bytes ⊎ StandsFor (history ++ pending) bytes
 
--- A read gives the history, or it with all that is pending, and so does each crash. Where nothing is pending, each crash
--- leaves what a read gives.
+-- A read gives the history, or it with all that is pending, and so does each crash. Where nothing is pending, each
+-- crash leaves what a read gives.
 pub record IsStored (history pending : List Entry) (disk : DiskState) : Type 0 where
   pub reads : IsWithOrWithout history pending disk.bytes
   pub images : EachImage disk.steps (IsWithOrWithout history pending)
   pub settled : pending ≡ [] → IsSettled disk
 
--- What a crash may leave while one state becomes another: the history from before, with or without what was pending then,
--- or the history from now with all that is pending now.
+-- What a crash may leave while one state becomes another: the history from before, with or without what was pending
+-- then, or the history from now with all that is pending now.
 abbrev pub IsLeft : {D : Type 0} → (old new : StoreState D) → List ℕ → Type 0
 IsLeft old new bytes = IsWithOrWithout old.history old.pending bytes ⊎ StandsFor (new.history ++ new.pending) bytes
 

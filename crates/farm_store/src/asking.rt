@@ -35,8 +35,8 @@ pub enum CallFault {
     /// The farm refuses the command.
     #[error("{0}")]
     Refused(Refusal),
-    /// The disk failed: its count of faults before the call, and after it. What the call records may have been stored; the
-    /// next call finds out.
+    /// The disk failed: its count of faults before the call, and after it. What the call records may have been
+    /// stored; the next call finds out.
     #[error("the journal could not be used")]
     StoreFault {
         /// The count before the call.

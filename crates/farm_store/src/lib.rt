@@ -1,9 +1,9 @@
 //! A farm whose history stands on a disk: what was answered stays, wherever a crash comes.
 //!
-//! A [`Store`] is a farm in memory over a journal. A command that records something is answered once its entry is stored
-//! in a record of its own, and a list of asks once the new entries of all of them are stored in one record, so that a
-//! crash leaves all of these or none. Where the disk fails, it is undecided whether the record was kept: its entries are
-//! pending, and the next call begins by finding out, before anything else is decided.
+//! A [`Store`] is a farm in memory over a journal. A command that records something is answered once its entry is
+//! stored in a record of its own, and a list of asks once the new entries of all of them are stored in one record, so
+//! that a crash leaves all of these or none. Where the disk fails, it is undecided whether the record was kept: its
+//! entries are pending, and the next call begins by finding out, before anything else is decided.
 //!
 //! The crate stands on `farm_core` for the farm, on `farm_journal` and `farm_disk` for the records and what a crash may
 //! leave of them, and on `entry_codec` for entries as bytes. The layers above may use every name below; clauses above

@@ -29,7 +29,8 @@ pub fn record_from<D: Disk>(
 
     ensures same { D.tells journal.new.disk ≡ D.tells journal.old.disk }
     ensures kept { IsStore D.tells D.told farm.new journal.new }
-    ensures any_moment { D.tells journal.old.disk ≡ true → LeavesOnly (D.told journal.old.disk) (D.told journal.new.disk)
+    ensures any_moment { D.tells journal.old.disk ≡ true
+        → LeavesOnly (D.told journal.old.disk) (D.told journal.new.disk)
         (LeavesNew (take start farm.old.history) (drop start farm.old.history) result) }
 
     ensures stored { OnOk result (farm.new.history ≡ farm.old.history) }

@@ -30,8 +30,9 @@ use std::marker::Model;
 
 /// A store: a farm whose history stands on a disk.
 ///
-/// After a fault of the disk the entries of the record that was being stored are pending: they are in the history or not,
-/// as the repair finds with which the next call begins. The history that the store tells is the one without them.
+/// After a fault of the disk the entries of the record that was being stored are pending: they are in the history or
+/// not, as the repair finds with which the next call begins. The history that the store tells is the one without
+/// them.
 #[derive(Drop)]
 pub struct Store<D: Disk> {
     journal: Journal<D>,
@@ -71,8 +72,8 @@ impl<D: Disk> Store<D> {
         ensures born { D.tells disk ≡ true → is_unborn (D.told disk).bytes ≡ false
             → (D.told (disk_founded result)).bytes ≡ (D.told disk).bytes }
 
-        // A crash since the first sync that was done leaves an unborn file, or the founding. Where each image was unborn
-        // before the call, this holds from its start.
+        // A crash since the first sync that was done leaves an unborn file, or the founding. Where each image was
+        // unborn before the call, this holds from its start.
         ensures since_sync { D.tells disk ≡ true → is_unborn (D.told disk).bytes ≡ true
             → LeavesSinceSync (D.told disk) (D.told (disk_founded result)) (IsUnbornOrFounding settings at) }
         ensures any_moment { D.tells disk ≡ true → is_unborn (D.told disk).bytes ≡ true
@@ -99,9 +100,10 @@ impl<D: Disk> Store<D> {
         }
     }
 
-    /// Opens the store on a disk. It begins with a sync and changes nothing; that takes one sync, one look at the size and
-    /// one read. Each payload is read once, and each entry admitted once. An error hands the disk back: the disk is
-    /// damaged at an offset where the file is, and at its gate where a record spells no entries that may come next.
+    /// Opens the store on a disk. It begins with a sync and changes nothing; that takes one sync, one look at the
+    /// size and one read. Each payload is read once, and each entry admitted once. An error hands the disk back: the
+    /// disk is damaged at an offset where the file is, and at its gate where a record spells no entries that may come
+    /// next.
     pub fn open_on(alloc: Global, disk: D) -> Result<Store<D>, (D, OpeningFault)>
         ensures same { D.tells (disk_opened result) ≡ D.tells disk }
         ensures answers { D.tells disk ≡ true → OpensTo (D.told disk).bytes result }
@@ -126,9 +128,9 @@ impl<D: Disk> Store<D> {
         }
     }
 
-    /// Answers a command at a moment. Where a fault left a record undecided, a repair finds out first whether it was kept;
-    /// then the command is decided at the history that there is. A new entry is stored before its reply is given: from
-    /// then on each crash leaves a history that has it.
+    /// Answers a command at a moment. Where a fault left a record undecided, a repair finds out first whether it was
+    /// kept; then the command is decided at the history that there is. A new entry is stored before its reply is
+    /// given: from then on each crash leaves a history that has it.
     ///
     /// # Errors
     ///
@@ -141,8 +143,8 @@ impl<D: Disk> Store<D> {
         ensures longer { (more : List Entry) × (self.new.history ≡ self.old.history ++ more) }
         ensures legal { IsLegal (self.new.history ++ self.new.pending) }
 
-        // Each image of each moment of the call stands for the history from before, with or without what was pending, or
-        // for the one from now with what is pending now.
+        // Each image of each moment of the call stands for the history from before, with or without what was pending,
+        // or for the one from now with what is pending now.
         ensures any_moment { D.tells self.old.disk ≡ true
             → LeavesOnly (D.told self.old.disk) (D.told self.new.disk) (IsLeft self.old self.new) }
         ensures stored { D.tells self.old.disk ≡ true
@@ -164,13 +166,14 @@ impl<D: Disk> Store<D> {
         answered
     }
 
-    /// Answers 1 to `MAX_BATCH` asks as single calls one after the other would, but for this: their new entries are stored
-    /// in one record, before any of the answers is given. So a crash leaves all of them or none. Where they record
-    /// nothing, nothing is written.
+    /// Answers 1 to `MAX_BATCH` asks as single calls one after the other would, but for this: their new entries are
+    /// stored in one record, before any of the answers is given. So a crash leaves all of them or none. Where they
+    /// record nothing, nothing is written.
     ///
     /// # Errors
     ///
-    /// [`CallFault::StoreFault`] or [`CallFault::Memory`], of the whole batch, as of a single call. A refusal is an answer.
+    /// [`CallFault::StoreFault`] or [`CallFault::Memory`], of the whole batch, as of a single call. A refusal is an
+    /// answer.
     pub fn call_batch(&mut self, alloc: Global, asks: &[Ask]) -> Result<Answers, CallFault>
         requires some { 1 ≤ length asks.now }
         requires few { length asks.now ≤ MAX_BATCH }
@@ -215,8 +218,8 @@ impl<D: Disk> Store<D> {
         self.farm.totals()
     }
 
-    /// How many entries the last call recorded for its asks: they are the last of the history. Those that its repair found
-    /// aren't counted, and after a fault or out of memory there are none.
+    /// How many entries the last call recorded for its asks: they are the last of the history. Those that its repair
+    /// found aren't counted, and after a fault or out of memory there are none.
     pub fn recorded(&self) -> usize
         ensures { result ≡ self.now.recorded }
     {

@@ -13,7 +13,11 @@ const USUAL: u32 = 100_000_000;
 
 fn commit(number: u32) -> CommitId {
     let mut bytes = [0; 20];
-    for (byte, digits) in bytes.iter_mut().rev().zip(number.to_be_bytes().iter().rev()) {
+    for (byte, digits) in bytes
+        .iter_mut()
+        .rev()
+        .zip(number.to_be_bytes().iter().rev())
+    {
         *byte = *digits;
     }
     CommitId::of(bytes)

@@ -47,11 +47,7 @@ fn is_answered<D: Disk>(alloc: Global, store: &mut Store<D>, asks: &[Ask]) -> bo
 }
 
 /// The whole history of a script.
-fn whole_store(
-    alloc: Global,
-    script: &str,
-    batches: bool,
-) -> Result<Store<CalmDisk>, AllocError> {
+fn whole_store(alloc: Global, script: &str, batches: bool) -> Result<Store<CalmDisk>, AllocError> {
     let (settings, at) = founding(false)?;
     let Ok(mut store) = Store::found(alloc, CalmDisk::of(Vec::new(alloc)), settings, at) else {
         return Err(AllocError);
@@ -81,8 +77,8 @@ fn play_with_fault(
     }
 }
 
-/// What the images hold after one call failed: whether each is a beginning of the whole history that has all the entries
-/// whose replies came; and whether the call failed.
+/// What the images hold after one call failed: whether each is a beginning of the whole history that has all the
+/// entries whose replies came; and whether the call failed.
 fn holds(
     alloc: Global,
     file: &str,
@@ -99,9 +95,10 @@ fn holds(
     }
 }
 
-/// Lets each call of a disk with these bytes fail in turn while a store is founded on it and asked a script, with no byte,
-/// one and all bytes kept, until none fails. Prints how many calls there are, and the number of the first one after which an image is no
-/// beginning of the whole history or lacks an entry whose reply came, or else that all are.
+/// Lets each call of a disk with these bytes fail in turn while a store is founded on it and asked a script, with no
+/// byte, one and all bytes kept, until none fails. Prints how many calls there are, and the number of the first one
+/// after which an image is no beginning of the whole history or lacks an entry whose reply came, or else that all
+/// are.
 pub(crate) fn play_faults(
     rt: &impl Print,
     alloc: Global,
@@ -112,8 +109,22 @@ pub(crate) fn play_faults(
     let store = whole_store(alloc, script, batches)?;
     let whole = store.history();
     for call in 1..MOST_CALLS {
-        let none = holds(alloc, file, script, batches, DiskFail { call, kept: 0 }, whole)?;
-        let one = holds(alloc, file, script, batches, DiskFail { call, kept: 1 }, whole)?;
+        let none = holds(
+            alloc,
+            file,
+            script,
+            batches,
+            DiskFail { call, kept: 0 },
+            whole,
+        )?;
+        let one = holds(
+            alloc,
+            file,
+            script,
+            batches,
+            DiskFail { call, kept: 1 },
+            whole,
+        )?;
         let all = DiskFail {
             call,
             kept: u32::MAX,

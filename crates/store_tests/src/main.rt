@@ -1,6 +1,6 @@
-//! Plays the cases of standard input over stores in memory, and prints what each comes to. A case is a line: a word, and
-//! what the word asks for. A line that begins with `#` is printed as it is. The file `stdout` has what is wanted; it was
-//! worked out by hand.
+//! Plays the cases of standard input over stores in memory, and prints what each comes to. A case is a line: a word,
+//! and what the word asks for. A line that begins with `#` is printed as it is. The file `stdout` has what is wanted;
+//! it was worked out by hand.
 #![tactic(auto)]
 
 mod commands;

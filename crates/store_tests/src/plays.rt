@@ -10,8 +10,8 @@ use farm_types::Moment;
 use std::alloc::{AllocError, Global};
 use std::io;
 
-/// With what the store of a case is founded, and when: leases of a minute; ten orders a day and UTC, or one and an hour east
-/// of it; at the first moment.
+/// With what the store of a case is founded, and when: leases of a minute; ten orders a day and UTC, or one and an
+/// hour east of it; at the first moment.
 pub(crate) fn founding(east: bool) -> Result<(Settings, Moment), AllocError> {
     let (daily, zone) = if east { (1, 60) } else { (10, 0) };
     match (Settings::of(60_000, daily, zone), Moment::of(86_400_000)) {
@@ -52,11 +52,17 @@ fn print_reply(rt: &impl Print, reply: &Reply) -> io::Result<()> {
         Reply::Opened { search, budget, .. } => print!(rt; "search {search} budget {budget}"),
         Reply::Leased { run, position, .. } => print!(rt; "run {run} at {position}"),
         Reply::Reported {
-            run, verdict, fate, ..
+            run,
+            verdict,
+            fate,
+            ..
         } => print!(rt; "run {run} {verdict:?} {fate:?}"),
         Reply::Cancelled { search } => print!(rt; "cancelled {search}"),
         Reply::Ordered {
-            order, search, day, ..
+            order,
+            search,
+            day,
+            ..
         } => print!(rt; "order {order} search {search} day {day}"),
         Reply::Farm(totals) => {
             let (entries, confirmed, counted) = (totals.entries, totals.confirmed, totals.counted);
@@ -132,7 +138,12 @@ fn print_held(rt: &impl Print, alloc: Global, disk: MemDisk) -> io::Result<()> {
 }
 
 /// Asks each word of a script by a single call over a disk of which these calls fail, and prints the answers.
-pub(crate) fn play_calls(rt: &impl Print, alloc: Global, fails: &str, script: &str) -> io::Result<()> {
+pub(crate) fn play_calls(
+    rt: &impl Print,
+    alloc: Global,
+    fails: &str,
+    script: &str,
+) -> io::Result<()> {
     let east = fails == "east";
     let disk = MemDisk::of(founded(alloc, east)?, fails_of(alloc, fails)?);
     let Ok(mut store) = Store::open_on(alloc, disk) else {
@@ -152,7 +163,12 @@ pub(crate) fn play_calls(rt: &impl Print, alloc: Global, fails: &str, script: &s
 }
 
 /// Asks each word of a script, a list of words with `+` between being a batch, and prints the answers.
-pub(crate) fn play_batches(rt: &impl Print, alloc: Global, fails: &str, script: &str) -> io::Result<()> {
+pub(crate) fn play_batches(
+    rt: &impl Print,
+    alloc: Global,
+    fails: &str,
+    script: &str,
+) -> io::Result<()> {
     let disk = MemDisk::of(founded(alloc, false)?, fails_of(alloc, fails)?);
     let Ok(mut store) = Store::open_on(alloc, disk) else {
         return println!(rt; "not opened");

@@ -1,6 +1,6 @@
 -- Why a payload begins no history.
-use Rattle.std.proofs.Common.{◌≡◌, ◌<◌, ◌∙◌, ◌∷◌, [], ap, List, length, sym, subst}
-use Rattle.std.specs.Prelude.{IfErr, Result, Err}
+use Rattle.std.proofs.Common.{◌≡◌, ◌<◌, ◌∙◌, ◌∷◌, [], ap, length, sym, subst}
+use Rattle.std.specs.Prelude.{IfErr, Result}
 use Rattle.std.proofs.lemmas.Result.{err_from_is_err_and}
 use Rattle.farm_core.specs.FarmView.{FarmView}
 use Rattle.farm_store.specs.Admitted.{IsMisfit}

@@ -1,5 +1,5 @@
 -- What all payloads came to, by the lemmas of `GoingOn`.
-use Rattle.std.proofs.Common.{◌≡◌, ◌+◌, ◌∙◌, inr, ℕ, List, [], ◌∷◌, length, All, refl, sym, ap, subst}
+use Rattle.std.proofs.Common.{◌+◌, ◌∙◌, inr, ℕ, List, [], ◌∷◌, length, All, refl, sym, ap, subst}
 use Rattle.std.proofs.lemmas.List.Elements.{All-head}
 use Rattle.farm_journal.specs.Layout.{IsPayload}
 use Rattle.farm_store.specs.Admitted.{GoesOn, IsMisfit}

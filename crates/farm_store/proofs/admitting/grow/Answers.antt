@@ -1,5 +1,5 @@
 -- What each further payload came to, by the lemmas of `GoingOn`.
-use Rattle.std.proofs.Common.{◌≡◌, ◌+◌, ◌++◌, inr, ℕ, List, length, take, All, refl, sym, ap, subst, arith}
+use Rattle.std.proofs.Common.{◌≡◌, ◌+◌, ◌++◌, inr, ℕ, List, length, take, refl, sym, ap, subst, arith}
 use Rattle.std.proofs.lemmas.List.Elements.{All-get_or}
 use Rattle.farm_journal.specs.Layout.{IsPayload}
 use Rattle.farm_store.specs.Admitted.{GoesOn, IsMisfit}
@@ -18,7 +18,8 @@ overflow_add-gate-in-Ok c =
     let small = gate-small (begun.0 ++ take i payloads) c.loop-payload.farm.history c.loop-payload.gate grown.keeps
     grown.at in
     let fit : IsPayload p =
-    subst IsPayload (sym c.payload-item.is) (All-get_or IsPayload payloads i p c.loop-payload-test.true c.requires.fit) in
+    subst IsPayload (sym c.payload-item.is)
+    (All-get_or IsPayload payloads i p c.loop-payload-test.true c.requires.fit) in
     let most = fit.most in
     let size : length c.bytes-in-Ok.result.now ≡ length p = ap length c.bytes-in-Ok.ensures in
     omega (arith, small, most, size)

@@ -1,8 +1,8 @@
 -- What each end of storing new entries leaves, by the lemmas of `Ahead`.
-use Rattle.std.proofs.Common.{◌≡◌, ◌∙◌, ◌-◌, ℕ, List, length, take, drop, All, refl, sym, ap, subst}
+use Rattle.std.proofs.Common.{◌∙◌, ◌-◌, ℕ, List, length, take, drop, All, refl, sym, ap, subst}
 use Rattle.std.proofs.lemmas.List.{take_rest}
 use Rattle.std.proofs.lemmas.List.Elements.{All-take}
-use Rattle.std.specs.Prelude.{Result, Ok, Err}
+use Rattle.std.specs.Prelude.{Ok, Err}
 use Rattle.entry_codec.specs.Grammar.{IsWithinLimits}
 use Rattle.farm_entry.specs.declared.entry.Entry.{Entry}
 use Rattle.farm_store.specs.Recorded.{Wrote}
@@ -25,7 +25,8 @@ pub returns-in-Ok-clause-kept : goal.returns-in-Ok-clause-kept
 returns-in-Ok-clause-kept g c =
     let start = c.args.start in
     let H = c.args.farm.now.history in
-    let same = ap (λ (l : List Entry). take (length l - start) (drop start l)) c.history.ensures.value ∙ take_rest H start in
+    let same = ap (λ (l : List Entry). take (length l - start) (drop start l)) c.history.ensures.value
+    ∙ take_rest H start in
     kept-stored g.D.Disk.tells g.D.Disk.told start c.args.farm.now c.args.journal.now c.requires.ahead
     c.args.farm.now c.write_new.new.journal refl c.write_new.ensures.same
     (subst (λ (l : List Entry). Wrote g.D.Disk.tells g.D.Disk.told l (Ok tt) c.args.journal.now c.write_new.new.journal)
@@ -35,7 +36,8 @@ pub returns-in-Ok-clause-any_moment : goal.returns-in-Ok-clause-any_moment
 returns-in-Ok-clause-any_moment g c =
     let start = c.args.start in
     let H = c.args.farm.now.history in
-    let same = ap (λ (l : List Entry). take (length l - start) (drop start l)) c.history.ensures.value ∙ take_rest H start in
+    let same = ap (λ (l : List Entry). take (length l - start) (drop start l)) c.history.ensures.value
+    ∙ take_rest H start in
     leaves-stored g.D.Disk.tells g.D.Disk.told start c.args.farm.now c.args.journal.now c.requires.ahead
     c.write_new.new.journal
     (subst (λ (l : List Entry). Wrote g.D.Disk.tells g.D.Disk.told l (Ok tt) c.args.journal.now c.write_new.new.journal)
@@ -45,7 +47,8 @@ pub returns-in-Err-clause-kept : goal.returns-in-Err-clause-kept
 returns-in-Err-clause-kept g c =
     let start = c.args.start in
     let H = c.args.farm.now.history in
-    let same = ap (λ (l : List Entry). take (length l - start) (drop start l)) c.history.ensures.value ∙ take_rest H start in
+    let same = ap (λ (l : List Entry). take (length l - start) (drop start l)) c.history.ensures.value
+    ∙ take_rest H start in
     let back = ap (λ (l : List Entry). length H - (length l - start)) c.history-in-Err.ensures.value
     ∙ back-start g.D.Disk.tells g.D.Disk.told start c.args.farm.now c.args.journal.now c.requires.ahead in
     kept-missed g.D.Disk.tells g.D.Disk.told start c.args.farm.now c.args.journal.now c.requires.ahead
@@ -60,7 +63,8 @@ pub returns-in-Err-clause-any_moment : goal.returns-in-Err-clause-any_moment
 returns-in-Err-clause-any_moment g c =
     let start = c.args.start in
     let H = c.args.farm.now.history in
-    let same = ap (λ (l : List Entry). take (length l - start) (drop start l)) c.history.ensures.value ∙ take_rest H start in
+    let same = ap (λ (l : List Entry). take (length l - start) (drop start l)) c.history.ensures.value
+    ∙ take_rest H start in
     leaves-missed g.D.Disk.tells g.D.Disk.told start c.args.farm.now c.args.journal.now c.requires.ahead
     c.write_new.new.journal c.in-Err.fault
     (subst (λ (l : List Entry). Wrote g.D.Disk.tells g.D.Disk.told l (Err c.in-Err.fault) c.args.journal.now

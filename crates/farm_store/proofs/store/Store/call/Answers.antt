@@ -18,8 +18,10 @@ returns-clause-longer g c =
     let old = c.args.self.now in
     let mid = c.repair.new.self in
     let new = c.decide-answered.new.self in
-    says-longer (record { command = c.args.command.now; at = c.args.at } ∷ []) (as_batch c.decide-answered.result) old new
-    (says-on old mid new c.in_default.ensures.decided c.in_default.ensures.repaired (record { command = c.args.command.now; at = c.args.at } ∷ []) (as_batch c.decide-answered.result) c.decide-answered.ensures.says)
+    let asks = record { command = c.args.command.now; at = c.args.at } ∷ [] in
+    says-longer asks (as_batch c.decide-answered.result) old new
+    (says-on old mid new c.in_default.ensures.decided c.in_default.ensures.repaired asks
+    (as_batch c.decide-answered.result) c.decide-answered.ensures.says)
 
 pub returns-clause-any_moment : goal.returns-clause-any_moment
 returns-clause-any_moment g c = λ t.

@@ -1,7 +1,6 @@
 -- What a call came to, from its repair and its decisions, by the lemmas of `Calls`.
-use Rattle.std.proofs.Common.{◌∙◌, ◌∷◌, [], inl}
+use Rattle.std.proofs.Common.{◌∙◌, inl}
 use Rattle.farm_disk.proofs.Moments.{leaves_only-weaker}
-use Rattle.farm_store.specs.Answering.{as_batch}
 use Rattle.farm_store.specs.State.{IsLeft, IsWithOrWithout}
 use Rattle.farm_store.proofs.Calls.{leaves-on, says-longer, says-on}
 use Rattle.farm_store.proofs.store.Store.call_batch.Goals as goal
@@ -19,7 +18,8 @@ returns-clause-longer g c =
     let mid = c.repair.new.self in
     let new = c.decide_all-answered.new.self in
     says-longer c.args.asks.now c.decide_all-answered.result old new
-    (says-on old mid new c.in_default.ensures.decided c.in_default.ensures.repaired c.args.asks.now c.decide_all-answered.result c.decide_all-answered.ensures.says)
+    (says-on old mid new c.in_default.ensures.decided c.in_default.ensures.repaired c.args.asks.now
+    c.decide_all-answered.result c.decide_all-answered.ensures.says)
 
 pub returns-clause-any_moment : goal.returns-clause-any_moment
 returns-clause-any_moment g c = λ t.

@@ -31,8 +31,10 @@ record_from-requires g c =
     let is : start ≡ length farm.history = ap length c.history-start.ensures.value in
     let legal : IsLegal farm'.history = subst IsLegal (sym c.in-Ok-Done.ensures.history)
     (after-legal farm.history q m (decide farm.history q m) refl c.self.invariant.keeps.legal) in
-    record { ahead = ahead t d farm journal c.self.invariant c.self.inside.recorded s c.self.view_is c.requires.decided
-        farm' 1 grows start is (omega arith) legal }
+    record {
+      ahead = ahead t d farm journal c.self.invariant c.self.inside.recorded s c.self.view_is c.requires.decided
+          farm' 1 grows start is (omega arith) legal;
+    }
 
 pub returns-in_err-record_from-in-Ok-Done-clause-says : goal.returns-in_err-record_from-in-Ok-Done-clause-says
 returns-in_err-record_from-in-Ok-Done-clause-says g c =
@@ -60,11 +62,14 @@ returns-in_err-record_from-in-Ok-Done-clause-says g c =
     (subst (λ (y : CallFault). CallSays q m (Err y) s new) same
     (one-missed asks f s new c.in_err-record_from-in-Ok-Done.ensures.of_the_store
     (says-missed t d farm journal c.self.invariant c.self.inside.recorded s c.self.view_is c.requires.decided
-    farm' 1 grows start is c.record_from.new.farm c.record_from.new.journal asks f c.in_err-record_from-in-Ok-Done.ensures.of_the_store zero
-    c.in-Ok-Done.ensures.history c.in_err-record_from-in-Ok-Done.ensures.taken_back c.in_err-record_from-in-Ok-Done.ensures.undecided c.in_err-record_from-in-Ok-Done.ensures.pending
+    farm' 1 grows start is c.record_from.new.farm c.record_from.new.journal asks f
+    c.in_err-record_from-in-Ok-Done.ensures.of_the_store zero
+    c.in-Ok-Done.ensures.history c.in_err-record_from-in-Ok-Done.ensures.taken_back
+    c.in_err-record_from-in-Ok-Done.ensures.undecided c.in_err-record_from-in-Ok-Done.ensures.pending
     c.in_err-record_from-in-Ok-Done.ensures.memory c.record_from.ensures.kept)))
 
-pub returns-in_err-record_from-in-Ok-Done-clause-any_moment : goal.returns-in_err-record_from-in-Ok-Done-clause-any_moment
+pub returns-in_err-record_from-in-Ok-Done-clause-any_moment :
+    goal.returns-in_err-record_from-in-Ok-Done-clause-any_moment
 returns-in_err-record_from-in-Ok-Done-clause-any_moment g c =
     let t = g.D.Disk.tells in
     let d = g.D.Disk.told in
@@ -80,8 +85,10 @@ returns-in_err-record_from-in-Ok-Done-clause-any_moment g c =
     let is : start ≡ length farm.history = ap length c.history-start.ensures.value in
     let f = c.in_err-record_from-in-Ok-Done.field-0.0 in
     leaves-missed t d farm journal c.self.invariant c.self.inside.recorded s c.self.view_is c.requires.decided
-    farm' 1 grows start is c.record_from.new.farm c.record_from.new.journal f c.in_err-record_from-in-Ok-Done.ensures.of_the_store
-    c.in_err-record_from-in-Ok-Done.ensures.taken_back c.in_err-record_from-in-Ok-Done.ensures.undecided c.in_err-record_from-in-Ok-Done.ensures.pending c.in_err-record_from-in-Ok-Done.ensures.any_moment
+    farm' 1 grows start is c.record_from.new.farm c.record_from.new.journal f
+    c.in_err-record_from-in-Ok-Done.ensures.of_the_store c.in_err-record_from-in-Ok-Done.ensures.taken_back
+    c.in_err-record_from-in-Ok-Done.ensures.undecided c.in_err-record_from-in-Ok-Done.ensures.pending
+    c.in_err-record_from-in-Ok-Done.ensures.any_moment
 
 pub overflow_sub-self : goal.overflow_sub-self
 overflow_sub-self g c =
@@ -98,7 +105,8 @@ overflow_sub-self g c =
     let start = length c.history-start.result.now in
     let is : start ≡ length farm.history = ap length c.history-start.ensures.value in
     let low = counted t d farm journal c.self.invariant c.self.inside.recorded s c.self.view_is c.requires.decided
-    farm' 1 grows start is c.record_from.new.farm c.record_from.new.journal c.in_ok-record_from-in-Ok-Done.ensures.stored in
+    farm' 1 grows start is c.record_from.new.farm c.record_from.new.journal
+    c.in_ok-record_from-in-Ok-Done.ensures.stored in
     subst (λ (l : List Entry). start ≤ length l) (sym c.history.ensures.value) low
 
 pub invariant_of-self-in-Ok-Refused : goal.invariant_of-self-in-Ok-Refused

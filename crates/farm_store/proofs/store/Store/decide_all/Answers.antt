@@ -1,5 +1,5 @@
 -- What each end of deciding a list of asks came to, by the lemmas of `Decided`.
-use Rattle.std.proofs.Common.{◌≡◌, ◌-◌, ◌∙◌, ℕ, List, length, sym, ap, subst}
+use Rattle.std.proofs.Common.{◌≡◌, ◌-◌, List, length, sym, ap, subst}
 use Rattle.farm_entry.specs.Legal.{IsLegal}
 use Rattle.farm_entry.specs.declared.entry.Entry.{Entry}
 use Rattle.farm_store.specs.StoreInside.{store_view}
@@ -23,8 +23,10 @@ record_from-requires g c =
     let is : start ≡ length farm.history = ap length c.history-start.ensures.value in
     let legal : IsLegal farm'.history = subst IsLegal (sym c.in-Ok.ensures.history)
     (history_after-legal farm.history asks c.self.invariant.keeps.legal) in
-    record { ahead = ahead t d farm journal c.self.invariant c.self.inside.recorded s c.self.view_is c.requires.decided
-        farm' most grows start is c.requires.few legal }
+    record {
+      ahead = ahead t d farm journal c.self.invariant c.self.inside.recorded s c.self.view_is c.requires.decided
+          farm' most grows start is c.requires.few legal;
+    }
 
 pub returns-in_err-record_from-in-Ok-clause-any_moment : goal.returns-in_err-record_from-in-Ok-clause-any_moment
 returns-in_err-record_from-in-Ok-clause-any_moment g c =
@@ -42,8 +44,10 @@ returns-in_err-record_from-in-Ok-clause-any_moment g c =
     let is : start ≡ length farm.history = ap length c.history-start.ensures.value in
     let f = c.in_err-record_from-in-Ok.field-0.0 in
     leaves-missed t d farm journal c.self.invariant c.self.inside.recorded s c.self.view_is c.requires.decided
-    farm' most grows start is c.record_from.new.farm c.record_from.new.journal f c.in_err-record_from-in-Ok.ensures.of_the_store
-    c.in_err-record_from-in-Ok.ensures.taken_back c.in_err-record_from-in-Ok.ensures.undecided c.in_err-record_from-in-Ok.ensures.pending c.in_err-record_from-in-Ok.ensures.any_moment
+    farm' most grows start is c.record_from.new.farm c.record_from.new.journal f
+    c.in_err-record_from-in-Ok.ensures.of_the_store c.in_err-record_from-in-Ok.ensures.taken_back
+    c.in_err-record_from-in-Ok.ensures.undecided c.in_err-record_from-in-Ok.ensures.pending
+    c.in_err-record_from-in-Ok.ensures.any_moment
 
 pub returns-in_ok-record_from-in-Ok-clause-any_moment : goal.returns-in_ok-record_from-in-Ok-clause-any_moment
 returns-in_ok-record_from-in-Ok-clause-any_moment g c =

@@ -1,4 +1,4 @@
-use Rattle.std.proofs.Common.{◌≡◌, true, sym, ap, subst, ◌∙◌}
+use Rattle.std.proofs.Common.{sym, ap, subst, ◌∙◌}
 use Rattle.farm_store.specs.State.{IsStored, StoreState}
 use Rattle.farm_store.proofs.Calls.{stored-view}
 use Rattle.farm_store.proofs.store.Store.into_disk.Goals as goal
