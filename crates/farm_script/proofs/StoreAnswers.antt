@@ -73,7 +73,7 @@ pub one-answered : {D : Type 0} (q : Command) (m : Moment) (a : Answer) (old new
 one-answered q m a old new none said =
     let same : said.repaired ≡ old.history = repaired-same old said.repaired none said.found in
     record {
-      answer = subst (λ (H : List Entry). IsAnswer H (decide H q m) a) same said.each.0;
+      answer = subst (λ (H : List Entry). IsAnswer H (decide H q m) a) same said.answers.0;
       history = said.history ∙ ap (λ (H : List Entry). after H (decide H q m)) same;
     }
 
