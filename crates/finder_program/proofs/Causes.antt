@@ -1,5 +1,5 @@
 -- What a status says of the disk's faults.
-use Rattle.std.proofs.Common.{◌≡◌, ◌≢◌, ◌∙◌, ℕ, List, refl}
+use Rattle.std.proofs.Common.{◌≡◌, ◌≢◌, ◌∙◌, ℕ, List, refl, subst}
 use Rattle.farm_journal.specs.Created.{CreatingCause}
 use Rattle.farm_journal.specs.Opened.{OpeningCause}
 use Rattle.farm_journal.specs.declared.fault.CreateFault.{CreateFault}
@@ -63,3 +63,18 @@ end-cause AlreadyBorn before after end old new said first last rises = tt
 end-cause Memory before after end old new said first last rises = tt
 end-cause (BadInput l) before after end old new said first last rises = tt
 end-cause InputLimit before after end old new said first last rises = tt
+
+-- the same, where the count at the start is known otherwise
+pub cause-same : (status : Status) (old other new : DiskSeen) → other.faults ≡ old.faults → HasStoreCause status other new
+    → HasStoreCause status old new
+cause-same Done old other new same cause = tt
+cause-same Usage old other new same cause = tt
+cause-same ReadFault old other new same cause = tt
+cause-same WriteFault old other new same cause = tt
+cause-same (StoreFault b a) old other new same cause = (cause.0 ∙ same, cause.1, subst (λ (n : ℕ). Rose n new.faults) same cause.2)
+cause-same (Damaged o) old other new same cause = tt
+cause-same Unborn old other new same cause = tt
+cause-same AlreadyBorn old other new same cause = tt
+cause-same Memory old other new same cause = tt
+cause-same (BadInput l) old other new same cause = tt
+cause-same InputLimit old other new same cause = tt

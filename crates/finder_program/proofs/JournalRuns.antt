@@ -1,5 +1,5 @@
 -- A run over a journal, from its opening on.
-use Rattle.std.proofs.Common.{◌≡◌, ◌++◌, ◌+◌, ◌<◌, ◌≤◌, ℕ, true, List, [], ◌∷◌, length, sym, ap, ◌∙◌, subst, ⊎_elim, append_assoc, length-append, arith}
+use Rattle.std.proofs.Common.{◌≡◌, ◌≢◌, ◌++◌, ◌+◌, ◌<◌, ◌≤◌, ℕ, true, List, [], ◌∷◌, length, sym, ap, ◌∙◌, subst, ⊎_elim, append_assoc, length-append, arith}
 use Rattle.std.proofs.lemmas.Bool.{cases_lt}
 use Rattle.farm_disk.proofs.Moments.{leaves-append, leaves-later, leaves-weaker, leaves_only-trans, leaves_only-weaker}
 use Rattle.farm_disk.specs.Images.{DiskState, IsSettled, IsSyncedAt, LeavesOnly, LeavesSince, LeavesSinceSync, Step, cut, moment, still, sync, write}
@@ -8,12 +8,21 @@ use Rattle.farm_entry.specs.declared.entry.Entry.{Entry}
 use Rattle.farm_journal.specs.ReadsOnly.{ReadsOnly}
 use Rattle.farm_script.proofs.Growing.{between-first}
 use Rattle.farm_script.specs.Images.{Rests, StandsBetween}
+use Rattle.farm_script.specs.FarmRule.{farm_rule}
+use Rattle.farm_script.specs.FoundedRun.{in_memory}
+use Rattle.farm_script.specs.RunEnds.{RunEnds}
+use Rattle.farm_script.specs.StoreFarm.{StoreGrows}
 use Rattle.farm_script.specs.declared.run_end.RunEnd.{RunEnd}
+use Rattle.farm_script.specs.declared.run_end.RunEnd.TheVariants as script
 use Rattle.farm_store.specs.Bytes.{StandsFor}
 use Rattle.farm_store.specs.State.{IsStored, StoreState}
 use Rattle.link_io.specs.Streams.{Streams}
 use Rattle.finder_program.specs.Disks.{disk_seen}
+use Rattle.farm_script.specs.Shown.{shown_text}
 use Rattle.finder_program.specs.RunJournal.{JournalRan, StoreRan}
+use Rattle.finder_program.specs.Show.{JournalShown}
+use Rattle.finder_program.specs.TextPut.{OutputSeen, TextPut}
+use Rattle.finder_program.specs.declared.status.Status.{Status}
 
 -- a sync at a moment that has passed is among the steps up to then
 synced-before : (more steps : List Step) (t : ℕ) → t ≤ length steps → IsSyncedAt (more ++ steps) t → IsSyncedAt steps t
@@ -88,3 +97,36 @@ ran-opened {D} meant end before after store old new opened ran =
       any_moment = λ tell settled. any_moment-opened (meant.told old) (meant.told store.disk) (meant.told new) P
           (first tell) (opened.only tell) (ran.each (opened.same ∙ tell) (rested tell)) settled;
     }
+
+-- a run over a store, by what its history grew to
+pub ran-from_grows : {D : Type 0} (meant : disk.Ghosts D) (end : RunEnd) (before after : Streams) (old new : StoreState D)
+    (left : D) → left ≡ new.disk → StoreGrows meant old new
+    → RunEnds farm_rule end (in_memory before old.history) (in_memory after new.history)
+    → (end ≢ script.StoreFault → new.pending ≡ []) → StoreRan meant end before after old left
+ran-from_grows {D} meant end before after old new left is grows ends decided =
+    subst (λ (d : D). StoreRan meant end before after old d) (sym is) (record {
+      last = new.history;
+      pending = new.pending;
+      more = grows.more;
+      longer = grows.longer;
+      ends = ends;
+      decided = decided;
+      same = grows.same;
+      rests = grows.rests;
+      each = grows.each;
+    })
+
+-- what was shown of a store that was opened is the text of its journal's history
+pub shown-opened : {D : Type 0} (meant : disk.Ghosts D) (status : Status) (before after : OutputSeen)
+    (store : StoreState D) (old left : D) (H : List Entry) → H ≡ store.history → left ≡ store.disk
+    → (meant.tells old ≡ true → StandsFor store.history (meant.told old).bytes)
+    → (meant.tells old ≡ true → ReadsOnly (meant.told old) (meant.told store.disk))
+    → TextPut (shown_text H) status before after
+    → JournalShown status before after (disk_seen meant old) (disk_seen meant left)
+shown-opened {D} meant status before after store old left H same is held only put =
+    subst (λ (d : D). JournalShown status before after (disk_seen meant old) (disk_seen meant d)) (sym is) (record {
+      history = store.history;
+      held = held;
+      only = only;
+      text = subst (λ (h : List Entry). TextPut (shown_text h) status before after) same put;
+    })
