@@ -1,12 +1,23 @@
 //! Journals as bytes: those that others made, and those that are written.
 use farm_disk::{CalmDisk, Disk};
-use farm_journal::{GATE_LIMIT, Journal, MAGIC, MAX_PAYLOAD, VERSION_2};
+use farm_journal::{
+    CreateFault, GATE_LIMIT, Journal, JournalFault, MAGIC, MAX_PAYLOAD, OpeningFault, Payload,
+    VERSION_2,
+};
 use std::alloc::Global;
 use std::io;
 
-/// Prints what a file opens to: the version, the offset of the closed gate and the payloads, or why it doesn't open.
-pub(crate) fn play_open(rt: &impl Print, alloc: Global, file: Vec<u8>) -> io::Result<()> {
-    match Journal::open_on(alloc, CalmDisk::of(file)) {
+// Prints why a disk doesn't open.
+fn print_opening_fault(rt: &impl Print, fault: OpeningFault) -> io::Result<()> {
+    match fault {
+        OpeningFault::StoreFault { before, after } => println!(rt; "{fault}: {before} to {after}"),
+        _ => println!(rt; "{fault}"),
+    }
+}
+
+/// Prints what a disk opens to: the version, the offset of the closed gate and the payloads, or why it doesn't open.
+pub(crate) fn play_open<D: Disk + Drop>(rt: &impl Print, alloc: Global, disk: D) -> io::Result<()> {
+    match Journal::open_on(alloc, disk) {
         Ok((journal, payloads)) => {
             print!(rt; "version {}, gate {}", journal.version(), journal.gate())?;
             for payload in payloads.as_slice() {
@@ -15,7 +26,7 @@ pub(crate) fn play_open(rt: &impl Print, alloc: Global, file: Vec<u8>) -> io::Re
             }
             println!(rt; "")
         }
-        Err((_, fault)) => println!(rt; "{fault}"),
+        Err((_, fault)) => print_opening_fault(rt, fault),
     }
 }
 
@@ -36,43 +47,72 @@ pub(crate) fn play_longest(rt: &impl Print, alloc: Global, length: u32) -> io::R
     }
 }
 
-/// Creates a journal, and prints the bytes of its file, or why none was created.
-pub(crate) fn play_create(
-    rt: &impl Print,
-    alloc: Global,
-    file: Vec<u8>,
-    payload: Vec<u8>,
-) -> io::Result<()> {
-    if payload.is_empty() || payload.len() > MAX_PAYLOAD {
-        return println!(rt; "outside the limits");
-    }
-    match Journal::create(alloc, CalmDisk::of(file), payload) {
-        Ok(journal) => {
-            let disk = journal.into_disk();
-            let digits = hex::encode(alloc, disk.bytes())?;
+/// Prints the bytes of a payload that is a copy of these.
+pub(crate) fn play_payload(rt: &impl Print, alloc: Global, bytes: &[u8]) -> io::Result<()> {
+    match Payload::copy_of(alloc, bytes) {
+        Ok(payload) => {
+            let digits = hex::encode(alloc, payload.bytes())?;
             println!(rt; "{digits}")
         }
-        Err((_, fault)) => println!(rt; "{fault}"),
+        Err(fault) => println!(rt; "{fault}"),
     }
 }
 
-/// Opens a journal and appends to it, and prints the bytes of its file.
-pub(crate) fn play_append(
+/// Creates a journal, and answers its disk; or prints why none was created.
+pub(crate) fn create<D: Disk + Drop>(
     rt: &impl Print,
     alloc: Global,
-    file: Vec<u8>,
+    disk: D,
     payload: Vec<u8>,
-) -> io::Result<()> {
-    match Journal::open_on(alloc, CalmDisk::of(file)) {
-        Ok((mut journal, _)) => {
-            if !append(alloc, &mut journal, &payload) {
-                return println!(rt; "not appended");
+) -> io::Result<Option<D>> {
+    if payload.is_empty() || payload.len() > MAX_PAYLOAD {
+        println!(rt; "outside the limits")?;
+        return Ok(None);
+    }
+    match Journal::create(alloc, disk, payload) {
+        Ok(journal) => Ok(Some(journal.into_disk())),
+        Err((_, fault)) => {
+            match fault {
+                CreateFault::StoreFault { before, after } => println!(rt;
+                    "{fault}: {before} to {after}"
+                )?,
+                _ => println!(rt; "{fault}")?,
             }
-            let disk = journal.into_disk();
+            Ok(None)
+        }
+    }
+}
+
+/// Opens a journal, appends to it, and answers its disk; or prints why nothing was appended.
+pub(crate) fn open_and_append<D: Disk + Drop>(
+    rt: &impl Print,
+    alloc: Global,
+    disk: D,
+    payload: &[u8],
+) -> io::Result<Option<D>> {
+    match Journal::open_on(alloc, disk) {
+        Ok((mut journal, _)) => {
+            if !append(alloc, &mut journal, payload) {
+                println!(rt; "not appended")?;
+                return Ok(None);
+            }
+            Ok(Some(journal.into_disk()))
+        }
+        Err((_, fault)) => {
+            print_opening_fault(rt, fault)?;
+            Ok(None)
+        }
+    }
+}
+
+/// Prints the bytes of a disk in memory, where there is one.
+pub(crate) fn print_disk(rt: &impl Print, alloc: Global, disk: Option<CalmDisk>) -> io::Result<()> {
+    match disk {
+        Some(disk) => {
             let digits = hex::encode(alloc, disk.bytes())?;
             println!(rt; "{digits}")
         }
-        Err((_, fault)) => println!(rt; "{fault}"),
+        None => Ok(()),
     }
 }
 

@@ -7,8 +7,8 @@ use farm_journal::{Journal, JournalFault, Repaired};
 use std::alloc::{AllocError, Global};
 use std::io;
 
-// The calls that are to fail: for each its number and how many bytes are kept.
-fn fails_of(alloc: Global, text: &str) -> Result<Vec<DiskFail>, AllocError> {
+/// The calls that are to fail: for each its number and how many bytes are kept.
+pub(crate) fn fails_of(alloc: Global, text: &str) -> Result<Vec<DiskFail>, AllocError> {
     let mut fails = Vec::new(alloc);
     for pair in text.split(' ') {
         let (call, kept) = pair.split_once(',').unwrap_or((pair, ""));

@@ -31,7 +31,7 @@ use Rattle.search_laws.specs.Steps.{IsAbout, handed_out, open_of, without_report
 -- A report of another search's run adds nothing to a search.
 
 -- the run that an entry reports is of another search
-abbrev IsOfOther : List Entry → What → ℕ → Type 0
+abbrev pub IsOfOther : List Entry → What → ℕ → Type 0
 IsOfOther H what s = (r : ReportedRun) (l : LeasedRun) → report_in what ≡ Some r → lease_of H r.run ≡ Some l →
     l.search == s ≡ false
 
@@ -60,7 +60,7 @@ counted-same_by H e s stage (Some r) step other is grown =
     (other r l is facts.known) in
     grown ∙ none-more (counted H s stage) (counted_run longer s stage r) none
 
-counted-same : (H : List Entry) (e : Entry) (s : ℕ) (stage : Stage) → IsLegal H → Stepped H e.at e.what →
+pub counted-same : (H : List Entry) (e : Entry) (s : ℕ) (stage : Stage) → IsLegal H → Stepped H e.at e.what →
     IsOfOther H e.what s →
     counted (H ++ e ∷ []) s stage ≡ counted H s stage
 counted-same H e s stage legal step other =
@@ -91,7 +91,7 @@ over-same_by H e s (Some r) step other is grown =
     grown ∙ or-none (went_over H s) _ (or-none (is_over r.fate && is_of_search s (lease_of
     (H ++ e ∷ []) r.run)) false refl ∙ none)
 
-over-same : (H : List Entry) (e : Entry) (s : ℕ) → IsLegal H → Stepped H e.at e.what → IsOfOther H e.what s →
+pub over-same : (H : List Entry) (e : Entry) (s : ℕ) → IsLegal H → Stepped H e.at e.what → IsOfOther H e.what s →
     went_over (H ++ e ∷ []) s ≡ went_over H s
 over-same H e s legal step other =
     over-same_by H e s (report_in e.what) step other refl (went_over-grow H e s (reports-known H legal))
@@ -103,7 +103,7 @@ cancelled-same_by H e s None other grown = grown ∙ or-none (was_cancelled H s)
 cancelled-same_by H e s (Some x) other grown =
     grown ∙ or-none (was_cancelled H s) _ (or-none (x == s) false refl ∙ other x refl)
 
-cancelled-same : (H : List Entry) (e : Entry) (s : ℕ) → ((x : ℕ) → cancelled_in e.what ≡ Some x → x == s ≡ false) →
+pub cancelled-same : (H : List Entry) (e : Entry) (s : ℕ) → ((x : ℕ) → cancelled_in e.what ≡ Some x → x == s ≡ false) →
     was_cancelled (H ++ e ∷ []) s ≡ was_cancelled H s
 cancelled-same H e s other = cancelled-same_by H e s (cancelled_in e.what) other (was_cancelled-grow H e s)
 
@@ -116,7 +116,7 @@ run_of_report (Some r) = r.run
 differ : (a b : ℕ) → (a ≡ b → ⊥) → a == b ≡ false
 differ a b h = ne_eqb a b h
 
-not_about-report : (H : List Entry) (what : What) (s : ℕ) → (IsAbout H what s → ⊥) → IsOfOther H what s
+pub not_about-report : (H : List Entry) (what : What) (s : ℕ) → (IsAbout H what s → ⊥) → IsOfOther H what s
 not_about-report H (Reported run verdict _) s other r l is known =
     let same : run ≡ r.run = ap run_of_report is in
     differ l.search s (λ of_it. other (l, ap (lease_of H) same ∙ known, of_it))
@@ -126,7 +126,7 @@ not_about-report H (Leased k w q t p d x) s other r l is known = absurd (none-so
 not_about-report H (Cancelled k q) s other r l is known = absurd (none-some r is)
 not_about-report H (Ordered k a n c q d) s other r l is known = absurd (none-some r is)
 
-not_about-cancel : (H : List Entry) (what : What) (s : ℕ) → (IsAbout H what s → ⊥) → (x : ℕ) →
+pub not_about-cancel : (H : List Entry) (what : What) (s : ℕ) → (IsAbout H what s → ⊥) → (x : ℕ) →
     cancelled_in what ≡ Some x → x == s ≡ false
 not_about-cancel H (Cancelled key q) s other x is =
     let same : q ≡ x = cc in

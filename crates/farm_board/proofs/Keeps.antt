@@ -1,0 +1,365 @@
+-- Each kind of step keeps the rule of the row.
+use Rattle.std.proofs.Common.{zero, suc, ◌≡◌, ◌≢◌, ◌++◌, ◌∷◌, [], List, ℕ, Bool, true, false, ◌+◌, ◌%◌, ◌^◌, ◌==◌, ◌<◌, ◌≤◌, length, get_or, set, sym, refl, ap, ◌∙◌, subst, inl, inr, ⊎_elim, arith, length-set, get_or-set_same, get_or-set_other, add-one}
+use mathlib.Core.Logic.{dite}
+use mathlib.Core.Option.{some, none, some-injective, some-ne-none}
+use native.Mathlib.Decide.{ℕ_discrete}
+use prog.Atomic.{either}
+use lib.ListN.{get_elem?}
+use lib.Seq.{set-get_or}
+use Rattle.atomic_table.specs.Table.{State, Me, Act, keeps, Valid, stepped, step, carried_after, Allows, Splits, opening}
+use Rattle.atomic_table.proofs.Lists.{at_set, at_snoc, at_longer, exchanged, set_again, set_else, set_here}
+use Rattle.farm_entry.specs.Legal.{IsLegal}
+use Rattle.farm_entry.specs.declared.entry.Entry.{Entry}
+use Rattle.list_prefix.specs.Prefix.{IsPrefix}
+use Rattle.list_prefix.proofs.Prefixes.{IsPrefix-refl, IsPrefix-nil, IsPrefix-trans}
+use Rattle.farm_board.specs.Rule.{At, AreOf, IsKept, IsPosted, IsReading, version_of}
+use Rattle.farm_board.specs.Steps.{Begins, Checks, Ends, Peeks, Puts, Starts}
+use Rattle.farm_board.specs.Views.{idle, posting, reading, resting}
+use Rattle.farm_board.specs.declared.row.View.{View}
+use Rattle.farm_board.proofs.Numbers.{old_or_last}
+
+at-lt-length : {A : Type 0} (l : List A) (i : ℕ) (a : A) → get_elem? l i ≡ some a → i < length l
+at-lt-length [] i a e = absurd (some-ne-none a (sym e))
+at-lt-length (x ∷ xs) zero a e = omega arith
+at-lt-length (x ∷ xs) (suc i) a e = let h = at-lt-length xs i a e in omega arith
+
+both_ways : (b : Bool) → b ≡ true → b ≡ false → ⊥
+both_ways b t f = let e : true ≡ false = sym t ∙ f in cc
+
+false_of_not : (b : Bool) → (b ≡ true → ⊥) → b ≡ false
+false_of_not true h = absurd (h refl)
+false_of_not false h = refl
+
+one_view : (l : List View) (i j : ℕ) (v w : View) → get_elem? l i ≡ some v → get_elem? l j ≡ some w → i ≡ j → v ≡ w
+one_view l i j v w a b e = some-injective v w (sym a ∙ (ap (λ (n : ℕ). get_elem? l n) e ∙ b))
+
+only : (w v : View) (i : ℕ) → get_elem? (w ∷ []) i ≡ some v → (i ≡ 0) × (w ≡ v)
+only w v zero at = (refl, some-injective w v at)
+only w v (suc i) at = absurd (some-ne-none v (sym at))
+
+abbrev St : Type 0
+St = State (Unit {0}) View
+
+abbrev Seat : Type 0
+Seat = Me (Unit {0}) View
+
+abbrev table : List ℕ → List (mathlib.Core.Option.Option (Unit {0})) → List View → St
+table words homes views = record { words = words; homes = homes; views = views }
+
+-- the row at the start, without its version
+abbrev pub zeros : List ℕ
+zeros = 0 ∷ 0 ∷ 0 ∷ 0 ∷ 0 ∷ 0 ∷ 0 ∷ 0 ∷ []
+
+module _ (number : List Entry → ℕ → ℕ) where
+  -- the table at the start
+  pub starts_empty : ((k : ℕ) → get_or zeros k 0 ≡ number [] k)
+      → IsKept number (opening {S = Unit {0}} (0 ∷ zeros) [] (resting 0 []))
+  starts_empty none_yet =
+      let w : View = resting 0 [] in
+      record {
+        words = refl;
+        poster = 0;
+        view = w;
+        at = refl;
+        posts = refl;
+        only = λ i v at p. (only w v i at).0;
+        version = refl;
+        legal = inl refl;
+        seen = λ i v at. subst (λ (x : View). IsPrefix x.seen []) (only w v i at).1 (IsPrefix-nil []);
+        rest = λ _. (
+          refl,
+          λ k h. subst (λ (n : ℕ). get_or (0 ∷ zeros) n 0 ≡ number [] k) (sym (add-one k))
+              (none_yet k),
+        );
+        work = λ t. absurd (both_ways false t refl);
+        reading = λ i v at r. absurd (both_ways false (ap (λ (x : View). x.reads) (only w v i at).1 ∙ r) refl);
+      }
+
+  -- a seat that doesn't post goes on, and the words stay
+  reader_moves : (s : St) (k : IsKept number s) (id : ℕ) (v w : View) → At s id v → v.posts ≡ false → w.posts ≡ false
+      → IsPrefix w.seen k.view.seen → (w.reads ≡ true → IsReading number (version_of s) k.view.seen w)
+      → IsKept number (table s.words s.homes (set s.views id w))
+  reader_moves s k id v w at vp wp low knows =
+      let apart : k.poster ≢ id = λ e.
+      both_ways k.view.posts k.posts
+      (ap (λ (y : View). y.posts) (one_view s.views k.poster id k.view v k.at at e) ∙ vp) in
+      record {
+        words = k.words;
+        poster = k.poster;
+        view = k.view;
+        at = set_else s.views id k.poster w apart ∙ k.at;
+        posts = k.posts;
+        only = λ i u h p. ⊎_elim
+            (λ t. absurd (both_ways u.posts p (sym (ap (λ (y : View). y.posts) t.1) ∙ wp)))
+            (λ t. k.only i u t.1 p)
+            (at_set s.views id i w u h);
+        version = k.version;
+        legal = k.legal;
+        seen = λ i u h. ⊎_elim
+            (λ t. subst (λ (y : View). IsPrefix y.seen k.view.seen) t.1 low)
+            (λ t. k.seen i u t.1)
+            (at_set s.views id i w u h);
+        rest = k.rest;
+        work = k.work;
+        reading = λ i u h r. ⊎_elim
+            (λ t. subst (λ (y : View). IsReading number (version_of s) k.view.seen y) t.1
+            (knows (ap (λ (y : View). y.reads) t.1 ∙ r)))
+            (λ t. k.reading i u t.1 r)
+            (at_set s.views id i w u h);
+      }
+
+  reader_step : (s : St) (k : IsKept number s) (i id : ℕ) (v w : View) (c : List (ℕ × Unit {0})) → At s id v
+      → v.posts ≡ false
+      → w.posts ≡ false → IsPrefix w.seen k.view.seen → (w.reads ≡ true → IsReading number (version_of s) k.view.seen w)
+      → IsKept number (stepped s i (get_or s.words i 0) id c w keeps)
+  reader_step s k i id v w c at vp wp low knows =
+      subst (λ (ws : List ℕ). IsKept number (table ws s.homes (set s.views id w))) (sym (set-get_or s.words i 0))
+      (reader_moves s k id v w at vp wp low knows)
+
+  -- a look begins
+  pub begins : (id : ℕ) (m : Seat) → m.0 ≡ idle m.0.seen
+      → Allows (IsKept number) 0 id m 0 (λ n. n) (Begins (step 0 0 0 0 none) m)
+  begins id m is_idle s k none_at at fits =
+      let no_post : m.0.posts ≡ false = ap (λ (y : View). y.posts) is_idle in
+      let no_read : m.0.reads ≡ false = ap (λ (y : View). y.reads) is_idle in
+      let w : View = reading (version_of s) m.0.seen k.view.seen [] in
+      dite (ℕ_discrete (version_of s % 2) 0)
+      (λ even. (
+        w,
+        keeps,
+        tt,
+        reader_step s k 0 id m.0 w m.1 at no_post refl (k.seen id m.0 at)
+            (λ _. record {
+              even = even;
+              past = omega arith;
+              begins = k.seen id m.0 at;
+              legal = k.legal;
+              same = λ _. (refl, λ j h. absurd (omega arith));
+            }),
+        ((λ _. (k.view.seen, k.seen id m.0 at, k.legal, refl)), λ odd. absurd (odd even)),
+      ))
+      (λ odd. (
+        m.0,
+        keeps,
+        tt,
+        reader_step s k 0 id m.0 m.0 m.1 at no_post no_post (k.seen id m.0 at)
+            (λ r. absurd (both_ways m.0.reads r no_read)),
+        ((λ even. absurd (odd even)), λ _. refl),
+      ))
+
+  -- one number is read
+  pub peeks : (id j : ℕ) (m : Seat) → m.0.posts ≡ false → m.0.reads ≡ true → length m.0.numbers ≡ j → j < 8
+      → Allows (IsKept number) 0 id m (j + 1) (λ n. n) (Peeks (step 0 (j + 1) 0 0 none) m)
+  peeks id j m no_post reads long short s k none_at at fits =
+      let old = k.reading id m.0 at reads in
+      let found : ℕ = get_or s.words (j + 1) 0 in
+      let w : View = reading m.0.version m.0.seen m.0.at (m.0.numbers ++ found ∷ []) in (
+        w,
+        keeps,
+        tt,
+        reader_step s k (j + 1) id m.0 w m.1 at no_post refl (k.seen id m.0 at)
+            (λ _. record {
+              even = old.even;
+              past = old.past;
+              begins = old.begins;
+              legal = old.legal;
+              same = λ same.
+                  let o = old.same same in
+                  let calm : k.view.writes ≡ false = false_of_not k.view.writes
+                  (λ t. let odd = (k.work t).0 in let even = old.even in omega (arith, odd, even, same)) in (
+                    o.0,
+                    λ i h. ⊎_elim
+                        (λ t. t.1 ∙ o.1 i t.0)
+                        (λ t. let e : i ≡ j = t.0 ∙ long in
+                        t.1 ∙ ((k.rest calm).1 j short ∙ (ap (λ (l : List Entry). number l j) (sym o.0)
+                        ∙ ap (λ (n : ℕ). number m.0.at n) (sym e))))
+                        (old_or_last m.0.numbers found i h),
+                  );
+            }),
+        refl,
+      )
+
+  -- the second look at the version
+  pub checks : (id : ℕ) (m : Seat) → m.0.posts ≡ false → m.0.reads ≡ true
+      → Allows (IsKept number) 0 id m 0 (λ n. n) (Checks number (step 0 0 0 0 none) m)
+  checks id m no_post reads s k none_at at fits =
+      let old = k.reading id m.0 at reads in
+      dite (ℕ_discrete (version_of s) m.0.version)
+      (λ e. let o = old.same (sym e) in (
+        idle m.0.at,
+        keeps,
+        tt,
+        reader_step s k 0 id m.0 (idle m.0.at) m.1 at no_post refl
+            (subst (λ (l : List Entry). IsPrefix l k.view.seen) (sym o.0) (IsPrefix-refl k.view.seen))
+            (λ r. absurd (both_ways false r refl)),
+        ((λ _. (o.1, refl)), λ ne. absurd (ne e)),
+      ))
+      (λ ne. (
+        idle m.0.seen,
+        keeps,
+        tt,
+        reader_step s k 0 id m.0 (idle m.0.seen) m.1 at no_post refl (k.seen id m.0 at)
+            (λ r. absurd (both_ways false r refl)),
+        ((λ e. absurd (ne e)), λ _. refl),
+      ))
+
+  -- the seat that posts goes on, and no version that a reader began with is the new one
+  poster_moves : (s : St) (k : IsKept number s) (w : View) (ws : List ℕ) → length ws ≡ 9 → w.posts ≡ true
+      → w.reads ≡ false
+      → w.version ≡ get_or ws 0 0 → IsPrefix k.view.seen w.seen → IsPosted w.seen → version_of s ≤ get_or ws 0 0
+      → ((x : ℕ) → x ≤ version_of s → x % 2 ≡ 0 → x ≡ get_or ws 0 0 → ⊥)
+      → (w.writes ≡ false → (get_or ws 0 0 % 2 ≡ 0) × ((j : ℕ) → j < 8 → get_or ws (j + 1) 0 ≡ number w.seen j))
+      → (w.writes ≡ true
+      → (get_or ws 0 0 % 2 ≡ 1) × ((j : ℕ) → j < length w.numbers → get_or ws (j + 1) 0 ≡ get_or w.numbers j 0))
+      → IsKept number (table ws s.homes (set s.views k.poster w))
+  poster_moves s k w ws wide posts no_read known up legal later new rest work = record {
+    words = wide;
+    poster = k.poster;
+    view = w;
+    at = set_here s.views k.poster w (at-lt-length s.views k.poster k.view k.at);
+    posts = posts;
+    only = λ i u h p. ⊎_elim (λ t. t.0) (λ t. k.only i u t.1 p) (at_set s.views k.poster i w u h);
+    version = known;
+    legal = legal;
+    seen = λ i u h. ⊎_elim
+        (λ t. subst (λ (y : View). IsPrefix y.seen w.seen) t.1 (IsPrefix-refl w.seen))
+        (λ t. IsPrefix-trans u.seen k.view.seen w.seen (k.seen i u t.1) up)
+        (at_set s.views k.poster i w u h);
+    rest = rest;
+    work = work;
+    reading = λ i u h r. ⊎_elim
+        (λ t. absurd (both_ways u.reads r (sym (ap (λ (y : View). y.reads) t.1) ∙ no_read)))
+        (λ t. let o = k.reading i u t.1 r in record {
+          even = o.even;
+          past = omega (arith, o.past, later);
+          begins = o.begins;
+          legal = o.legal;
+          same = λ same. absurd (new u.version o.past o.even same);
+        })
+        (at_set s.views k.poster i w u h);
+  }
+
+  -- a post begins
+  pub starts : (id : ℕ) (m : Seat) → m.0.posts ≡ true → m.0.writes ≡ false → m.0.version + 1 < 2 ^ 64
+      → Allows (IsKept number) 0 id m 0 (λ n. (n + 1) % 2 ^ 64) (Starts (step 0 0 1 0 none) m)
+  starts id m posts rests small s k none_at at fits =
+      let same : id ≡ k.poster = k.only id m.0 at posts in
+      let vw : k.view ≡ m.0 = one_view s.views k.poster id k.view m.0 k.at at (sym same) in
+      let ver : version_of s ≡ m.0.version = sym k.version ∙ ap (λ (y : View). y.version) vw in
+      let calm : k.view.writes ≡ false = ap (λ (y : View). y.writes) vw ∙ rests in
+      let even = (k.rest calm).0 in
+      let e : (version_of s + 1) % 2 ^ 64 ≡ version_of s + 1 = omega (arith, ver, small) in
+      let w : View = posting (m.0.version + 1) m.0.seen [] in
+      let ws : List ℕ = set s.words 0 (version_of s + 1) in
+      let here : get_or ws 0 0 ≡ version_of s + 1 =
+      get_or-set_same s.words 0 (version_of s + 1) 0 (omega (arith, k.words)) in
+      let kept = poster_moves s k w ws (length-set s.words 0 (version_of s + 1) ∙ k.words) refl refl
+      (omega (arith, here, ver))
+      (subst (λ (y : View). IsPrefix k.view.seen y.seen) vw (IsPrefix-refl k.view.seen))
+      (subst (λ (y : View). IsPosted y.seen) vw k.legal)
+      (omega (arith, here)) (λ x le _ eq. omega (arith, here, le, eq)) (λ f. absurd (both_ways true refl f))
+      (λ _. (omega (arith, here, even), λ j h. absurd (omega arith))) in (
+        w,
+        keeps,
+        tt,
+        subst (λ (n : ℕ). IsKept number (table (set s.words 0 n) s.homes (set s.views id w))) (sym e)
+            (subst (λ (i : ℕ). IsKept number (table ws s.homes (set s.views i w))) (sym same) kept),
+        (ver, refl),
+      )
+
+  -- one number is written
+  pub puts : (id j x : ℕ) (m : Seat) → m.0.posts ≡ true → m.0.writes ≡ true → length m.0.numbers ≡ j → j < 8
+      → Allows (IsKept number) 0 id m (j + 1) (λ _. x) (λ _. Puts (step 0 (j + 1) x 0 none) m x)
+  puts id j x m posts writes long short s k none_at at fits =
+      let same : id ≡ k.poster = k.only id m.0 at posts in
+      let vw : k.view ≡ m.0 = one_view s.views k.poster id k.view m.0 k.at at (sym same) in
+      let ver : version_of s ≡ m.0.version = sym k.version ∙ ap (λ (y : View). y.version) vw in
+      let work = k.work (ap (λ (y : View). y.writes) vw ∙ writes) in
+      let odd = work.0 in
+      let list_is : k.view.numbers ≡ m.0.numbers = ap (λ (y : View). y.numbers) vw in
+      let w : View = posting m.0.version m.0.seen (m.0.numbers ++ x ∷ []) in
+      let ws : List ℕ = set s.words (j + 1) x in
+      let first : get_or ws 0 0 ≡ version_of s = get_or-set_other s.words (j + 1) 0 x 0 (λ e. omega arith) in
+      let kept = poster_moves s k w ws (length-set s.words (j + 1) x ∙ k.words) refl refl (sym ver ∙ sym first)
+      (subst (λ (y : View). IsPrefix k.view.seen y.seen) vw (IsPrefix-refl k.view.seen))
+      (subst (λ (y : View). IsPosted y.seen) vw k.legal)
+      (omega (arith, first)) (λ y le even eq. omega (arith, first, even, eq, odd)) (λ f. absurd (both_ways true refl f))
+      (λ _. (
+        rw first odd,
+        λ i h. ⊎_elim
+            (λ t. get_or-set_other s.words (j + 1) (i + 1) x 0 (λ e. let l = t.0 in omega (arith, l, long, e))
+            ∙ (work.1 i (let l = t.0 in rw list_is l) ∙ (ap (λ (l : List ℕ). get_or l i 0) list_is ∙ sym t.1)))
+            (λ t. ap (λ (n : ℕ). get_or ws (n + 1) 0) (t.0 ∙ long)
+            ∙ (get_or-set_same s.words (j + 1) x 0 (omega (arith, k.words, short)) ∙ sym t.1))
+            (old_or_last m.0.numbers x i h),
+      )) in
+      (w, keeps, tt, subst (λ (i : ℕ). IsKept number (table ws s.homes (set s.views i w))) (sym same) kept, refl)
+
+  -- the totals are posted
+  pub ends : (id version : ℕ) (H : List Entry) (m : Seat) → m.0.posts ≡ true → m.0.writes ≡ true → m.0.version ≡ version
+      → length m.0.numbers ≡ 8 → AreOf number H m.0.numbers → IsPrefix m.0.seen H → IsLegal H
+      → Allows (IsKept number) 0 id m 0 (λ n. either (n == version) (version + 1) n)
+      (Ends H (step 0 0 version (version + 1) none) m)
+  ends id version H m posts writes is long are up legal s k none_at at fits =
+      let same : id ≡ k.poster = k.only id m.0 at posts in
+      let vw : k.view ≡ m.0 = one_view s.views k.poster id k.view m.0 k.at at (sym same) in
+      let ver : version_of s ≡ m.0.version = sym k.version ∙ ap (λ (y : View). y.version) vw in
+      let work = k.work (ap (λ (y : View). y.writes) vw ∙ writes) in
+      let odd = work.0 in
+      let list_is : k.view.numbers ≡ m.0.numbers = ap (λ (y : View). y.numbers) vw in
+      let w : View = resting (m.0.version + 1) H in
+      let ws : List ℕ = set s.words 0 (version + 1) in
+      let here : get_or ws 0 0 ≡ version + 1 = get_or-set_same s.words 0 (version + 1) 0 (omega (arith, k.words)) in
+      let kept = poster_moves s k w ws (length-set s.words 0 (version + 1) ∙ k.words) refl refl
+      (omega (arith, here, is))
+      (subst (λ (y : View). IsPrefix y.seen H) (sym vw) up) (inr legal)
+      (omega (arith, here, ver, is)) (λ x le _ eq. omega (arith, here, le, eq, ver, is))
+      (λ _. (
+        omega (arith, here, odd, ver, is),
+        λ i h.
+            get_or-set_other s.words 0 (i + 1) (version + 1) 0 (λ e. omega arith)
+            ∙ (work.1 i (rw list_is (omega (arith, long, h)))
+            ∙ (ap (λ (l : List ℕ). get_or l i 0) list_is ∙ are i (omega (arith, long, h)))),
+      ))
+      (λ t. absurd (both_ways false t refl)) in
+      let Goes : ℕ → Type 0 =
+      λ n. (u : View) × (a : Act (Unit {0})) × Valid s.homes m.1 a × IsKept number (stepped s 0 n id m.1 u a)
+      × Ends H (step {S = Unit {0}} 0 0 version (version + 1) none) m (get_or s.words 0 0) (u, carried_after m.1 a) in
+      exchanged (get_or s.words 0 0) version (version + 1) Goes
+      (λ _. (
+        w,
+        keeps,
+        tt,
+        subst (λ (i : ℕ). IsKept number (table ws s.homes (set s.views i w))) (sym same) kept,
+        refl,
+      ))
+      (λ ne. absurd (ne (ver ∙ is)))
+
+  -- a reader is split off
+  pub splits : (id : ℕ) (v : View) → Splits {S = Unit {0}} (IsKept number) id v v (idle v.seen)
+  splits id v s k at =
+      let w : View = idle v.seen in
+      subst (λ (vs : List View). IsKept number (table s.words s.homes (vs ++ w ∷ []))) (sym (set_again s.views id v at))
+      record {
+        words = k.words;
+        poster = k.poster;
+        view = k.view;
+        at = at_longer s.views (w ∷ []) k.poster k.view k.at;
+        posts = k.posts;
+        only = λ i u h p. ⊎_elim
+            (λ a. k.only i u a p)
+            (λ e. absurd (both_ways false (ap (λ (y : View). y.posts) e ∙ p) refl))
+            (at_snoc s.views w u i h);
+        version = k.version;
+        legal = k.legal;
+        seen = λ i u h. ⊎_elim
+            (λ a. k.seen i u a)
+            (λ e. subst (λ (y : View). IsPrefix y.seen k.view.seen) e (k.seen id v at))
+            (at_snoc s.views w u i h);
+        rest = k.rest;
+        work = k.work;
+        reading = λ i u h r. ⊎_elim
+            (λ a. k.reading i u a r)
+            (λ e. absurd (both_ways false (ap (λ (y : View). y.reads) e ∙ r) refl))
+            (at_snoc s.views w u i h);
+      }

@@ -1,0 +1,5 @@
+pub mod Row
+pub mod Reader
+pub mod Views
+pub mod Rule
+pub mod Steps

@@ -1,0 +1,5 @@
+pub mod Lookups
+pub mod Bookings
+pub mod Entries
+pub mod Slots
+pub mod Outs

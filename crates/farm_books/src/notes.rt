@@ -1,0 +1,133 @@
+//! What one entry writes into the books, and how it is taken out again.
+
+ghost use Rattle.std.specs.Prelude.{◌≡◌, ◌≤◌, ◌<◌, ◌+◌, true, false, length, None, Some, ℕ, IfSome, OnOk};
+ghost use Rattle.std.specs.FinMap.{get};
+ghost use Rattle.farm_books.specs.Kept.{with_key, with_lease, with_mark, with_report, without_key, without_lease, without_report};
+
+use farm_entry::{LeasedRun, ReportedRun};
+use farm_types::{Key, Memory};
+use lease_book::{Lease, LeaseBook};
+use report_inbox::Inbox;
+
+/// Makes room for a key, and for a report.
+pub(crate) fn reserve_places(inbox: &mut Inbox, report: Option<ReportedRun>) -> Result<(), Memory>
+    ensures keys { inbox.new.keys ≡ inbox.old.keys }
+    ensures runs { inbox.new.runs ≡ inbox.old.runs }
+    ensures room { OnOk result (1 ≤ inbox.new.room) }
+    ensures row { OnOk result (IfSome report (λ r. r.run < inbox.new.run_bound)) }
+{
+    inbox.reserve_keys(1)?;
+    match report {
+        None => Ok(()),
+        Some(report) => inbox.reserve_runs(report.run),
+    }
+}
+
+/// Notes the place of a key.
+pub(crate) fn put_key(inbox: &mut Inbox, key: Option<Key>, place: u32)
+    requires room { 1 ≤ inbox.old.room }
+    requires absent { IfSome key (λ k. get inbox.old.keys k.0 ≡ None) }
+    ensures keys { inbox.new.keys ≡ with_key inbox.old.keys key place }
+    ensures runs { inbox.new.runs ≡ inbox.old.runs }
+    ensures run_bound { inbox.new.run_bound ≡ inbox.old.run_bound }
+{
+    if let Some(key) = key {
+        inbox.put_key(key, place);
+    }
+}
+
+/// Notes the place of a report.
+pub(crate) fn put_report(inbox: &mut Inbox, report: Option<ReportedRun>, place: u32)
+    requires row { IfSome report (λ r. r.run < inbox.old.run_bound) }
+    requires absent { IfSome report (λ r. get inbox.old.runs r.run ≡ None) }
+    ensures runs { inbox.new.runs ≡ with_report inbox.old.runs report place }
+    ensures keys { inbox.new.keys ≡ inbox.old.keys }
+{
+    if let Some(report) = report {
+        inbox.put_run(report.run, place);
+    }
+}
+
+/// Takes a key out.
+pub(crate) fn take_key(inbox: &mut Inbox, key: Option<Key>)
+    requires { IfSome key (λ k. (place : ℕ) × (get inbox.old.keys k.0 ≡ Some place)) }
+    ensures keys { inbox.new.keys ≡ without_key inbox.old.keys key }
+    ensures runs { inbox.new.runs ≡ inbox.old.runs }
+{
+    if let Some(key) = key {
+        inbox.take_key(key);
+    }
+}
+
+/// Takes a report out.
+pub(crate) fn take_report(inbox: &mut Inbox, report: Option<ReportedRun>)
+    requires { IfSome report (λ r. (place : ℕ) × (get inbox.old.runs r.run ≡ Some place)) }
+    ensures runs { inbox.new.runs ≡ without_report inbox.old.runs report }
+    ensures keys { inbox.new.keys ≡ inbox.old.keys }
+{
+    if let Some(report) = report {
+        inbox.take_run(report.run);
+    }
+}
+
+/// Makes room for a lease.
+pub(crate) fn reserve_lease(leases: &mut LeaseBook, lease: Option<LeasedRun>) -> Result<(), Memory>
+    ensures leases { leases.new.leases ≡ leases.old.leases }
+    ensures room { OnOk result (1 ≤ leases.new.room) }
+    ensures search { OnOk result (IfSome lease (λ l. l.search < leases.new.search_bound)) }
+{
+    leases.reserve_leases(1)?;
+    match lease {
+        None => Ok(()),
+        Some(lease) => leases.reserve_searches(lease.search),
+    }
+}
+
+/// Books a lease that is handed out at a place.
+pub(crate) fn put_lease(leases: &mut LeaseBook, lease: Option<LeasedRun>, place: u32)
+    requires room { 1 ≤ leases.old.room }
+    requires number { IfSome lease (λ l. l.run ≡ length leases.old.leases + 1) }
+    requires search { IfSome lease (λ l. l.search < leases.old.search_bound) }
+    ensures { leases.new.leases ≡ with_lease leases.old.leases lease place }
+{
+    if let Some(lease) = lease {
+        leases.add(Lease {
+            run: lease.run,
+            search: lease.search,
+            stage: lease.stage,
+            position: lease.position,
+            deadline: lease.deadline,
+            place,
+        });
+    }
+}
+
+/// Marks the lease of a report as answered.
+pub(crate) fn put_mark(leases: &mut LeaseBook, report: Option<ReportedRun>)
+    requires { IfSome report (λ r. (0 < r.run) × (r.run ≤ length leases.old.leases)) }
+    ensures { leases.new.leases ≡ with_mark true leases.old.leases report }
+{
+    if let Some(report) = report {
+        leases.answered(report.run);
+    }
+}
+
+/// Takes the last lease out, where it is to go.
+pub(crate) fn take_lease(leases: &mut LeaseBook, lease: Option<LeasedRun>)
+    requires { IfSome lease (λ l. 0 < length leases.old.leases) }
+    ensures { leases.new.leases ≡ without_lease leases.old.leases lease }
+{
+    if lease.is_some() {
+        leases.take_last();
+    }
+}
+
+/// Takes the mark of a report's lease away.
+pub(crate) fn take_mark(leases: &mut LeaseBook, report: Option<ReportedRun>)
+    requires { IfSome report (λ r. (0 < r.run) × (r.run ≤ length leases.old.leases)) }
+    ensures { leases.new.leases ≡ with_mark false leases.old.leases report }
+{
+    if let Some(report) = report {
+        leases.unanswered(report.run);
+    }
+}

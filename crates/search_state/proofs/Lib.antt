@@ -1,0 +1,5 @@
+pub mod Flags
+pub mod Loads
+pub mod Picks
+pub mod Reclosed
+pub mod Verified

@@ -1,0 +1,70 @@
+-- The plan of a search can be made of what is kept of it.
+use Rattle.std.proofs.Common.{◌≡◌, ℕ, ◌+◌, ◌*◌, ◌^◌, ◌<◌, ◌≤◌, List, None, length, sym, ap, subst, ◌∙◌, arith}
+use Rattle.weight_exact.specs.Load.{floor}
+use Rattle.weight_exact.specs.Plan.{plan}
+use Rattle.weight_exact.specs.Share.{reached}
+use Rattle.weight_exact.specs.Weights.{AreInRange, Setup, hypotheses, suspects, total}
+use Rattle.weight_exact.specs.declared.limits.TheConstants.{BASIS_POINTS}
+use Rattle.weight_exact.specs.declared.run.Run.{Run}
+use Rattle.weight_exact.proofs.Shares.{total_positive}
+use Rattle.posterior.specs.Kept.{Kept, at}
+use Rattle.posterior.specs.StandsFor.{StandsFor}
+use Rattle.threshold_pick.specs.CanPick.{CanPick}
+use Rattle.threshold_pick.specs.Cumulative.{AreCumulative}
+use Rattle.threshold_pick.specs.Picks.{ArePicks}
+use Rattle.threshold_pick.specs.Sums.{RiseAbove, whole}
+use Rattle.threshold_pick.proofs.Alive.{RiseAbove-cumulative}
+use Rattle.threshold_pick.proofs.Plans.{ArePicks-plan}
+use Rattle.farm_entry.specs.Setup.{setup_of}
+use Rattle.farm_entry.specs.declared.opening.Opening.{Opening}
+use Rattle.farm_laws.proofs.OpenLimits.{OpenWithin, setup_facts}
+use Rattle.farm_laws.proofs.Standings.{some-left}
+use Rattle.belief_laws.proofs.Beliefs.{are_cumulative, are_positive, hypotheses-of, prior_positive}
+
+-- what is kept of a search that no hypothesis of is at the bar
+pub record IsUndecided (o : Opening) (told : List Run) (k : Kept) : Type 0 where
+  pub within : OpenWithin o
+  pub setup : k.setup ≡ setup_of o
+  pub stands : StandsFor k told
+  pub none : reached (setup_of o) told ≡ None
+
+record IsReady (o : Opening) (told : List Run) (k : Kept) : Type 0 where
+  total : 1 ≤ total (setup_of o) told
+  sums : AreCumulative (setup_of o) told k.sums
+  floor_is : k.floor ≡ floor (setup_of o).factors told
+  left : floor (setup_of o).factors told < suspects (setup_of o)
+
+is_ready : (o : Opening) (told : List Run) (k : Kept) → IsUndecided o told k → IsReady o told k
+is_ready o told k u =
+    let facts = setup_facts o u.within in
+    record {
+      total = total_positive (setup_of o) told facts.calm facts.fail_out facts.pass_out
+          (subst (λ (s : Setup). AreInRange s told) u.setup u.stands.in_range);
+      sums = subst (λ (s : Setup). AreCumulative s told k.sums) u.setup (are_cumulative k told u.stands);
+      floor_is = u.stands.floor_is ∙ ap (λ (s : Setup). floor s.factors told) u.setup;
+      left = some-left (setup_of o) told facts u.none;
+    }
+
+-- positions can be picked by its sums
+pub undecided-can_pick : (o : Opening) (told : List Run) (k : Kept) → IsUndecided o told k → CanPick k.floor k.sums
+undecided-can_pick o told k u =
+    let ready = is_ready o told k u in
+    let many : hypotheses (setup_of o) ≡ length o.range.suspects + 1 = hypotheses-of o in
+    let rises : RiseAbove (floor (setup_of o).factors told) k.sums =
+    RiseAbove-cumulative (setup_of o) told k.sums ready.sums ready.total (prior_positive o u.within.range) (are_positive o) in
+    let room : whole k.sums * BASIS_POINTS < 2 ^ 128 =
+    subst (λ (n : ℕ). at k.sums n * BASIS_POINTS < 2 ^ 128) (sym u.stands.as_many) u.stands.fits in
+    record {
+      few = omega (arith, ready.sums.one_each, many, u.within.range.few);
+      some = omega (arith, ready.sums.one_each, ready.floor_is, ready.left);
+      rising = subst (λ (n : ℕ). RiseAbove n k.sums) (sym ready.floor_is) rises;
+      room = room;
+    }
+
+-- and those that are picked are the plan
+pub undecided-plan : (o : Opening) (told : List Run) (k : Kept) (positions : List ℕ) → IsUndecided o told k →
+    ArePicks k.sums k.floor o.width positions → positions ≡ plan (setup_of o) told o.width
+undecided-plan o told k positions u picks =
+    let ready = is_ready o told k u in
+    ArePicks-plan (setup_of o) told k.sums positions o.width ready.sums ready.total ready.left
+    (subst (λ (n : ℕ). ArePicks k.sums n o.width positions) ready.floor_is picks)

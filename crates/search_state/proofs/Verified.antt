@@ -1,0 +1,135 @@
+-- What is kept of a search that verifies a suspect, and of the same search with one rerun more.
+use Rattle.std.proofs.Common.{◌≡◌, ℕ, suc, ◌+◌, ◌-◌, ◌≤◌, nat_lt, Bool, true, ◌&&◌, if◌then◌else◌, List, [], ◌∷◌, ◌++◌, length, reverse, Some, sym, ap, subst, ◌∙◌, arith}
+use Rattle.std.proofs.lemmas.Option.{none-some}
+use Rattle.weight_exact.specs.declared.run.Run.{Run}
+use Rattle.weight_exact.proofs.Shares.{IsReached-from_some}
+use Rattle.farm_rules.specs.Reruns.{Outcome, after_rerun, counts, is_verifying, outcome, reruns_at}
+use Rattle.verify_flow.specs.Answer.{answer, said}
+use Rattle.verify_flow.specs.StandsFor.{StandsFor}
+use Rattle.verify_flow.specs.Verification.{Verification}
+use Rattle.verify_flow.specs.declared.outcome.Outcome.{Outcome as Answered}
+use Rattle.verify_flow.specs.declared.outcome.Outcome.TheVariants.{Late}
+use Rattle.farm_entry.specs.Setup.{setup_of}
+use Rattle.farm_entry.specs.Standing.{standing_of_outcome}
+use Rattle.farm_entry.specs.declared.standing.Standing.{Standing}
+use Rattle.farm_entry.specs.declared.standing.Standing.TheVariants.{Verifying}
+use Rattle.search_state.specs.SearchView.{SearchView, standing_in}
+use Rattle.search_state.specs.SearchInside.{IsSearch, IsVerificationOf, search_view}
+use Rattle.search_state.specs.declared.state.SearchState.TheInside.{Inside}
+use Rattle.search_state.proofs.Flags.{IsVerifying, believed-standing, named-standing, outcome-verifying, verifying-parts}
+use Rattle.search_state.proofs.Reclosed.{reverse-told}
+
+-- the parts of what is kept of a search that verifies a suspect
+pub kept-verifying : (s : Inside) (v : SearchView) (c : ℕ) → search_view s ≡ v → standing_in v ≡ Verifying c →
+    IsVerifying (search_view s) c
+kept-verifying s v c is stands =
+    verifying-parts (search_view s) c (subst (λ (x : SearchView). standing_in x ≡ Verifying c) (sym is) stands)
+
+-- its verification
+pub kept-verification : (s : Inside) (v : SearchView) (c : ℕ) → IsSearch s → search_view s ≡ v →
+    standing_in v ≡ Verifying c → IsVerificationOf s.verification c s.asked (reverse s.reruns)
+kept-verification s v c h is stands =
+    h.verified c (h.standing_is ∙ subst (λ (x : SearchView). standing_in x ≡ Verifying c) (sym is) stands)
+
+-- the suspect stands from 1 on
+pub verified-low : (s : Inside) (c : ℕ) → IsVerifying (search_view s) c → 1 ≤ c
+verified-low s c p = (IsReached-from_some (setup_of s.opening.value) (reverse s.runs) c p.bar).first
+
+-- how many reruns counted at the suspect, and at its parent
+pub at-culprit : (s : Inside) (c n : ℕ) → IsVerificationOf s.verification c s.asked (reverse s.reruns) →
+    n ≡ reruns_at s.verification.culprit (reverse s.reruns) → n ≡ reruns_at c (reverse s.reruns)
+at-culprit s c n v is = is ∙ ap (λ (k : ℕ). reruns_at k (reverse s.reruns)) v.culprit_is
+
+pub at-parent : (s : Inside) (c n : ℕ) → IsVerificationOf s.verification c s.asked (reverse s.reruns) →
+    n ≡ reruns_at (s.verification.culprit - 1) (reverse s.reruns) → n ≡ reruns_at (c - 1) (reverse s.reruns)
+at-parent s c n v is = is ∙ ap (λ (k : ℕ). reruns_at (k - 1) (reverse s.reruns)) v.culprit_is
+
+-- One rerun more.
+
+-- a rerun whose side has room counts
+pub one-counts : (s : Inside) (c : ℕ) (r : Run) → IsSearch s → IsVerifying (search_view s) c →
+    nat_lt (reruns_at r.position (reverse s.reruns)) s.opening.value.reruns ≡ true →
+    counts c s.opening.value.reruns (reverse s.reruns) r ≡ true
+one-counts s c r h p room =
+    ap (λ (x : Outcome). is_verifying x && nat_lt (reruns_at r.position (reverse s.reruns)) s.opening.value.reruns) p.going_on
+    ∙ room
+
+-- what it is answered
+pub answered : (s : Inside) (c : ℕ) (r : Run) (a : Answered) → IsSearch s →
+    IsVerificationOf s.verification c s.asked (reverse s.reruns) →
+    counts c s.opening.value.reruns (reverse s.reruns) r ≡ true →
+    a ≡ answer s.verification.culprit s.verification.asked (reverse s.reruns) r →
+    a ≡ said (outcome c s.opening.value.reruns (reverse s.reruns ++ r ∷ []))
+answered s c r a h v one is =
+    let again : List Run = reverse s.reruns in
+    let asked : s.verification.asked ≡ s.opening.value.reruns = v.asked_is ∙ h.set_up.asked_is in
+    is
+    ∙ ap (λ (k : ℕ). answer k s.verification.asked again r) v.culprit_is
+    ∙ ap (λ (n : ℕ). answer c n again r) asked
+    ∙ ap (λ (b : Bool). if b then said (outcome c s.opening.value.reruns (again ++ r ∷ [])) else Late) one
+
+-- what the verification stands for
+pub stands-after : (s : Inside) (c : ℕ) (r : Run) (w : Verification) → IsSearch s →
+    IsVerificationOf s.verification c s.asked (reverse s.reruns) →
+    counts c s.opening.value.reruns (reverse s.reruns) r ≡ true →
+    StandsFor w (after_rerun s.verification.culprit s.verification.asked (reverse s.reruns) r) →
+    StandsFor w (reverse s.reruns ++ r ∷ [])
+stands-after s c r w h v one stands =
+    let again : List Run = reverse s.reruns in
+    let asked : s.verification.asked ≡ s.opening.value.reruns = v.asked_is ∙ h.set_up.asked_is in
+    let after : after_rerun s.verification.culprit s.verification.asked again r ≡ again ++ r ∷ [] =
+    ap (λ (k : ℕ). after_rerun k s.verification.asked again r) v.culprit_is
+    ∙ ap (λ (n : ℕ). after_rerun c n again r) asked
+    ∙ ap (λ (b : Bool). if b then again ++ r ∷ [] else again) one in
+    subst (λ (rs : List Run). StandsFor w rs) after stands
+
+-- the search with it
+abbrev pub with_rerun : Inside → Verification → Standing → List Run → Inside
+with_rerun s w st reruns = record {
+  opening = s.opening;
+  search = s.search;
+  width = s.width;
+  asked = s.asked;
+  suspects = s.suspects;
+  may_miss = s.may_miss;
+  belief = s.belief;
+  verification = w;
+  standing = st;
+  is_over = s.is_over;
+  is_cancelled = s.is_cancelled;
+  runs = s.runs;
+  reruns = reruns;
+  counted = s.counted;
+  verified = s.verified + 1;
+}
+
+pub rerun-search : (s : Inside) (c : ℕ) (r : Run) (w : Verification) (st : Standing) (reruns : List Run) → IsSearch s →
+    IsVerifying (search_view s) c → reruns ≡ r ∷ s.reruns → w.culprit ≡ c → w.asked ≡ s.asked →
+    StandsFor w (reverse s.reruns ++ r ∷ []) →
+    st ≡ standing_of_outcome c (outcome c s.opening.value.reruns (reverse s.reruns ++ r ∷ [])) →
+    IsSearch (with_rerun s w st reruns)
+rerun-search s c r w st reruns h p told culprit asked stands standing =
+    let o = s.opening.value in
+    let again : List Run = reverse s.reruns ++ r ∷ [] in
+    let is : reverse reruns ≡ again = reverse-told reruns s.reruns r told in
+    let long : length reruns ≡ suc (length s.reruns) = ap length told in
+    record {
+      set_up = h.set_up;
+      setup = h.setup;
+      believed = h.believed;
+      counted_is = h.counted_is;
+      verified_is = omega (arith, long, h.verified_is);
+      standing_is =
+          standing
+          ∙ ap (λ (xs : List Run). standing_of_outcome c (outcome c o.reruns xs)) (sym is)
+          ∙ sym (named-standing o (reverse reruns) c p.suspect)
+          ∙ sym (believed-standing (search_view (with_rerun s w st reruns)) (Some c) p.uncancelled p.within p.bar);
+      none_yet = λ none. absurd (none-some c (sym none ∙ p.bar));
+      verified = λ k names.
+          let same : c ≡ k = (outcome-verifying c k (outcome c o.reruns again) (sym standing ∙ names)).0 in
+          record {
+            culprit_is = culprit ∙ same;
+            asked_is = asked;
+            stands = subst (λ (xs : List Run). StandsFor w xs) (sym is) stands;
+          };
+    }

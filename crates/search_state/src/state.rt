@@ -1,0 +1,360 @@
+//! The state of a search.
+
+ghost use Rattle.std.specs.Prelude.{ℕ, ◌≡◌, ◌⊎◌, ◌+◌, ◌<◌, ◌≤◌, [], true, false, length, IfOk};
+ghost use Rattle.std.specs.Option.{option_map};
+ghost use Rattle.flake_rate.specs.Miss.{FitsRate};
+ghost use Rattle.weight_exact.specs.Plan.{plan};
+ghost use Rattle.weight_exact.specs.Weights.{hypotheses};
+ghost use Rattle.posterior.specs.StandsFor.{StandsFor};
+ghost use Rattle.farm_entry.specs.Setup.{budget_of_search, setup_of};
+ghost use Rattle.farm_entry.specs.declared.limits.TheConstants.{MAX_ENTRIES};
+ghost use Rattle.farm_entry.specs.declared.standing.Standing.TheVariants.{Searching, Verifying};
+ghost use Rattle.farm_laws.proofs.OpenLimits.{OpenWithin};
+ghost use Rattle.search_state.specs.SearchView.{IsPlaced, adds_load, after_counted, after_report, cancelled, due_in, fate_in, gone_over, has_room, opened, passes_budget, position_searching, position_verifying, shares_in, standing_in};
+
+use crate::decided::{first_standing, first_verification, next_standing};
+use farm_entry::{DueRun, Fate, Opening, Shares, Standing};
+use farm_types::{Memory, Stage};
+use posterior::Belief;
+use run_plan::{due_search, due_verify};
+use std::alloc::Global;
+use std::marker::Model;
+use std::snapshot::Snapshot;
+use threshold_pick::plan_uncounted;
+use told_list::ToldList;
+use verify_flow::Verify;
+use weight_exact::{Factors, MAX_WIDTH, Run};
+
+/// A search of a farm, kept from report to report.
+#[derive(Drop)]
+pub struct SearchState {
+    opening: Snapshot<Opening>,
+    search: u32,
+    width: u8,
+    asked: u8,
+    suspects: u16,
+    may_miss: bool,
+    belief: Belief,
+    verification: Verify,
+    standing: Standing,
+    is_over: bool,
+    is_cancelled: bool,
+    runs: ToldList<Run>,
+    reruns: ToldList<Run>,
+    counted: u32,
+    verified: u32,
+}
+
+impl Model for SearchState {
+    ghost use Rattle.search_state.specs.SearchView.{SearchView};
+
+    ghost Value = { SearchView };
+
+    ghost use Rattle.search_state.specs.SearchInside.{IsSearch, search_view};
+
+    ghost view = { search_view };
+
+    ghost invariant = { IsSearch };
+}
+
+impl SearchState {
+    /// The state of a search that was just opened.
+    ///
+    /// All room is taken here, and none later.
+    ///
+    /// # Errors
+    ///
+    /// [`Memory`].
+    pub fn start(alloc: Global, opening: &Opening) -> Result<SearchState, Memory>
+        requires { OpenWithin opening.now }
+        ensures { IfOk result (λ search. search ≡ opened opening.now) }
+    {
+        let belief = first_belief(alloc, opening)?;
+        let suspects = opening.range.len() as u16;
+        let standing = first_standing(belief.reached(), suspects);
+        Ok(SearchState {
+            opening: Snapshot::of(opening),
+            search: opening.search,
+            width: opening.width,
+            asked: opening.reruns,
+            suspects,
+            may_miss: 0 < Factors::of(opening.rate, opening.miss).pass_in,
+            belief,
+            verification: first_verification(standing, opening.reruns),
+            standing,
+            is_over: false,
+            is_cancelled: false,
+            runs: ToldList::new(),
+            reruns: ToldList::new(),
+            counted: 0,
+            verified: 0,
+        })
+    }
+
+    /// Where the search stands.
+    pub fn standing(&self) -> Standing
+        ensures { result ≡ standing_in self.now }
+    {
+        self.standing
+    }
+
+    /// How many runs counted.
+    pub fn counted(&self) -> u32
+        ensures { result ≡ length self.now.runs }
+    {
+        self.counted
+    }
+
+    /// How many reruns counted.
+    pub fn verified(&self) -> u32
+        ensures { result ≡ length self.now.reruns }
+    {
+        self.verified
+    }
+
+    /// The budget of the search, which bounds its load.
+    pub fn budget(&self) -> u32
+        ensures { result ≡ budget_of_search self.now.opening }
+    {
+        self.belief.budget()
+    }
+
+    /// The shares of all hypotheses in basis points, that of "no culprit" last.
+    ///
+    /// # Errors
+    ///
+    /// [`Memory`].
+    pub fn shares(&self, alloc: Global) -> Result<Shares, Memory>
+        ensures { IfOk result (λ shares. shares ≡ shares_in self.now) }
+    {
+        let mut shares = Vec::new(alloc);
+        for before in 0..self.suspects + 1 {
+            shares.push(self.belief.basis_points(before + 1))?;
+        }
+        Ok(Shares::of(shares))
+    }
+
+    // What is due.
+
+    /// The run that is due, while the runs at these positions are out, of the stage at which the search stands. A search that
+    /// has ended has none.
+    pub fn due(&self, outstanding: &[u16]) -> Option<DueRun>
+        ensures { result ≡ due_in self.now outstanding.now }
+    {
+        match self.standing {
+            Standing::Searching => {
+                let position = self.position_searching(outstanding);
+                due_at(self.search, Stage::Search, position)
+            }
+            Standing::Verifying(culprit) => {
+                let position = self.position_verifying(culprit, outstanding);
+                due_at(self.search, Stage::Verify, position)
+            }
+            _ => None,
+        }
+    }
+
+    /// Where a search that is searching is to run next.
+    fn position_searching(&self, outstanding: &[u16]) -> Option<u16>
+        requires { standing_in self.now ≡ Searching }
+        ensures { result ≡ position_searching self.now outstanding.now }
+    {
+        let mut plan = [0; MAX_WIDTH as usize];
+        let places = usize::from(self.width);
+        self.write_plan(&mut plan[..places]);
+        due_search(&plan[..places], outstanding)
+    }
+
+    /// Where a search that verifies a suspect is to run next.
+    fn position_verifying(&self, culprit: u16, outstanding: &[u16]) -> Option<u16>
+        requires { standing_in self.now ≡ Verifying culprit }
+        ensures { result ≡ position_verifying self.now culprit outstanding.now }
+    {
+        let (at_culprit, at_parent) = self.verification.counts();
+        due_verify(culprit, at_culprit, at_parent, outstanding, self.asked)
+    }
+
+    /// Writes the plan of a search that is searching.
+    fn write_plan(&self, positions: &mut [u16])
+        requires searching { standing_in self.now ≡ Searching }
+        requires room { length positions.old ≡ self.now.opening.width }
+        ensures { positions.new ≡ plan (setup_of self.now.opening) self.now.runs self.now.opening.width }
+    {
+        plan_uncounted(
+            self.belief.sums(),
+            self.belief.floor(),
+            self.width,
+            positions,
+        );
+    }
+
+    // What a report does.
+
+    /// The fate of the first report of one of the search's runs, that was handed out at a stage.
+    pub fn fate(&self, stage: Stage, run: Run) -> Fate
+        requires { IsPlaced self.now stage run }
+        ensures { result ≡ fate_in self.now stage run }
+    {
+        match (self.standing, stage) {
+            (Standing::Searching, Stage::Search) => {
+                if self.passes_budget(run) {
+                    Fate::Over
+                } else {
+                    Fate::Counted
+                }
+            }
+            (Standing::Verifying(culprit), Stage::Verify) => {
+                if self.has_room(culprit, run) {
+                    Fate::Counted
+                } else {
+                    Fate::Late
+                }
+            }
+            _ => Fate::Late,
+        }
+    }
+
+    /// Whether one run more takes the search past its budget.
+    fn passes_budget(&self, run: Run) -> bool
+        ensures { result ≡ passes_budget self.now run }
+    {
+        self.adds_load(run) && self.belief.load() == self.belief.budget()
+    }
+
+    /// Whether a run would add to the load.
+    fn adds_load(&self, run: Run) -> bool
+        ensures { result ≡ adds_load self.now run }
+    {
+        self.may_miss || (run.verdict.is_fail() && self.belief.floor() < run.position)
+    }
+
+    /// Whether the side of a rerun has fewer reruns than were asked for.
+    fn has_room(&self, culprit: u16, run: Run) -> bool
+        requires verifying { standing_in self.now ≡ Verifying culprit }
+        requires side { (run.position ≡ culprit) ⊎ (run.position + 1 ≡ culprit) }
+        ensures { result ≡ has_room self.now run }
+    {
+        let (at_culprit, at_parent) = self.verification.counts();
+        let counted = if run.position == culprit {
+            at_culprit
+        } else {
+            at_parent
+        };
+        counted < self.asked
+    }
+
+    /// Takes in the first report of one of its runs, that was handed out at a stage, by its fate.
+    pub fn report(&mut self, stage: Stage, run: Run, fate: Fate)
+        requires ruled { fate ≡ fate_in self.old stage run }
+        requires placed { IsPlaced self.old stage run }
+        requires few { length self.old.runs + length self.old.reruns < MAX_ENTRIES }
+        ensures { self.new ≡ after_report self.old stage run fate }
+    {
+        match fate {
+            Fate::Counted => match stage {
+                Stage::Search => self.count_run(run),
+                Stage::Verify => self.count_rerun(run),
+            },
+            Fate::Late => {}
+            Fate::Over => self.go_over(),
+        }
+    }
+
+    /// Counts a run of a search that is searching.
+    fn count_run(&mut self, run: Run)
+        requires searching { standing_in self.old ≡ Searching }
+        requires within { passes_budget self.old run ≡ false }
+        requires first { 1 ≤ run.position }
+        requires last { run.position < hypotheses (setup_of self.old.opening) }
+        requires few { length self.old.runs < MAX_ENTRIES }
+        ensures { self.new ≡ after_counted self.old Stage.Search run }
+    {
+        let _noted = self.belief.note_uncounted(run.position, run.verdict);
+        self.runs.tell(&run);
+        self.counted += 1;
+        self.standing = first_standing(self.belief.reached(), self.suspects);
+        self.verification = first_verification(self.standing, self.asked);
+    }
+
+    /// Counts a rerun of a search that verifies a suspect.
+    fn count_rerun(&mut self, run: Run)
+        requires verifying { (culprit : ℕ) × (standing_in self.old ≡ Verifying culprit)
+            × ((run.position ≡ culprit) ⊎ (run.position + 1 ≡ culprit)) }
+        requires room { has_room self.old run ≡ true }
+        requires few { length self.old.reruns < MAX_ENTRIES }
+        ensures { self.new ≡ after_counted self.old Stage.Verify run }
+    {
+        let outcome = self.verification.note(run.position, run.verdict);
+        self.reruns.tell(&run);
+        self.verified += 1;
+        self.standing = next_standing(self.standing, outcome);
+    }
+
+    /// A run took a search that is searching past its budget.
+    fn go_over(&mut self)
+        requires { standing_in self.old ≡ Searching }
+        ensures { self.new ≡ gone_over self.old }
+    {
+        self.is_over = true;
+        self.standing = Standing::Inconclusive;
+    }
+
+    // The end, and from the start again.
+
+    /// Cancels the search.
+    pub fn cancel(&mut self)
+        ensures { self.new ≡ cancelled self.old }
+    {
+        self.is_cancelled = true;
+        self.standing = Standing::Cancelled;
+    }
+
+    /// Puts the search back to where it was opened. It takes no memory. Whoever takes the last report of a search away, or its
+    /// cancellation, does so, and then gives it the reports that are left.
+    pub fn clear(&mut self)
+        ensures { self.new ≡ opened self.old.opening }
+    {
+        self.belief.clear();
+        self.runs = ToldList::new();
+        self.reruns = ToldList::new();
+        self.counted = 0;
+        self.verified = 0;
+        self.is_over = false;
+        self.is_cancelled = false;
+        self.standing = first_standing(self.belief.reached(), self.suspects);
+        self.verification = first_verification(self.standing, self.asked);
+    }
+}
+
+/// The run of a search that is due at a position, where there is one.
+fn due_at(search: u32, stage: Stage, position: Option<u16>) -> Option<DueRun>
+    ensures { result ≡ option_map (λ k. record { search = search; stage = stage; position = k }) position }
+{
+    let position = position?;
+    Some(DueRun {
+        search,
+        stage,
+        position,
+    })
+}
+
+/// What a search believes before any run.
+fn first_belief(alloc: Global, opening: &Opening) -> Result<Belief, Memory>
+    requires { FitsRate opening.now.miss opening.now.rate }
+    ensures setup { IfOk result (λ belief. belief.setup ≡ setup_of opening.now) }
+    ensures none { IfOk result (λ belief. StandsFor belief []) }
+{
+    let weights = opening.weights(alloc)?;
+    let calm = opening.range.calm();
+    match Belief::start(
+        alloc,
+        &weights,
+        calm,
+        opening.rate,
+        opening.miss,
+        opening.bar,
+    ) {
+        Ok(belief) => Ok(belief),
+        Err(_) => Err(Memory),
+    }
+}

@@ -1,0 +1,33 @@
+-- What is read off the state of a search is what the definitions say of the history.
+use Rattle.std.proofs.Common.{◌≡◌, ℕ, List, map, refl}
+use Rattle.weight_exact.specs.declared.run.Verdict.{Verdict}
+use Rattle.farm_entry.specs.Decision.{fate_at, run_with}
+use Rattle.farm_entry.specs.Due.{due_at, outstanding_at}
+use Rattle.farm_entry.specs.declared.entry.Entry.{Entry}
+use Rattle.farm_entry.specs.declared.lease.LeasedRun.{LeasedRun}
+use Rattle.farm_entry.specs.declared.opening.Opening.{Opening}
+use Rattle.farm_entry.specs.declared.standing.Standing.{Standing}
+use Rattle.farm_entry.specs.declared.standing.Standing.TheVariants.{Searching, Verifying, Confirmed, Vindicated, NoCulprit, Inconclusive, Cancelled}
+use Rattle.search_state.specs.SearchView.{due_standing, fate_standing}
+use Rattle.state_laws.specs.Seen.{seen}
+
+pub fate-seen : (st : Standing) (H : List Entry) (o : Opening) (l : LeasedRun) (v : Verdict) →
+    fate_standing st (seen H o) l.stage (run_with l v) ≡ fate_at st H o l v
+fate-seen Searching H o l v = refl
+fate-seen (Verifying c) H o l v = refl
+fate-seen (Confirmed c) H o l v = refl
+fate-seen (Vindicated c) H o l v = refl
+fate-seen NoCulprit H o l v = refl
+fate-seen Inconclusive H o l v = refl
+fate-seen Cancelled H o l v = refl
+
+pub due-seen : (st : Standing) (H : List Entry) (o : Opening) (moment : ℕ) →
+    due_standing st (seen H o) (map (λ (l : LeasedRun). l.position) (outstanding_at st H o.search moment))
+    ≡ due_at st H o moment
+due-seen Searching H o moment = refl
+due-seen (Verifying c) H o moment = refl
+due-seen (Confirmed c) H o moment = refl
+due-seen (Vindicated c) H o moment = refl
+due-seen NoCulprit H o moment = refl
+due-seen Inconclusive H o moment = refl
+due-seen Cancelled H o moment = refl
