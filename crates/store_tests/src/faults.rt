@@ -21,9 +21,9 @@ fn ask_all<D: Disk>(
     batches: bool,
 ) -> Result<(), AllocError> {
     let mut asks = Vec::new(alloc);
-    let mut number = 0;
+    let mut number: u32 = 0;
     for text in script.split(' ') {
-        number = u32::min(number + 1, 1_000);
+        number = number.saturating_add(1);
         asks.push(ask_of(alloc, text, number)?)?;
         if !batches || asks.len() == 3 {
             if !is_answered(alloc, store, &asks) {

@@ -149,9 +149,9 @@ pub(crate) fn play_calls(
     let Ok(mut store) = Store::open_on(alloc, disk) else {
         return println!(rt; "not opened");
     };
-    let mut number = 0;
+    let mut number: u32 = 0;
     for text in script.split(' ') {
-        number = u32::min(number + 1, 1_000);
+        number = number.saturating_add(1);
         let ask = ask_of(alloc, text, number)?;
         match store.call(alloc, &ask.command, ask.at) {
             Ok(reply) => print_reply(rt, &reply)?,
@@ -173,11 +173,11 @@ pub(crate) fn play_batches(
     let Ok(mut store) = Store::open_on(alloc, disk) else {
         return println!(rt; "not opened");
     };
-    let mut number = 0;
+    let mut number: u32 = 0;
     for texts in script.split(' ') {
         let mut asks = Vec::new(alloc);
         for text in texts.split('+') {
-            number = u32::min(number + 1, 1_000);
+            number = number.saturating_add(1);
             asks.push(ask_of(alloc, text, number)?)?;
         }
         ask_batch(rt, alloc, &mut store, &asks)?;
