@@ -72,7 +72,7 @@ pub(crate) fn play(alloc: Global, steps: u32) -> Result<bool, Memory> {
 }
 
 /// Puts so many keys, each a multiple of this one, and takes them away in the order in which they came. Answers whether
-/// each was found between the two and not before or after. This ends in time where the keys are spread over the buckets.
+/// each was found between the two and not before or after. This ends in time where keys are spread over the buckets.
 pub(crate) fn play_multiples(alloc: Global, keys: u32, of: u128) -> Result<bool, Memory> {
     let mut inbox = Inbox::start(alloc);
     for place in 0..keys {

@@ -27,7 +27,14 @@ fn stage_of(dice: &mut Dice) -> Stage {
     }
 }
 
-// The next lease, of a search and a stage that are picked, with a deadline in the next two seconds.
+// For how long a lease is waited for: one in twenty up to a minute, so that many younger ones stand in front of it when
+// it is answered, and the others up to two seconds.
+fn wait_of(dice: &mut Dice) -> u64 {
+    let longest = if dice.below(20) == 0 { 60_000 } else { 2_000 };
+    dice.below(longest) as u64
+}
+
+// The next lease, of a search and a stage that are picked.
 fn lease_of(dice: &mut Dice, run: u32, now: u64) -> Lease
     ensures { result.run ≡ run }
 {
@@ -36,7 +43,7 @@ fn lease_of(dice: &mut Dice, run: u32, now: u64) -> Lease
         search: dice.below(SEARCHES),
         stage: stage_of(dice),
         position: (dice.below(1_000) & 0xffff) as u16,
-        deadline: now.saturating_add(dice.below(2_000) as u64),
+        deadline: now.saturating_add(wait_of(dice)),
         place: dice.below(1_000_000),
     }
 }
