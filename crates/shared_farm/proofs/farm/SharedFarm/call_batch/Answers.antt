@@ -1,0 +1,53 @@
+use Rattle.std.proofs.Common.{subst, sym, ◌∙◌, ◌≡◌, List, ℕ, length}
+use Rattle.farm_entry.specs.declared.entry.Entry.{Entry}
+use Rattle.turn_lock.specs.Places.{ArePlaces}
+use Rattle.shared_farm.specs.Turns.{own_places}
+use Rattle.shared_farm.proofs.Recorded.{ArePlaces-own_places}
+use Rattle.shared_farm.proofs.Turning.{IsServed, own_places-told, served-longer, served-places, served-turn}
+use Rattle.shared_farm.proofs.farm.SharedFarm.call_batch.Goals as goal
+
+pub back-requires-clause-places : goal.back-requires-clause-places
+back-requires-clause-places g c =
+    let turn = c.turn-turn in
+    let answer = c.call_batch-result in
+    let left = answer.new.self.store in
+    let own : c.run-turn.result ≡ own_places left =
+    c.run-turn.ensures
+    ∙ own_places-told left c.history.result.now c.recorded-recorded.result c.history.ensures.value
+    c.recorded-recorded.ensures in
+    subst (λ (l : List ℕ). ArePlaces (length turn.result.before.entries) (length left.history) l) (sym own)
+    (subst (λ (l : List Entry). ArePlaces (length l) (length left.history) (own_places left)) (sym turn.ensures.entries)
+    (ArePlaces-own_places turn.result.value.store left answer.ensures.recorded))
+
+-- the turn that the caller had
+served : (g : _) (c : goal.After-back g) → IsServed g.D.Disk.count c.args.pass.now c.back.new.pass
+    c.turn-turn.result.before.pass c.turn-turn.result.value.store c.call_batch-result.new.self.store c.run-turn.result
+served g c =
+    let turn = c.turn-turn in
+    let answer = c.call_batch-result in
+    record {
+      held_is = turn.ensures.pass;
+      begins = turn.ensures.seen;
+      faults = turn.ensures.faults;
+      places = turn.ensures.places;
+      longer = answer.ensures.longer;
+      room = answer.ensures.recorded;
+      own_is = c.run-turn.ensures
+          ∙ own_places-told answer.new.self.store c.history.result.now c.recorded-recorded.result
+          c.history.ensures.value c.recorded-recorded.ensures;
+      lock = c.self.inside.lock;
+      new_is = c.back.ensures.pass;
+    }
+
+pub returns-clause-turn : goal.returns-clause-turn
+returns-clause-turn g c =
+    let answer = c.call_batch-result in
+    let count = g.D.Disk.count in
+    served-turn (served g c) c.args.asks.now answer.result answer.ensures.says
+    answer.ensures.cause
+
+pub returns-clause-longer : goal.returns-clause-longer
+returns-clause-longer g c = served-longer (served g c)
+
+pub returns-clause-places : goal.returns-clause-places
+returns-clause-places g c = served-places (served g c)

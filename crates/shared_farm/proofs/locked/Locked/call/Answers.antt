@@ -1,0 +1,14 @@
+use Rattle.std.proofs.Common.{ap, sym, ◌∙◌, ◌∷◌, []}
+use Rattle.farm_entry.specs.Pages.{totals}
+use Rattle.farm_store.specs.Answering.{as_batch}
+use Rattle.shared_farm.proofs.Recorded.{recorded-at_the_end}
+use Rattle.shared_farm.proofs.locked.Locked.call.Goals as goal
+
+pub post-requires-clause-totals : goal.post-requires-clause-totals
+post-requires-clause-totals g c = c.totals-totals.ensures ∙ ap totals (sym c.history.ensures.value)
+
+pub returns-clause-recorded : goal.returns-clause-recorded
+returns-clause-recorded g c =
+    let answer = c.call-result in
+    recorded-at_the_end (record { command = c.args.command.now; at = c.args.at } ∷ [])
+    (as_batch c.call-result.result) c.args.self.now.store answer.new.self answer.ensures.says answer.ensures.longer

@@ -1,0 +1,209 @@
+//! The shared farm.
+ghost use Rattle.std.specs.Prelude.{◌≡◌, ◌≤◌, [], ◌∷◌, true, IfOk, IfErr, length, max};
+ghost use Rattle.farm_entry.specs.Legal.{IsLegal};
+ghost use Rattle.farm_entry.specs.Pages.{totals as totals_of};
+ghost use Rattle.farm_store.specs.Answering.{as_batch};
+ghost use Rattle.farm_store.specs.declared.asking.TheConstants.{MAX_BATCH};
+ghost use Rattle.list_prefix.specs.Prefix.{IsPrefix, longer};
+ghost use Rattle.turn_lock.specs.Known.{IsReady};
+ghost use Rattle.turn_lock.specs.Places.{ArePlaces, both_places};
+ghost use Rattle.shared_farm.specs.Turns.{IsTurn};
+
+use crate::locked::Locked;
+use crate::reader::TotalsReader;
+use farm_board::Board;
+use farm_disk::Disk;
+use farm_entry::{Command, Reply, Totals};
+use farm_store::{Answers, Ask, CallFault, Store};
+use farm_types::{Memory, Moment};
+use std::alloc::Global;
+use std::marker::Model;
+use std::sync::{Arc, Wait};
+use turn_lock::{Pass, Places, TurnLock};
+
+/// A farm whose history stands on a disk, for callers in many threads. Contracts see it as the name of its lock, by
+/// which a pass is known to be its own.
+#[derive(Drop)]
+pub struct SharedFarm<D: Disk> {
+    lock: TurnLock<Locked<D>>,
+}
+
+impl<D: Disk> Model for SharedFarm<D> {
+    ghost use Rattle.atomic_table.specs.Seated.{TableId};
+
+    ghost Value = { TableId };
+
+    ghost view = { λ s. s.lock };
+}
+
+impl<D: Disk> SharedFarm<D> {
+    /// The farm of a store, and a pass that has seen just its history. Want of memory hands the store back.
+    pub fn of(alloc: Global, store: Store<D>) -> Result<(SharedFarm<D>, Pass), Store<D>>
+        ensures pass { IfOk result (λ made. made.1 ≡ record {
+          lock = made.0;
+          ready = true;
+          seen = store.history;
+          mine = [];
+          faults = D.count store.disk;
+        }) }
+        ensures back { IfErr result (λ same. same ≡ store) }
+    {
+        let Ok((board, posting)) = Board::of(alloc, store.totals(), store.history()) else {
+            return Err(store);
+        };
+        let Ok(board) = Arc::new(alloc, board) else {
+            return Err(store);
+        };
+        let locked = Locked {
+            store,
+            board,
+            posting,
+        };
+        match TurnLock::new(alloc, locked) {
+            Ok((lock, pass)) => Ok((SharedFarm { lock }, pass)),
+            Err(locked) => {
+                let Locked {
+                    store,
+                    board: _,
+                    posting: _,
+                } = locked;
+                Err(store)
+            }
+        }
+    }
+
+    /// Another pass, which has seen as much and has no calls of its own. It takes no memory.
+    pub fn split(&self, pass: &mut Pass) -> Pass
+        requires ready { IsReady self.now pass.old }
+        ensures same { pass.new ≡ pass.old }
+        ensures other { result ≡ record {
+          lock = self.now;
+          ready = true;
+          seen = pass.old.seen;
+          mine = [];
+          faults = pass.old.faults;
+        } }
+    {
+        self.lock.split(pass)
+    }
+
+    /// Takes in what another pass knows: the longer of the two histories, which begins with both, the greater count,
+    /// and the places of both in their order.
+    pub fn join(&self, pass: &mut Pass, other: Pass)
+        requires ready { IsReady self.now pass.old }
+        requires other { IsReady self.now other }
+        ensures ready { IsReady self.now pass.new }
+        ensures longer { pass.new.seen ≡ longer pass.old.seen other.seen }
+        ensures first { IsPrefix pass.old.seen pass.new.seen }
+        ensures second { IsPrefix other.seen pass.new.seen }
+        ensures faults { pass.new.faults ≡ max pass.old.faults other.faults }
+        ensures mine { pass.new.mine ≡ both_places pass.old.mine other.mine }
+        ensures places { ArePlaces 0 (length pass.new.seen) pass.new.mine }
+    {
+        self.lock.join(pass, other);
+    }
+
+    /// Answers a command at the caller's turn, for which it waits: by the history that there is then, which begins
+    /// with all that the pass has seen. A new entry is stored before its reply is given, and its totals are posted.
+    ///
+    /// # Errors
+    ///
+    /// Those of the store's call: a refusal, exactly where the farm's definitions refuse the command at that history;
+    /// a fault of the disk in this turn; out of memory.
+    pub fn call<R: Wait>(
+        &self,
+        rt: &R,
+        alloc: Global,
+        pass: &mut Pass,
+        command: &Command,
+        at: Moment,
+    ) -> Result<Reply, CallFault>
+        requires ready { IsReady self.now pass.old }
+        ensures ready { IsReady self.now pass.new }
+        ensures turn { IsTurn D.count (record { command = command.now; at = at } ∷ []) (as_batch result) pass.old
+            pass.new }
+        ensures longer { IsPrefix pass.old.seen pass.new.seen }
+        ensures legal { IsLegal pass.new.seen }
+        ensures places { ArePlaces 0 (length pass.new.seen) pass.new.mine }
+        ensures faults { pass.old.faults ≤ pass.new.faults }
+    {
+        let mut turn = self.lock.turn(rt, pass);
+        let result = turn.value.call(alloc, command, at);
+        let recorded = turn.value.store.recorded();
+        turn.own = Places::run(turn.value.store.history().len() - recorded, recorded);
+        self.lock.back(turn, pass);
+        result
+    }
+
+    /// Answers 1 to `MAX_BATCH` asks in one turn, as single calls one after the other would be, their new entries
+    /// stored in one record.
+    ///
+    /// # Errors
+    ///
+    /// A fault of the disk in this turn, or out of memory, of the whole batch. A refusal is an answer.
+    pub fn call_batch<R: Wait>(
+        &self,
+        rt: &R,
+        alloc: Global,
+        pass: &mut Pass,
+        asks: &[Ask],
+    ) -> Result<Answers, CallFault>
+        requires ready { IsReady self.now pass.old }
+        requires some { 1 ≤ length asks.now }
+        requires few { length asks.now ≤ MAX_BATCH }
+        ensures ready { IsReady self.now pass.new }
+        ensures turn { IsTurn D.count asks.now result pass.old pass.new }
+        ensures longer { IsPrefix pass.old.seen pass.new.seen }
+        ensures legal { IsLegal pass.new.seen }
+        ensures places { ArePlaces 0 (length pass.new.seen) pass.new.mine }
+        ensures faults { pass.old.faults ≤ pass.new.faults }
+    {
+        let mut turn = self.lock.turn(rt, pass);
+        let result = turn.value.call_batch(alloc, asks);
+        let recorded = turn.value.store.recorded();
+        turn.own = Places::run(turn.value.store.history().len() - recorded, recorded);
+        self.lock.back(turn, pass);
+        result
+    }
+
+    /// A reader of totals, made in a turn that changes nothing: it has seen that turn's history, and so has the pass.
+    pub fn reader<R: Wait>(&self, rt: &R, pass: &mut Pass) -> Result<TotalsReader, Memory>
+        requires ready { IsReady self.now pass.old }
+        ensures ready { IsReady self.now pass.new }
+        ensures longer { IsPrefix pass.old.seen pass.new.seen }
+        ensures legal { IsLegal pass.new.seen }
+        ensures mine { pass.new.mine ≡ pass.old.mine }
+        ensures faults { pass.old.faults ≤ pass.new.faults }
+        ensures seen { IfOk result (λ reader. reader ≡ pass.new.seen) }
+    {
+        let mut turn = self.lock.turn(rt, pass);
+        let reader = turn.value.reader();
+        self.lock.back(turn, pass);
+        reader
+    }
+
+    /// The totals of a legal history that begins with all that the reader has seen, and which it has then seen. It
+    /// takes no turn, waits for nobody, and takes no memory.
+    pub fn totals(&self, reader: &mut TotalsReader) -> Totals
+        ensures longer { IsPrefix reader.old reader.new }
+        ensures legal { IsLegal reader.new }
+        ensures totals { result ≡ totals_of reader.new }
+    {
+        reader.board.read(&mut reader.pass)
+    }
+
+    /// The store. Where a turn is out that was never given back, it waits and doesn't return.
+    pub fn close<R: Wait>(self, rt: &R, pass: Pass) -> Store<D>
+        requires ready { IsReady self pass }
+        ensures seen { IsPrefix pass.seen result.history }
+        ensures faults { pass.faults ≤ D.count result.disk }
+    {
+        let SharedFarm { lock } = self;
+        let Locked {
+            store,
+            board: _,
+            posting: _,
+        } = lock.close(rt, pass);
+        store
+    }
+}

@@ -1,0 +1,21 @@
+//! A farm of many callers: each call is one turn at a farm whose history stands on a disk, and its totals are read
+//! without waiting.
+//!
+//! A [`SharedFarm`] is a store behind a turn lock, with a board of totals beside it. A caller in a thread has a `Pass`
+//! of `turn_lock`; a call waits for the caller's turn, answers at the history that there is then, stores what is new,
+//! posts the new totals, and passes the turn on. So there is one legal history, in which each caller's recorded calls
+//! stand, each once and in its order, and which begins with all that the caller has seen. A [`TotalsReader`] reads the
+//! totals and takes no turn.
+//!
+//! The crate stands on `farm_store` for the farm, on `turn_lock` for turns and passes, and on `farm_board` for the
+//! totals. Contracts see a shared farm as the name of its lock, and a reader as the history that it has seen; what a
+//! turn came to is `IsTurn` of `specs/Turns`. The layers above may use every name below.
+#![tactic(auto)]
+
+mod farm;
+mod locked;
+mod reader;
+
+pub use farm::SharedFarm;
+pub use reader::TotalsReader;
+pub use turn_lock::Pass;

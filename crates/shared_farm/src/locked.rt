@@ -1,0 +1,94 @@
+//! What the lock of a shared farm holds.
+ghost use Rattle.std.specs.Prelude.{◌≡◌, ◌≤◌, ◌+◌, true, List, ℕ, IfOk};
+ghost use Rattle.std.specs.Arc.{arc_value};
+ghost use Rattle.farm_entry.specs.Legal.{IsLegal};
+ghost use Rattle.farm_entry.specs.declared.entry.Entry.{Entry};
+ghost use Rattle.farm_store.specs.Answering.{BatchSays, CallSays};
+ghost use Rattle.farm_store.specs.Faults.{HasCallCause};
+ghost use Rattle.farm_store.specs.declared.asking.TheConstants.{MAX_BATCH};
+ghost use Rattle.list_prefix.specs.Prefix.{IsPrefix};
+ghost use Rattle.std.specs.Prelude.{length};
+
+use crate::reader::TotalsReader;
+use farm_board::{Board, BoardPass};
+use farm_disk::Disk;
+use farm_entry::{Command, Reply};
+use farm_store::{Answers, Ask, CallFault, Store};
+use farm_types::{Memory, Moment};
+use std::alloc::Global;
+use std::sync::Arc;
+use turn_lock::Stands;
+
+/// A store and the board of its totals, with the pass that posts them. Between two turns the totals of the whole
+/// history are posted.
+#[derive(Drop)]
+pub struct Locked<D: Disk> {
+    pub store: Store<D>,
+    pub board: Arc<Board, Global>,
+    pub posting: BoardPass,
+    pub ghost posts: { (posting.board ≡ arc_value board) × (posting.posts ≡ true) },
+    pub ghost posted: { posting.seen ≡ store.history },
+}
+
+impl<D: Disk> Stands for Locked<D> {
+    ghost entries = { λ v. v.store.history };
+
+    ghost count = { λ v. D.count v.store.disk };
+}
+
+impl<D: Disk> Locked<D> {
+    /// Answers a command, and posts the totals.
+    pub fn call(&mut self, alloc: Global, command: &Command, at: Moment) -> Result<Reply, CallFault>
+        ensures says { CallSays command.now at result self.old.store self.new.store }
+        ensures longer { IsPrefix self.old.store.history self.new.store.history }
+        ensures recorded { length self.old.store.history + self.new.store.recorded ≤ length self.new.store.history }
+        ensures legal { IsLegal self.new.store.history }
+        ensures cause { HasCallCause result (D.count self.old.store.disk) (D.count self.new.store.disk) }
+        ensures never_falls { D.count self.old.store.disk ≤ D.count self.new.store.disk }
+    {
+        let result = self.store.call(alloc, command, at);
+        let totals = self.store.totals();
+        self.board
+            .post(&mut self.posting, totals, self.store.history());
+        result
+    }
+
+    /// Answers a batch, and posts the totals.
+    pub fn call_batch(&mut self, alloc: Global, asks: &[Ask]) -> Result<Answers, CallFault>
+        requires some { 1 ≤ length asks.now }
+        requires few { length asks.now ≤ MAX_BATCH }
+        ensures says { BatchSays asks.now result self.old.store self.new.store }
+        ensures longer { IsPrefix self.old.store.history self.new.store.history }
+        ensures recorded { length self.old.store.history + self.new.store.recorded ≤ length self.new.store.history }
+        ensures legal { IsLegal self.new.store.history }
+        ensures cause { HasCallCause result (D.count self.old.store.disk) (D.count self.new.store.disk) }
+        ensures never_falls { D.count self.old.store.disk ≤ D.count self.new.store.disk }
+    {
+        let result = self.store.call_batch(alloc, asks);
+        let totals = self.store.totals();
+        self.board
+            .post(&mut self.posting, totals, self.store.history());
+        result
+    }
+
+    /// A reader that has seen the whole history.
+    pub fn reader(&mut self) -> Result<TotalsReader, Memory>
+        ensures same { self.new.store ≡ self.old.store }
+        ensures legal { IsLegal self.new.store.history }
+        ensures seen { IfOk result (λ reader. reader ≡ self.new.store.history) }
+    {
+        let Locked {
+            store,
+            board,
+            posting,
+        } = self;
+        let _ = store.history();
+        match Arc::try_clone(board) {
+            Ok(mine) => Ok(TotalsReader {
+                pass: board.split(posting),
+                board: mine,
+            }),
+            Err(_) => Err(Memory),
+        }
+    }
+}
