@@ -1,14 +1,19 @@
 //! The state of a farm.
 
 ghost use Rattle.std.specs.Prelude.{◌≡◌, ◌<◌, ◌≤◌, ◌-◌, ◌++◌, ◌∷◌, [], None, Some, length, take, IfOk, OnOk, OnErr};
-ghost use Rattle.std.specs.Option.{option_copied, option_map};
+ghost use Rattle.std.specs.Option.{option_and_then, option_copied, option_map};
+ghost use Rattle.farm_types.specs.Moment.{moment_ms};
+ghost use Rattle.farm_entry.specs.Due.{due, open_positions};
 ghost use Rattle.farm_entry.specs.History.{cancelled_in, opening_in, opening_numbered, openings, report_in};
 ghost use Rattle.farm_entry.specs.Legal.{IsLegal};
+ghost use Rattle.farm_laws.specs.Laws.{IsNotBefore};
+ghost use Rattle.search_state.specs.SearchView.{due_in};
 ghost use Rattle.state_laws.specs.Seen.{seen};
 
 use farm_books::Books;
-use farm_entry::{Entry, Opening, ReportedRun, Settings, What};
-use farm_types::{Memory, Moment};
+use farm_entry::{DueRun, Entry, Opening, ReportedRun, Settings, Standing, What};
+use farm_types::{Memory, Moment, Stage};
+use lease_book::OUT_MAX;
 use search_state::SearchState;
 use std::alloc::Global;
 use std::marker::Model;
@@ -74,6 +79,39 @@ impl FarmState {
             return None;
         }
         Some(&self.searches[number as usize - 1])
+    }
+
+    /// The run that is due in the search with a number, at a moment that is not before the last entry; none, where no such
+    /// search was opened.
+    pub fn due(&self, number: u32, moment: Moment) -> Option<DueRun>
+        requires { IsNotBefore self.now (moment_ms moment) }
+        ensures { result ≡ option_and_then (λ o. due self.now o (moment_ms moment)) (opening_numbered self.now number) }
+    {
+        let Some(search) = self.search(number) else {
+            return None;
+        };
+        match search.standing() {
+            Standing::Searching => self.due_at(search, number, Stage::Search, moment),
+            Standing::Verifying(_) => self.due_at(search, number, Stage::Verify, moment),
+            _ => None,
+        }
+    }
+
+    /// The run that is due in a search, by its open leases at a stage.
+    fn due_at(
+        &self,
+        search: &SearchState,
+        number: u32,
+        stage: Stage,
+        moment: Moment,
+    ) -> Option<DueRun>
+        requires before { IsNotBefore self.now (moment_ms moment) }
+        requires opened { option_map (seen self.now) (opening_numbered self.now number) ≡ Some search.now }
+        ensures { result ≡ due_in search.now (open_positions self.now number stage (moment_ms moment)) }
+    {
+        let mut out = [0; OUT_MAX];
+        let count = self.books.open_positions(number, stage, moment, &mut out);
+        search.due(&out[..count])
     }
 
     // One entry more.
