@@ -44,7 +44,7 @@ same-number a b e = grind (arith, nat_tests)
 
 -- What an entry holds beside.
 
-report-not_cancelled : (w : What) (r : ReportedRun) → report_in w ≡ Some r → cancelled_in w ≡ None
+pub report-not_cancelled : (w : What) (r : ReportedRun) → report_in w ≡ Some r → cancelled_in w ≡ None
 report-not_cancelled (Reported run v _) r h = refl
 report-not_cancelled (Founded x) r h = absurd (none-some r h)
 report-not_cancelled (Opened o) r h = absurd (none-some r h)
@@ -52,7 +52,7 @@ report-not_cancelled (Leased k w n q t p d) r h = absurd (none-some r h)
 report-not_cancelled (Cancelled k q) r h = absurd (none-some r h)
 report-not_cancelled (Ordered k a n c q d) r h = absurd (none-some r h)
 
-cancelled-not_report : (w : What) (q : ℕ) → cancelled_in w ≡ Some q → report_in w ≡ None
+pub cancelled-not_report : (w : What) (q : ℕ) → cancelled_in w ≡ Some q → report_in w ≡ None
 cancelled-not_report (Cancelled k x) q h = refl
 cancelled-not_report (Founded x) q h = absurd (none-some q h)
 cancelled-not_report (Opened o) q h = absurd (none-some q h)
@@ -60,7 +60,23 @@ cancelled-not_report (Leased k w n s t p d) q h = absurd (none-some q h)
 cancelled-not_report (Reported run v _) q h = absurd (none-some q h)
 cancelled-not_report (Ordered k a n c s d) q h = absurd (none-some q h)
 
-opened-not_report : (w : What) (o : Opening) → opening_in w ≡ Some o → report_in w ≡ None
+pub report-not_opened : (w : What) (r : ReportedRun) → report_in w ≡ Some r → opening_in w ≡ None
+report-not_opened (Reported run v _) r h = refl
+report-not_opened (Founded x) r h = absurd (none-some r h)
+report-not_opened (Opened o) r h = absurd (none-some r h)
+report-not_opened (Leased k w n q t p d) r h = absurd (none-some r h)
+report-not_opened (Cancelled k q) r h = absurd (none-some r h)
+report-not_opened (Ordered k a n c q d) r h = absurd (none-some r h)
+
+pub cancelled-not_opened : (w : What) (q : ℕ) → cancelled_in w ≡ Some q → opening_in w ≡ None
+cancelled-not_opened (Cancelled k x) q h = refl
+cancelled-not_opened (Founded x) q h = absurd (none-some q h)
+cancelled-not_opened (Opened o) q h = absurd (none-some q h)
+cancelled-not_opened (Leased k w n s t p d) q h = absurd (none-some q h)
+cancelled-not_opened (Reported run v _) q h = absurd (none-some q h)
+cancelled-not_opened (Ordered k a n c s d) q h = absurd (none-some q h)
+
+pub opened-not_report : (w : What) (o : Opening) → opening_in w ≡ Some o → report_in w ≡ None
 opened-not_report (Opened x) o h = refl
 opened-not_report (Founded x) o h = absurd (none-some o h)
 opened-not_report (Leased k w n s t p d) o h = absurd (none-some o h)
@@ -68,7 +84,7 @@ opened-not_report (Reported run v _) o h = absurd (none-some o h)
 opened-not_report (Cancelled k q) o h = absurd (none-some o h)
 opened-not_report (Ordered k a n c s d) o h = absurd (none-some o h)
 
-opened-not_cancelled : (w : What) (o : Opening) → opening_in w ≡ Some o → cancelled_in w ≡ None
+pub opened-not_cancelled : (w : What) (o : Opening) → opening_in w ≡ Some o → cancelled_in w ≡ None
 opened-not_cancelled (Opened x) o h = refl
 opened-not_cancelled (Founded x) o h = absurd (none-some o h)
 opened-not_cancelled (Leased k w n s t p d) o h = absurd (none-some o h)
