@@ -18,7 +18,7 @@ import time
 
 ROOT = os.path.dirname(os.path.dirname(os.path.abspath(__file__)))
 PROGRAM = os.path.join(ROOT, "crates", "culprit_finder", "out", "culprit_finder")
-START = 86_400_000
+START = 4_000_000_000_000  # in 2096: a farm takes no moment before that of its founding, which is the clock's
 LINES = 200
 
 
