@@ -1,15 +1,16 @@
 #!/usr/bin/env python3
 """Times `run JOURNAL` over leases that each expire before the next one, beside a plain program in C that makes the same
-writes and syncs (plain_journal.c, built here by `cc`), and prints the ratio of the two; and how long `show` takes to open
-the journal afterwards.
+writes and syncs (plain_journal.c, built here by `cc`), and prints the ratio of the two in the median turn; and how long `show`
+takes to open the journal afterwards.
 
     bench/journal.py [FOLDER [LEASES]]        1000 leases in the folder for temporary files, if not said
 
-Run it after `./finder build`. The two programs are run in turn, and each has the least of its times. What a sync takes is
-the disk's: on a folder in memory it is nothing, and the ratio is then that of the processor's work alone.
+Run it after `./finder build`. The two programs are run in turn. What a sync takes is the disk's: on a folder in memory it is
+nothing, and what `run` takes there is the processor's work alone.
 """
 import json
 import os
+import statistics
 import subprocess
 import sys
 import tempfile
@@ -57,9 +58,10 @@ def main():
         began = time.monotonic()
         subprocess.run([PROGRAM, "show", journal], check=True, stdout=subprocess.DEVNULL)
         opened = time.monotonic() - began
-    print(f"{leases} leases: {min(ours):.3f} s, and {min(theirs):.3f} s in a plain program, ratio {min(ours) / min(theirs):.2f}")
+    ratios = [one / other for one, other in zip(ours, theirs)]
+    print(f"{leases} leases: at least {min(ours):.3f} s, and {min(theirs):.3f} s in a plain program")
+    print(f"ratio {statistics.median(ratios):.2f}; in turn " + ", ".join(f"{ratio:.2f}" for ratio in ratios))
     print(f"opened and shown in {opened:.3f} s, {opened / (leases + 2) * 1e6:.0f} us an entry")
-    print("in turn " + ", ".join(f"{a / b:.2f}" for a, b in zip(ours, theirs)))
 
 
 if __name__ == "__main__":
