@@ -1,7 +1,7 @@
 #!/usr/bin/env python3
 """Times `run JOURNAL` over leases that each expire before the next one, beside a plain program in C that makes the same
-writes and syncs (plain_journal.c, built here by `cc`), and prints the ratio of the two in the median turn; and how long `show`
-takes to open the journal afterwards.
+writes and syncs (plain_journal.c, built here by `cc`), and prints the ratio of the two in the median turn, and the
+share of its time for which `run` had the processor.
 
     bench/journal.py [FOLDER [LEASES]]        1000 leases in the folder for temporary files, if not said
 
@@ -10,6 +10,7 @@ nothing, and what `run` takes there is the processor's work alone.
 """
 import json
 import os
+import resource
 import statistics
 import subprocess
 import sys
@@ -18,7 +19,8 @@ import time
 
 ROOT = os.path.dirname(os.path.dirname(os.path.abspath(__file__)))
 PROGRAM = os.path.join(ROOT, "crates", "culprit_finder", "out", "culprit_finder")
-START = 4_000_000_000_000  # in 2096: a farm takes no moment before that of its founding, which is the clock's
+# In 2096: a farm takes no moment before that of its founding, which is the clock's.
+START = 4_000_000_000_000
 LEASE_MS = 60_000
 TURNS = 5
 
@@ -36,6 +38,19 @@ def script(leases):
     return "".join(json.dumps(line, separators=(",", ":")) + "\n" for line in lines).encode()
 
 
+def found(path):
+    """Founds the journal anew."""
+    if os.path.exists(path):
+        os.remove(path)
+    subprocess.run([PROGRAM, "found", path, str(LEASE_MS), "10", "east:0"], check=True, stdout=subprocess.DEVNULL)
+
+
+def processor():
+    """The processor seconds of the programs that have ended so far."""
+    used = resource.getrusage(resource.RUSAGE_CHILDREN)
+    return used.ru_utime + used.ru_stime
+
+
 def main():
     words = sys.argv[1:]
     where = words[0] if words else None
@@ -45,23 +60,19 @@ def main():
         plain = os.path.join(built, "plain_journal")
         subprocess.run(["cc", "-O2", "-o", plain, os.path.join(ROOT, "bench", "plain_journal.c")], check=True)
         journal, copy = (os.path.join(folder, name) for name in ("journal", "copy"))
-        ours, theirs = [], []
+        ours, theirs, shares = [], [], []
         for _ in range(TURNS):
-            if os.path.exists(journal):
-                os.remove(journal)
-            subprocess.run([PROGRAM, "found", journal, str(LEASE_MS), "10", "east:0"], check=True, stdout=subprocess.DEVNULL)
-            began = time.monotonic()
+            found(journal)
+            began, used = time.monotonic(), processor()
             subprocess.run([PROGRAM, "run", journal], input=lines, check=True, stdout=subprocess.DEVNULL)
             ours.append(time.monotonic() - began)
+            shares.append((processor() - used) / ours[-1])
             told = subprocess.run([plain, journal, copy], check=True, stdout=subprocess.PIPE).stdout
             theirs.append(int(told) / 1e9)
-        began = time.monotonic()
-        subprocess.run([PROGRAM, "show", journal], check=True, stdout=subprocess.DEVNULL)
-        opened = time.monotonic() - began
     ratios = [one / other for one, other in zip(ours, theirs)]
     print(f"{leases} leases: at least {min(ours):.3f} s, and {min(theirs):.3f} s in a plain program")
     print(f"ratio {statistics.median(ratios):.2f}; in turn " + ", ".join(f"{ratio:.2f}" for ratio in ratios))
-    print(f"opened and shown in {opened:.3f} s, {opened / (leases + 2) * 1e6:.0f} us an entry")
+    print(f"of its time the program had the processor for {statistics.median(shares):.0%}")
 
 
 if __name__ == "__main__":

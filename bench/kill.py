@@ -18,7 +18,8 @@ import time
 
 ROOT = os.path.dirname(os.path.dirname(os.path.abspath(__file__)))
 PROGRAM = os.path.join(ROOT, "crates", "culprit_finder", "out", "culprit_finder")
-START = 4_000_000_000_000  # in 2096: a farm takes no moment before that of its founding, which is the clock's
+# In 2096: a farm takes no moment before that of its founding, which is the clock's.
+START = 4_000_000_000_000
 LINES = 200
 
 
@@ -41,6 +42,12 @@ def found(journal):
     if os.path.exists(journal):
         os.remove(journal)
     subprocess.run([PROGRAM, "found", journal, "60000", "10", "east:0"], check=True, stdout=subprocess.DEVNULL)
+
+
+def entries_in(journal):
+    """How many entries the journal holds, by what `show` says."""
+    shown = subprocess.run([PROGRAM, "show", journal], check=True, stdout=subprocess.PIPE).stdout
+    return json.loads(shown.splitlines()[0])["entries"]
 
 
 def killed(journal, text, after):
@@ -84,20 +91,18 @@ def main():
             told = killed(journal, text, dice.uniform(0, 1.1 * span))
             if told != replies[: len(told)]:
                 fail(f"turn {turn}: another reply")
-            shown = subprocess.run([PROGRAM, "show", journal], check=True, stdout=subprocess.PIPE).stdout
-            entries = json.loads(shown.splitlines()[0])["entries"]
+            entries = entries_in(journal)
             if entries < 1 + len(told):
                 fail(f"turn {turn}: {len(told)} replies were read, and {entries} entries are there")
             known = text.splitlines(keepends=True)[: len(told)]
             again = subprocess.run([PROGRAM, "run", journal], input=b"".join(known), check=True, stdout=subprocess.PIPE)
             if again.stdout.splitlines(keepends=True) != told:
                 fail(f"turn {turn}: a line that was answered gets another reply")
-            after = json.loads(subprocess.run([PROGRAM, "show", journal], check=True, stdout=subprocess.PIPE).stdout.splitlines()[0])
-            if after["entries"] != entries:
+            if entries_in(journal) != entries:
                 fail(f"turn {turn}: a line that was answered was recorded again")
             cut += len(told) < len(replies)
             more += entries > 1 + len(told)
-    print(f"{times} kills, {cut} before the last reply, {more} with an entry whose reply was not read; no entry was lost")
+    print(f"{times} kills, {cut} before the last reply, {more} with an entry whose reply was not read; none was lost")
 
 
 if __name__ == "__main__":
