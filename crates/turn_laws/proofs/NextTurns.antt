@@ -7,7 +7,7 @@ use Rattle.std.proofs.lemmas.List.Elements.{All-contains, Contains-append_right}
 use Rattle.std.proofs.lemmas.Option.{none-some}
 use Rattle.farm_types.specs.Moment.{moment_ms}
 use Rattle.active_order.specs.Order.{has, strike, IsOnce}
-use Rattle.active_order.proofs.Lists.{strike-gone, strike-once, strike-other}
+use Rattle.active_order.proofs.Lists.{strike-absent, strike-gone, strike-once, strike-other}
 use Rattle.farm_entry.specs.History.{all_leases, is_lease_for, is_of_search, last_lease, last_place, lease_in, opening_in, opening_numbered, openings}
 use Rattle.farm_entry.specs.Legal.{IsLegal, ask_of}
 use Rattle.farm_entry.specs.Standing.{is_active, standing}
@@ -32,7 +32,7 @@ use Rattle.search_laws.proofs.NeverLeased.{never_leased}
 use Rattle.search_laws.proofs.OneMore.{last_lease-step, standing-same}
 use Rattle.turn_laws.specs.TurnOrder.{AreTurns, IsOfActive}
 use Rattle.turn_laws.proofs.Along.{due-active}
-use Rattle.turn_laws.proofs.Parts.{has-either, has-left, kept-turns, not-both, one-has, snoc-here, snoc-once, snoc-turns, strike-turns, struck-has, struck-other}
+use Rattle.turn_laws.proofs.Parts.{has-either, has-left, kept-turns, not-both, one-has, snoc-here, snoc-once, snoc-turns, strike-snoc, strike-turns, struck-has, struck-other}
 
 same-number : (a b : ℕ) → a ≡ b → a == b ≡ true
 same-number a b e = grind (arith, nat_tests)
@@ -275,6 +275,14 @@ in-snoc s t never leased (inr h) =
     ⊎_elim (λ (l : has t leased ≡ true). inl (inr l)) (λ (r : has t (s ∷ []) ≡ true). inr (one-has t s r))
     (has-either t leased (s ∷ []) h)
 
+pub leased-there : (H : List Entry) (e : Entry) (l : LeasedRun) (never leased : List ℕ) → IsLegal H →
+    IsLegal (H ++ e ∷ []) → AreTurns H never leased → lease_in e.what ≡ Some l →
+    (has l.search never ≡ true) ⊎ (has l.search leased ≡ true)
+leased-there H e l never leased legal longer turns is =
+    let a = leased-active H e l (step-of H e legal longer) is in
+    subst (λ (n : ℕ). (has n never ≡ true) ⊎ (has n leased ≡ true)) a.numbered
+    (turns.all a.opening a.there a.active)
+
 pub leased-turns : (H : List Entry) (e : Entry) (l : LeasedRun) (never leased : List ℕ) → IsLegal H →
     IsLegal (H ++ e ∷ []) → AreTurns H never leased → lease_in e.what ≡ Some l →
     AreTurns (H ++ e ∷ []) (strike l.search never) (strike l.search leased ++ l.search ∷ [])
@@ -466,3 +474,22 @@ opened-turns H e o never leased legal longer turns is active_now =
           (λ t h. inr (kept t ∙ turns.fresh t h ∙ sym last, omega (arith, low t h)));
       leased_by_turns = kept-turns H G leased (λ t h. kept t) turns.leased_by_turns;
     }
+
+-- the new search stands in neither part yet
+absent-if : (H : List Entry) (s : ℕ) (never leased xs : List ℕ) → IsLegal H → AreTurns H never leased →
+    length (openings H) + 1 ≡ s →
+    (has s xs ≡ true → (has s never ≡ true) ⊎ (has s leased ≡ true)) → has s xs ≡ false
+absent-if H s never leased xs legal turns next within =
+    ⊎_elim
+    (λ (h : has s xs ≡ true). absurd (omega (arith, next, active-below H s legal (turns.only s (within h)))))
+    (λ (none : has s xs ≡ false). none)
+    (cases_Bool (has s xs))
+
+pub opened-struck : (H : List Entry) (e : Entry) (o : Opening) (never leased : List ℕ) → IsLegal H →
+    IsLegal (H ++ e ∷ []) → AreTurns H never leased → opening_in e.what ≡ Some o →
+    (strike o.search (never ++ o.search ∷ []) ≡ never) × (strike o.search leased ≡ leased)
+opened-struck H e o never leased legal longer turns is =
+    let next = next-number H e o (step-of H e legal longer) is in (
+      strike-snoc o.search never (absent-if H o.search never leased never legal turns next (λ h. inl h)),
+      strike-absent o.search leased (absent-if H o.search never leased leased legal turns next (λ h. inr h)),
+    )

@@ -2,7 +2,7 @@
 use Rattle.std.proofs.Common.{◌≡◌, ◌≢◌, ℕ, ◌⊎◌, Bool, true, false, List, [], ◌∷◌, ◌++◌, refl, sym, ap, subst, inl, inr, ◌∙◌, ⊎_elim, arith}
 use Rattle.std.proofs.lemmas.Bool.{cases_Bool, cases_eq, true≢false}
 use Rattle.active_order.specs.Order.{has, strike, IsOnce}
-use Rattle.active_order.proofs.Lists.{has-here, has-rest, has-there, other, same, strike-gone, strike-none}
+use Rattle.active_order.proofs.Lists.{has-here, has-rest, has-there, none-first, none-rest, other, same, strike-gone, strike-none}
 use Rattle.decision_laws.specs.Turns.{ComesBefore}
 use Rattle.farm_entry.specs.History.{last_lease}
 use Rattle.farm_entry.specs.declared.entry.Entry.{Entry}
@@ -76,6 +76,13 @@ pub snoc-once : (s : ℕ) (xs : List ℕ) → IsOnce xs → has s xs ≡ false �
 snoc-once s xs once none =
     append-once xs (s ∷ []) once (refl, tt)
     (λ t l r. not-both _ l (ap (λ (n : ℕ). has n xs) (one-has t s r) ∙ none))
+
+-- and it is struck again
+pub strike-snoc : (s : ℕ) (xs : List ℕ) → has s xs ≡ false → strike s (xs ++ s ∷ []) ≡ xs
+strike-snoc s [] none = rw (same s s refl) refl
+strike-snoc s (x ∷ xs) none =
+    rw (other s x (none-first s x xs none))
+    (ap (λ (rest : List ℕ). x ∷ rest) (strike-snoc s xs (none-rest s x xs none)))
 
 -- By turns.
 

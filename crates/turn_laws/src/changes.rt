@@ -1,6 +1,6 @@
 //! How the order of turns goes on with one entry more.
-ghost use Rattle.std.specs.Prelude.{◌≡◌, ℕ, true, false, List, [], ◌∷◌, ◌++◌, Contains, None, Some};
-ghost use Rattle.active_order.specs.Order.{strike};
+ghost use Rattle.std.specs.Prelude.{◌≡◌, ◌⊎◌, ℕ, true, false, List, [], ◌∷◌, ◌++◌, Contains, None, Some};
+ghost use Rattle.active_order.specs.Order.{has, strike};
 ghost use Rattle.farm_entry.specs.History.{lease_in, opening_in, openings};
 ghost use Rattle.farm_entry.specs.Legal.{IsLegal};
 ghost use Rattle.farm_entry.specs.Standing.{is_active, standing};
@@ -19,8 +19,9 @@ pub fn founded_farms_ask_no_search()
     ensures { (e : Entry) → IsLegal (e ∷ []) → AreTurns (e ∷ []) [] [] }
 {}
 
-/// A search that is opened and active goes to the end of those never leased. One that a run is leased of goes behind all
-/// others. One that a report or a cancellation ends is struck. Any other entry leaves the order as it is.
+/// A search that is opened and active goes to the end of those never leased. One that a run is leased of, which stands in
+/// the order, goes behind all others. One that a report or a cancellation ends is struck, and so may be one that is
+/// opened and not active. Any other entry leaves the order as it is.
 pub fn orders_after_one_entry_more()
     ensures opened { (H : List Entry) (e : Entry) (o : Opening) (never leased : List ℕ) → IsLegal H
         → IsLegal (H ++ e ∷ []) → AreTurns H never leased → opening_in e.what ≡ Some o
@@ -28,6 +29,12 @@ pub fn orders_after_one_entry_more()
     ensures opened_ended { (H : List Entry) (e : Entry) (o : Opening) (never leased : List ℕ) → IsLegal H
         → IsLegal (H ++ e ∷ []) → AreTurns H never leased → opening_in e.what ≡ Some o
         → is_active (standing (H ++ e ∷ []) o) ≡ false → AreTurns (H ++ e ∷ []) never leased }
+    ensures opened_struck { (H : List Entry) (e : Entry) (o : Opening) (never leased : List ℕ) → IsLegal H
+        → IsLegal (H ++ e ∷ []) → AreTurns H never leased → opening_in e.what ≡ Some o
+        → (strike o.search (never ++ o.search ∷ []) ≡ never) × (strike o.search leased ≡ leased) }
+    ensures leased_there { (H : List Entry) (e : Entry) (l : LeasedRun) (never leased : List ℕ) → IsLegal H
+        → IsLegal (H ++ e ∷ []) → AreTurns H never leased → lease_in e.what ≡ Some l
+        → (has l.search never ≡ true) ⊎ (has l.search leased ≡ true) }
     ensures leased { (H : List Entry) (e : Entry) (l : LeasedRun) (never leased : List ℕ) → IsLegal H
         → IsLegal (H ++ e ∷ []) → AreTurns H never leased → lease_in e.what ≡ Some l
         → AreTurns (H ++ e ∷ []) (strike l.search never) (strike l.search leased ++ l.search ∷ []) }
