@@ -19,8 +19,8 @@ pub fn founded_farms_ask_no_search()
     ensures { (e : Entry) → IsLegal (e ∷ []) → AreTurns (e ∷ []) [] [] }
 {}
 
-/// A search that is opened and active goes to the end of those never leased. One that a run is leased of, which stands in
-/// the order, goes behind all others. One that a report or a cancellation ends is struck, and so may be one that is
+/// A search that is opened and active goes to the end of those never leased. One that a run is leased of, which stands
+/// in the order, goes behind all others. One that a report or a cancellation ends is struck, and so may be one that is
 /// opened and not active. Any other entry leaves the order as it is.
 pub fn orders_after_one_entry_more()
     ensures opened { (H : List Entry) (e : Entry) (o : Opening) (never leased : List ℕ) → IsLegal H
