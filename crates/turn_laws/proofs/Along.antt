@@ -35,7 +35,7 @@ made-of f None y h = absurd (none-some y h)
 made-of f (Some x) y h = record { from = x; there = refl; makes = h }
 
 -- only an active search has a run that is due
-due-active : (s : Standing) (H : List Entry) (o : Opening) (m : ℕ) (d : DueRun) → due_at s H o m ≡ Some d →
+pub due-active : (s : Standing) (H : List Entry) (o : Opening) (m : ℕ) (d : DueRun) → due_at s H o m ≡ Some d →
     is_active s ≡ true
 due-active Searching H o m d h = refl
 due-active (Verifying c) H o m d h = refl

@@ -74,7 +74,8 @@ no-zero H order legal turns =
     (λ (there : has 0 order ≡ true).
     let active = turns.only 0 there in
     let some : 1 ≤ active.opening.search =
-    number-at-least (λ (o : Opening). o.search) 1 (openings H) (openings-numbered H legal) active.opening active.there in
+    number-at-least (λ (o : Opening). o.search) 1 (openings H) (openings-numbered H legal) active.opening
+    active.there in
     absurd (omega (arith, some, active.numbered)))
     (λ (none : has 0 order ≡ false). none)
     (cases_Bool (has 0 order))

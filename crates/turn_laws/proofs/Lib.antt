@@ -1,2 +1,4 @@
 pub mod Along
 pub mod FromOn
+pub mod NextTurns
+pub mod Parts

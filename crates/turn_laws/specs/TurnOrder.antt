@@ -1,10 +1,10 @@
 -- The order of turns, in which the active searches of a history are asked for a run, and what is due along it.
-use Rattle.std.specs.Prelude.{ℕ, ◌≡◌, true, cond, nat_eq, List, [], ◌∷◌, Contains, Option, None, ⊤}
+use Rattle.std.specs.Prelude.{ℕ, ◌≡◌, ◌<◌, ◌⊎◌, true, cond, nat_eq, List, [], ◌∷◌, Contains, Option, None, ⊤}
 use Rattle.std.specs.Option.{option_and_then, option_or}
 use Rattle.active_order.specs.Order.{has, IsOnce}
 use Rattle.decision_laws.specs.Turns.{ComesBefore}
 use Rattle.farm_entry.specs.Due.{due}
-use Rattle.farm_entry.specs.History.{opening_numbered, openings}
+use Rattle.farm_entry.specs.History.{last_lease, opening_numbered, openings}
 use Rattle.farm_entry.specs.Standing.{is_active, standing}
 use Rattle.farm_entry.specs.declared.entry.Entry.{Entry}
 use Rattle.farm_entry.specs.declared.lease.DueRun.{DueRun}
@@ -22,13 +22,25 @@ abbrev pub AreByTurns : List Entry → List ℕ → Type 0
 AreByTurns H [] = ⊤
 AreByTurns H (s ∷ rest) = ((t : ℕ) → has t rest ≡ true → ComesBefore H s t) × AreByTurns H rest
 
--- a list is the order of turns: exactly the active searches, each once, those never leased first by number, and then the
--- others by the places of their last leases
+-- a list is the order of turns: exactly the active searches, each once, those never leased first by number, and then
+-- the others by the places of their last leases
 pub record IsTurnOrder (H : List Entry) (order : List ℕ) : Type 0 where
   pub once : IsOnce order
   pub all : (o : Opening) → Contains (openings H) o → is_active (standing H o) ≡ true → has o.search order ≡ true
   pub only : (search : ℕ) → has search order ≡ true → IsOfActive H search
   pub by_turns : AreByTurns H order
+
+-- two lists are the order of turns in its two parts: the active searches that were never leased, and the others
+pub record AreTurns (H : List Entry) (never leased : List ℕ) : Type 0 where
+  pub never_once : IsOnce never
+  pub leased_once : IsOnce leased
+  pub fresh : (search : ℕ) → has search never ≡ true → last_lease H search ≡ 0
+  pub waiting : (search : ℕ) → has search leased ≡ true → 0 < last_lease H search
+  pub all : (o : Opening) → Contains (openings H) o → is_active (standing H o) ≡ true →
+      (has o.search never ≡ true) ⊎ (has o.search leased ≡ true)
+  pub only : (search : ℕ) → (has search never ≡ true) ⊎ (has search leased ≡ true) → IsOfActive H search
+  pub never_by_turns : AreByTurns H never
+  pub leased_by_turns : AreByTurns H leased
 
 -- the run that is due at a moment in the search with a number
 abbrev pub due_in_search : List Entry → (search moment : ℕ) → Option DueRun

@@ -7,8 +7,8 @@ ghost use Rattle.turn_laws.specs.TurnOrder.{IsTurnOrder, due_in_search, first_du
 
 use farm_entry::Entry;
 
-/// The run that is handed out next is the first that is due along the active searches in the order of turns. There is none
-/// exactly where none of them has a run that is due.
+/// The run that is handed out next is the first that is due along the active searches in the order of turns. There is
+/// none exactly where none of them has a run that is due.
 pub fn next_runs_are_the_first_due_in_turn()
     ensures first { (H : List Entry) (moment : ℕ) (order : List ℕ) → IsLegal H → IsTurnOrder H order
         → next_run H moment ≡ first_due H moment order }

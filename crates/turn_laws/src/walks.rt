@@ -7,8 +7,8 @@ ghost use Rattle.turn_laws.specs.TurnOrder.{IsTurnOrder, due_in_search, first_du
 
 use farm_entry::Entry;
 
-/// What is due along an order is what is due from its first search on. From a search on it is what is due in that search,
-/// or else what is due from the next one on; and from 0, which is behind the last search, nothing is.
+/// What is due along an order is what is due from its first search on. From a search on it is what is due in that
+/// search, or else what is due from the next one on; and from 0, which is behind the last search, nothing is.
 pub fn orders_are_walked_search_by_search()
     ensures start { (H : List Entry) (moment : ℕ) (order : List ℕ)
         → first_due_from H moment (first_of order) order ≡ first_due H moment order }
