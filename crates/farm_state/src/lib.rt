@@ -7,5 +7,6 @@
 #![tactic(auto)]
 
 mod state;
+mod telling;
 
 pub use state::FarmState;
