@@ -87,8 +87,8 @@ popped-end all before x n count is =
 
 -- where it is about a search: that search, with the last entry and before it
 pub record Left (H G : List Entry) (search : ℕ) : Type 0 where
-  pub e : Entry
-  pub last : IsLast H G e
+  pub entry : Entry
+  pub last : IsLast H G entry
   pub before : IsSearchOf G search
   pub now : IsSearchOf H search
   pub state : (d : SearchView) → get_or (all_seen H) (search - 1) d ≡ seen H before.opening
@@ -109,7 +109,7 @@ left-of H F G search legal same some is left =
       same = before.same;
     } in
     record {
-      e = e;
+      entry = e;
       last = last;
       before = before;
       now = now;
@@ -164,9 +164,11 @@ end-cancels H e q l is =
 pub end-known : (H G : List Entry) (e : Entry) (r : ReportedRun) → IsLast H G e → report_in e.what ≡ Some r →
     (l : LeasedRun) × (lease_of G r.run ≡ Some l) × (lease_of H r.run ≡ Some l)
 end-known H G e r l is =
-    let facts = reported-facts G e.at e.what r is l.step in
-    (facts.lease, facts.known,
-    ap (λ (X : List Entry). lease_of X r.run) l.split ∙ lease_of-stays G e r.run facts.lease facts.known)
+    let facts = reported-facts G e.at e.what r is l.step in (
+      facts.lease,
+      facts.known,
+      ap (λ (X : List Entry). lease_of X r.run) l.split ∙ lease_of-stays G e r.run facts.lease facts.known,
+    )
 
 pub end-reports : (H : List Entry) (e : Entry) (r : ReportedRun) (l : LeasedRun) → IsLast H (take (length H - 1) H) e →
     report_in e.what ≡ Some r → lease_of H r.run ≡ Some l → IsEndOf H l.search

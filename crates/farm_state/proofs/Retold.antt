@@ -1,5 +1,5 @@
 -- How a search is told anew: each entry makes of what was held of it before what is held of it after.
-use Rattle.std.proofs.Common.{◌≡◌, ℕ, suc, ◌+◌, ◌<◌, ◌==◌, Bool, true, false, List, [], ◌∷◌, ◌++◌, length, take, drop, get_or, take-suc, take-append-drop, if◌then◌else◌, Contains, Option, Some, None, refl, sym, ap, subst, ◌∙◌, append-nil, append_assoc, arith, true≢false}
+use Rattle.std.proofs.Common.{◌≡◌, ℕ, suc, ◌+◌, ◌<◌, ◌==◌, Bool, true, false, List, [], ◌∷◌, ◌++◌, length, take, drop, get_or, take-suc, take-append-drop, if◌then◌else◌, Contains, Option, Some, refl, sym, ap, subst, ◌∙◌, append-nil, append_assoc, arith, true≢false}
 use Rattle.std.proofs.lemmas.Bool.Decides.{nat_tests}
 use Rattle.std.proofs.lemmas.Option.{none-some}
 use Rattle.farm_types.specs.declared.moment.Moment.{Moment}

@@ -217,7 +217,7 @@ impl FarmState {
             return self.pop_report(report.run);
         }
         if let Some(search) = what.cancelled() {
-            return self.pop_of(search);
+            return self.pop_about(search);
         }
         self.pop_quiet();
     }
@@ -242,11 +242,11 @@ impl FarmState {
         let Some(lease) = self.books.lease_of(run) else {
             unreachable!();
         };
-        self.pop_of(lease.search);
+        self.pop_about(lease.search);
     }
 
     /// Takes the last entry away, which reports a run of a search or cancels it. The state of the search is told anew.
-    fn pop_of(&mut self, search: u32)
+    fn pop_about(&mut self, search: u32)
         requires some { 1 < length self.old }
         requires about { IsEndOf self.old search }
         ensures { self.new ≡ take (length self.old - 1) self.old }

@@ -1,14 +1,12 @@
 //! How the state of a search is told anew from a history.
 
-ghost use Rattle.std.specs.Prelude.{◌≡◌, Some};
+ghost use Rattle.std.specs.Prelude.{◌≡◌, Contains, Some};
 ghost use Rattle.farm_entry.specs.History.{lease_of, openings, report_in};
-ghost use Rattle.search_state.specs.SearchView.{opened};
 ghost use Rattle.state_laws.specs.Seen.{seen};
-ghost use Rattle.std.specs.Prelude.{Contains};
 ghost use Rattle.farm_state.specs.Telling.{MayTake, told};
 
 use farm_books::Books;
-use farm_entry::{Entry, LeasedRun, Opening, ReportedRun, What};
+use farm_entry::{LeasedRun, ReportedRun, What};
 use search_state::SearchState;
 
 /// Makes the state of a search what a history holds of it. It takes no memory.

@@ -1,4 +1,3 @@
-use Rattle.std.proofs.Common.{ap, ◌∙◌}
 use Rattle.farm_state.proofs.Retold.{may-take-at, told-at}
 use Rattle.farm_state.proofs.telling.retell.Goals as goal
 

@@ -1,7 +1,7 @@
-use Rattle.std.proofs.Common.{◌≡◌, ◌-◌, List, [], ◌∷◌, ◌++◌, length, take, arith, sym, ap, subst, ◌∙◌}
+use Rattle.std.proofs.Common.{◌≡◌, List, [], ◌∷◌, ◌++◌, length, arith, ap, ◌∙◌}
 use Rattle.std.specs.Vec.{vec_len}
 use Rattle.farm_entry.specs.declared.entry.Entry.{Entry}
-use Rattle.search_state.specs.SearchView.{SearchView, opened}
+use Rattle.search_state.specs.SearchView.{opened}
 use Rattle.state_laws.specs.Seen.{all_seen}
 use Rattle.state_laws.proofs.AllStates.{opened-all}
 use Rattle.farm_state.proofs.Popping.{last-on, popped-end}
@@ -20,7 +20,7 @@ invariant_of-self c =
     record {
       legal = l.legal;
       searches =
-          c.pop-2.ensures.rest
+          c.pop-last.ensures.rest
           ∙ popped-end c.self.inside.searches.items (all_seen G) (opened q.1) (vec_len c.self.inside.searches) count
           (h.searches ∙ all);
     }

@@ -1,5 +1,4 @@
-use Rattle.std.proofs.Common.{◌-◌, List, length, take, sym, ap, subst, ◌∙◌}
-use Rattle.farm_entry.specs.Legal.{IsLegal}
+use Rattle.std.proofs.Common.{List, ap, ◌∙◌}
 use Rattle.farm_entry.specs.declared.entry.Entry.{Entry}
 use Rattle.state_laws.specs.Seen.{all_seen}
 use Rattle.state_laws.proofs.AllStates.{quiet-all}

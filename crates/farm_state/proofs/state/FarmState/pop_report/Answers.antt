@@ -18,8 +18,8 @@ unreachable-requires c =
     ∙ ap (lease_of H) q.4
     ∙ it.2)
 
-pub pop_of-requires-clause-about : goal.pop_of-requires-clause-about
-pop_of-requires-clause-about c =
+pub pop_about-requires-clause-about : goal.pop_about-requires-clause-about
+pop_about-requires-clause-about c =
     let H : List Entry = c.args.self.now in
     let q = c.requires.reports in
     let l : LeasedRun = c.in-Some.lease in

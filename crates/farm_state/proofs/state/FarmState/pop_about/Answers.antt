@@ -5,7 +5,7 @@ use Rattle.search_state.specs.SearchView.{SearchView}
 use Rattle.state_laws.specs.Seen.{all_seen, seen}
 use Rattle.farm_state.proofs.Popping.{left-of}
 use Rattle.farm_state.proofs.Searches.{search-high, search-low}
-use Rattle.farm_state.proofs.state.FarmState.pop_of.Goals as goal
+use Rattle.farm_state.proofs.state.FarmState.pop_about.Goals as goal
 
 pub overflow_sub-search : goal.overflow_sub-search
 overflow_sub-search c =
