@@ -1,2 +1,4 @@
 pub mod Searches
 pub mod DueRuns
+pub mod Retold
+pub mod Popping

@@ -1,7 +1,7 @@
 -- The searches of a history, by their numbers.
-use Rattle.std.proofs.Common.{◌≡◌, ◌⊎◌, ⊎_elim, ℕ, zero, suc, ◌+◌, ◌-◌, ◌<◌, ◌≤◌, List, [], ◌∷◌, ◌++◌, length, get_or, Contains, Option, Some, None, refl, sym, ap, subst, ◌∙◌, arith, length-append}
+use Rattle.std.proofs.Common.{◌≡◌, ◌⊎◌, ⊎_elim, ℕ, zero, suc, ◌+◌, ◌-◌, ◌<◌, ◌≤◌, List, [], ◌∷◌, ◌++◌, length, get_or, Contains, true, false, true≢false, Option, Some, None, refl, sym, ap, subst, ◌∙◌, arith, length-append}
 use Rattle.std.specs.List.{cons_option}
-use Rattle.std.specs.Option.{option_map}
+use Rattle.std.specs.Option.{is_some, option_map}
 use Rattle.std.proofs.lemmas.List.{get_or-map, get_or_push, length-map}
 use Rattle.std.proofs.lemmas.List.Elements.{All-contains}
 use Rattle.farm_entry.specs.History.{all_leases, lease_of, opening_in, opening_numbered, openings}
@@ -110,3 +110,15 @@ search-some H n d legal low high =
     ap (λ (k : ℕ). option_map (seen H) (opening_numbered H k)) same
     ∙ ap (option_map (seen H)) (opening-found H o legal there)
     ∙ ap Some (sym (search-state H n d legal (record { opening = o; there = there; same = same })))
+
+-- What an entry opens.
+
+-- something
+pub opened-some : (x : Option Opening) → is_some x ≡ true → (o : Opening) × (x ≡ Some o)
+opened-some None h = absurd (true≢false (sym h))
+opened-some (Some o) h = (o, refl)
+
+-- or nothing
+pub opened-none : (x : Option Opening) → is_some x ≡ false → x ≡ None
+opened-none None h = refl
+opened-none (Some o) h = absurd (true≢false h)

@@ -1,1 +1,2 @@
 pub mod StateInside
+pub mod Telling

@@ -1,6 +1,6 @@
 //! The state of a farm.
 
-ghost use Rattle.std.specs.Prelude.{◌≡◌, ◌<◌, ◌≤◌, ◌-◌, ◌++◌, ◌∷◌, [], None, Some, length, take, IfOk, OnOk, OnErr};
+ghost use Rattle.std.specs.Prelude.{◌≡◌, ◌<◌, ◌-◌, ◌++◌, ◌∷◌, [], None, Some, length, take, IfOk, OnOk, OnErr};
 ghost use Rattle.std.specs.Option.{option_and_then, option_copied, option_map};
 ghost use Rattle.farm_types.specs.Moment.{moment_ms};
 ghost use Rattle.farm_entry.specs.Due.{due, open_positions};
@@ -9,7 +9,9 @@ ghost use Rattle.farm_entry.specs.Legal.{IsLegal};
 ghost use Rattle.farm_laws.specs.Laws.{IsNotBefore};
 ghost use Rattle.search_state.specs.SearchView.{due_in};
 ghost use Rattle.state_laws.specs.Seen.{seen};
+ghost use Rattle.farm_state.specs.Telling.{IsEnd, IsEndOf};
 
+use crate::telling::retell;
 use farm_books::Books;
 use farm_entry::{DueRun, Entry, Opening, ReportedRun, Settings, Standing, What};
 use farm_types::{Memory, Moment, Stage};
@@ -197,5 +199,69 @@ impl FarmState {
     {
         self.books.push(entry)?;
         Ok(())
+    }
+
+    // One entry less.
+
+    /// Takes the last entry away, which takes no memory.
+    pub fn pop(&mut self)
+        requires { 1 < length self.old }
+        ensures { self.new ≡ take (length self.old - 1) self.old }
+    {
+        let history = self.books.history();
+        let what = &history[history.len() - 1].what;
+        if what.is_opening() {
+            return self.pop_opening();
+        }
+        if let Some(report) = what.report() {
+            return self.pop_report(report.run);
+        }
+        if let Some(search) = what.cancelled() {
+            return self.pop_about(search);
+        }
+        self.pop_quiet();
+    }
+
+    /// Takes the last entry away, which opens a search.
+    fn pop_opening(&mut self)
+        requires some { 1 < length self.old }
+        requires opens { (e : Entry) × (o : Opening) × IsEnd self.old e × (opening_in e.what ≡ Some o) }
+        ensures { self.new ≡ take (length self.old - 1) self.old }
+    {
+        self.books.pop();
+        let _last = self.searches.pop();
+    }
+
+    /// Takes the last entry away, which reports a run.
+    fn pop_report(&mut self, run: u32)
+        requires some { 1 < length self.old }
+        requires reports { (e : Entry) × (r : ReportedRun) × IsEnd self.old e × (report_in e.what ≡ Some r)
+            × (run ≡ r.run) }
+        ensures { self.new ≡ take (length self.old - 1) self.old }
+    {
+        let Some(lease) = self.books.lease_of(run) else {
+            unreachable!();
+        };
+        self.pop_about(lease.search);
+    }
+
+    /// Takes the last entry away, which reports a run of a search or cancels it. The state of the search is told anew.
+    fn pop_about(&mut self, search: u32)
+        requires some { 1 < length self.old }
+        requires about { IsEndOf self.old search }
+        ensures { self.new ≡ take (length self.old - 1) self.old }
+    {
+        self.books.pop();
+        retell(&mut self.searches[search as usize - 1], &self.books, search);
+    }
+
+    /// Takes the last entry away, which changed the state of no search.
+    fn pop_quiet(&mut self)
+        requires some { 1 < length self.old }
+        requires quiet { (e : Entry) × IsEnd self.old e × (opening_in e.what ≡ None) × (report_in e.what ≡ None)
+            × (cancelled_in e.what ≡ None) }
+        ensures { self.new ≡ take (length self.old - 1) self.old }
+    {
+        self.books.pop();
     }
 }
