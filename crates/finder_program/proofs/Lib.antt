@@ -1,4 +1,5 @@
 pub mod Causes
+pub mod Completing
 pub mod Foundings
 pub mod JournalRuns
 pub mod Judging

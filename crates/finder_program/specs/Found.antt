@@ -11,11 +11,12 @@ use Rattle.farm_journal.specs.declared.fault.CreateFault.TheVariants as fault
 use Rattle.farm_store.specs.Founded.{IsRefusedBy, IsUnbornOrFounding, founding}
 use Rattle.farm_store.specs.State.{IsStored}
 use Rattle.farm_types.specs.declared.moment.Moment.{Moment}
+use Rattle.link_io.specs.Counts.{Rose}
 use Rattle.link_io.specs.declared.clock.Clock as clock
 use Rattle.finder_program.specs.Disks.{DiskSeen}
 use Rattle.finder_program.specs.TextPut.{OutputSeen, TextPut}
 use Rattle.finder_program.specs.declared.status.Status.{Status}
-use Rattle.finder_program.specs.declared.status.Status.TheVariants as status
+use Rattle.finder_program.specs.declared.status.Status.TheVariants.{Done, StoreFault, AlreadyBorn, Memory}
 
 -- what is written where a journal was founded
 abbrev pub founded_text : List ℕ
@@ -29,9 +30,9 @@ pub record HasNumbers (settings : Settings) (lease_ms daily : ℕ) (zone_minutes
 
 -- how a call ends that founds no journal
 abbrev pub status_of_creating : CreateFault → Status
-status_of_creating fault.AlreadyBorn = status.AlreadyBorn
-status_of_creating (fault.StoreFault before after) = status.StoreFault before after
-status_of_creating fault.Memory = status.Memory
+status_of_creating fault.AlreadyBorn = AlreadyBorn
+status_of_creating (fault.StoreFault before after) = StoreFault before after
+status_of_creating fault.Memory = Memory
 
 -- nothing was put, and why nothing was founded goes by what the bytes were
 pub record NotFounded (fault : CreateFault) (before after : OutputSeen) (old : DiskSeen) : Type 0 where
@@ -67,3 +68,11 @@ abbrev pub JournalFoundEnds : {C : Type 0} → clock.Ghosts C → C → Settings
 JournalFoundEnds meant clock settings status before after old new =
     (at : Moment) × meant.shows clock at × ForSome (meant.told clock) (λ told. at ≡ told)
     × FoundEnds settings at status before after old new × FoundLeaves settings at old new
+
+-- where neither the disk nor the output fails and memory is there, a journal is founded on an unborn disk, and one that
+-- is there already is told
+abbrev pub FoundCompletes : Status → OutputSeen → OutputSeen → DiskSeen → DiskSeen → Type 0
+FoundCompletes status before after old new =
+    ¬ Rose before.faults after.faults → ¬ Rose old.faults new.faults → old.tells ≡ true
+    → (status ≡ Memory) ⊎ ((is_unborn old.told.bytes ≡ true) × (status ≡ Done))
+    ⊎ ((is_unborn old.told.bytes ≡ false) × (status ≡ AlreadyBorn))

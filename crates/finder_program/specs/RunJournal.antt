@@ -71,3 +71,14 @@ abbrev pub JournalRunEnds : Status → Streams → Streams → DiskSeen → Disk
 JournalRunEnds status before after old new =
     IsNotOpened status before after old new
     ⊎ ((end : RunEnd) × (journal_end status ≡ Some end) × JournalRan end before after old new)
+
+-- where nothing fails and memory is there, a script below the limit is run to its end over a journal that holds a
+-- history, and a longer one to the limit
+abbrev pub JournalRunCompletes : Status → Streams → Streams → DiskSeen → DiskSeen → Type 0
+JournalRunCompletes status before after old new =
+    ¬ Rose before.read_faults after.read_faults → ¬ Rose before.write_faults after.write_faults
+    → ¬ Rose old.faults new.faults → old.tells ≡ true
+    → (history : List Entry) → StandsFor history old.told.bytes
+    → (all : List ℕ) → before.left ≡ Some all
+    → (status ≡ Memory) ⊎ ((length all < INPUT_LIMIT) × (status ≡ Done))
+    ⊎ ((INPUT_LIMIT ≤ length all) × (status ≡ InputLimit))

@@ -4,10 +4,12 @@ use Rattle.farm_entry.specs.declared.entry.Entry.{Entry}
 use Rattle.farm_journal.specs.ReadsOnly.{ReadsOnly}
 use Rattle.farm_script.specs.Shown.{shown_text}
 use Rattle.farm_store.specs.Bytes.{StandsFor}
+use Rattle.link_io.specs.Counts.{Rose}
 use Rattle.finder_program.specs.Disks.{DiskSeen}
 use Rattle.finder_program.specs.Opening.{IsNotOpened}
 use Rattle.finder_program.specs.TextPut.{OutputSeen, TextPut}
 use Rattle.finder_program.specs.declared.status.Status.{Status}
+use Rattle.finder_program.specs.declared.status.Status.TheVariants.{Done, Memory}
 
 -- the journal held a history, whose text was put, and its disk was only read
 pub record JournalShown (status : Status) (before after : OutputSeen) (old new : DiskSeen) : Type 0 where
@@ -20,3 +22,10 @@ pub record JournalShown (status : Status) (before after : OutputSeen) (old new :
 abbrev pub ShowEnds : Status → OutputSeen → OutputSeen → DiskSeen → DiskSeen → Type 0
 ShowEnds status before after old new =
     IsNotOpened status before after old new ⊎ JournalShown status before after old new
+
+-- where neither the disk nor the output fails and memory is there, a journal that holds a history is shown
+abbrev pub ShowCompletes : Status → OutputSeen → OutputSeen → DiskSeen → DiskSeen → Type 0
+ShowCompletes status before after old new =
+    ¬ Rose before.faults after.faults → ¬ Rose old.faults new.faults → old.tells ≡ true
+    → (history : List Entry) → StandsFor history old.told.bytes
+    → (status ≡ Memory) ⊎ (status ≡ Done)

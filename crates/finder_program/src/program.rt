@@ -5,11 +5,11 @@ ghost use Rattle.farm_entry.specs.declared.settings.Settings.{Settings};
 ghost use Rattle.link_io.specs.Streams.{streams};
 ghost use Rattle.finder_words.specs.Words.{asked, found, judge, run, run_journal, show};
 ghost use Rattle.finder_program.specs.Disks.{HasStoreCause, disk_seen};
-ghost use Rattle.finder_program.specs.Found.{HasNumbers, JournalFoundEnds};
+ghost use Rattle.finder_program.specs.Found.{FoundCompletes, HasNumbers, JournalFoundEnds};
 ghost use Rattle.finder_program.specs.JudgeCommand.{JudgeCompletes, JudgeEnds};
 ghost use Rattle.finder_program.specs.RunCommand.{MemoryRunCompletes, MemoryRunEnds};
-ghost use Rattle.finder_program.specs.RunJournal.{JournalRunEnds};
-ghost use Rattle.finder_program.specs.Show.{ShowEnds};
+ghost use Rattle.finder_program.specs.RunJournal.{JournalRunCompletes, JournalRunEnds};
+ghost use Rattle.finder_program.specs.Show.{ShowCompletes, ShowEnds};
 ghost use Rattle.finder_program.specs.TextPut.{output_seen};
 
 use crate::found_command::found_command;
@@ -62,7 +62,7 @@ pub fn finder<S: Source, K: Sink, D: Disk, C: Clock>(
     ensures no_disk { (asked (map string_bytes words.now) ≡ Some judge) ⊎ (asked (map string_bytes words.now) ≡ Some run)
         → result.1 ≡ disk }
 
-    // What each status of `found` says, and what a crash leaves.
+    // What each status of `found` says, what a crash leaves, and that an unborn disk is founded.
     ensures found { (lease_ms daily : ℕ) (zone_minutes : ℤ)
         → asked (map string_bytes words.now) ≡ Some (found lease_ms daily zone_minutes) →
         let before = output_seen K.Sink output.old in
@@ -70,18 +70,31 @@ pub fn finder<S: Source, K: Sink, D: Disk, C: Clock>(
         (settings : Settings) × HasNumbers settings lease_ms daily zone_minutes
         × JournalFoundEnds C.Clock clock.now settings result.0 before after
         (disk_seen D.Disk disk) (disk_seen D.Disk result.1) }
+    ensures found_completes { (lease_ms daily : ℕ) (zone_minutes : ℤ)
+        → asked (map string_bytes words.now) ≡ Some (found lease_ms daily zone_minutes) →
+        let before = output_seen K.Sink output.old in
+        let after = output_seen K.Sink output.new in
+        FoundCompletes result.0 before after (disk_seen D.Disk disk) (disk_seen D.Disk result.1) }
 
-    // What each status of `show` says.
+    // What each status of `show` says, and that a journal that holds a history is shown.
     ensures show { asked (map string_bytes words.now) ≡ Some show →
         let before = output_seen K.Sink output.old in
         let after = output_seen K.Sink output.new in
         ShowEnds result.0 before after (disk_seen D.Disk disk) (disk_seen D.Disk result.1) }
+    ensures show_completes { asked (map string_bytes words.now) ≡ Some show →
+        let before = output_seen K.Sink output.old in
+        let after = output_seen K.Sink output.new in
+        ShowCompletes result.0 before after (disk_seen D.Disk disk) (disk_seen D.Disk result.1) }
 
-    // What each status of `run JOURNAL` says, and what a crash leaves at any moment.
+    // What each status of `run JOURNAL` says, what a crash leaves at any moment, and that a script is run to its end.
     ensures run_journal { asked (map string_bytes words.now) ≡ Some run_journal →
         let before = streams S.Source K.Sink input.old output.old in
         let after = streams S.Source K.Sink input.new output.new in
         JournalRunEnds result.0 before after (disk_seen D.Disk disk) (disk_seen D.Disk result.1) }
+    ensures run_journal_completes { asked (map string_bytes words.now) ≡ Some run_journal →
+        let before = streams S.Source K.Sink input.old output.old in
+        let after = streams S.Source K.Sink input.new output.new in
+        JournalRunCompletes result.0 before after (disk_seen D.Disk disk) (disk_seen D.Disk result.1) }
 
     // A fault of the store is answered only where the disk failed in this call.
     ensures store_fault { HasStoreCause result.0 (disk_seen D.Disk disk) (disk_seen D.Disk result.1) }

@@ -1,0 +1,154 @@
+-- Where nothing fails and memory is there, a call over a journal does its work.
+use Rattle.std.proofs.Common.{◌≡◌, ◌∙◌, ◌⊎◌, ⊎_elim, inl, inr, ℕ, ◌<◌, ◌≤◌, true, false, List, length, Some, refl, sym, ap, subst, arith}
+use Rattle.std.proofs.lemmas.Option.{none-some, same_Some}
+use Rattle.farm_entry.specs.declared.entry.Entry.{Entry}
+use Rattle.farm_entry.specs.declared.settings.Settings.{Settings}
+use Rattle.farm_journal.specs.Layout.{is_unborn}
+use Rattle.farm_journal.specs.declared.fault.CreateFault.{CreateFault}
+use Rattle.farm_journal.specs.declared.fault.CreateFault.TheVariants as creating
+use Rattle.farm_journal.specs.declared.fault.OpeningFault.{OpeningFault}
+use Rattle.farm_journal.specs.declared.fault.OpeningFault.TheVariants as opening
+use Rattle.farm_script.specs.FarmRule.{farm_rule}
+use Rattle.farm_script.specs.FoundedRun.{in_memory}
+use Rattle.farm_script.specs.RunEnds.{RunEnds}
+use Rattle.farm_script.specs.Shown.{shown_text}
+use Rattle.farm_script.specs.declared.run_end.RunEnd.{RunEnd}
+use Rattle.farm_script.specs.declared.run_end.RunEnd.TheVariants as script
+use Rattle.farm_store.proofs.Excluded.{stands-born, stands-not_damaged}
+use Rattle.farm_store.specs.Bytes.{StandsFor}
+use Rattle.farm_store.specs.Founded.{IsRefusedBy}
+use Rattle.farm_store.specs.Opened.{IsMissedBy}
+use Rattle.farm_types.specs.declared.moment.Moment.{Moment}
+use Rattle.link_io.specs.Counts.{Rose}
+use Rattle.link_io.specs.Streams.{Streams}
+use Rattle.link_io.specs.declared.source.TheConstants.{INPUT_LIMIT}
+use Rattle.finder_program.specs.Disks.{DiskSeen, HasStoreCause}
+use Rattle.finder_program.specs.Found.{FoundCompletes, FoundEnds, JournalFounded, NotFounded, founded_text, status_of_creating}
+use Rattle.finder_program.specs.Opening.{IsNotOpened, status_of_opening}
+use Rattle.finder_program.specs.RunJournal.{JournalRan, JournalRunCompletes, JournalRunEnds, journal_end}
+use Rattle.finder_program.specs.Show.{JournalShown, ShowCompletes, ShowEnds}
+use Rattle.finder_program.specs.TextPut.{OutputSeen, TextPut}
+use Rattle.finder_program.specs.declared.status.Status.{Status}
+use Rattle.finder_program.specs.declared.status.Status.TheVariants.{Done, Usage, ReadFault, WriteFault, StoreFault, Damaged, Unborn, AlreadyBorn, Memory, BadInput, InputLimit}
+use Rattle.finder_program.proofs.Taken.{read_front, read_whole}
+
+-- a text is put whole where the output doesn't fail
+text-completes : (text : List ℕ) (status : Status) (before after : OutputSeen) → TextPut text status before after
+    → ¬ Rose before.faults after.faults → (status ≡ Memory) ⊎ (status ≡ Done)
+text-completes text Done before after put calm = inr refl
+text-completes text Usage before after put calm = absurd put
+text-completes text ReadFault before after put calm = absurd put
+text-completes text WriteFault before after put calm = absurd (calm put.0)
+text-completes text (StoreFault b a) before after put calm = absurd put
+text-completes text (Damaged o) before after put calm = absurd put
+text-completes text Unborn before after put calm = absurd put
+text-completes text AlreadyBorn before after put calm = absurd put
+text-completes text Memory before after put calm = inl refl
+text-completes text (BadInput l) before after put calm = absurd put
+text-completes text InputLimit before after put calm = absurd put
+
+-- a fault of the store comes only where the disk failed
+no-store_fault : (status : Status) (b a : ℕ) (old new : DiskSeen) → status ≡ StoreFault b a
+    → HasStoreCause status old new → ¬ Rose old.faults new.faults → ⊥
+no-store_fault status b a old new is cause steady =
+    let told : HasStoreCause (StoreFault b a) old new = subst (λ (s : Status). HasStoreCause s old new) is cause in
+    steady told.2
+
+-- where the disk doesn't fail, nothing is founded only where something is there
+not_founded-completes : (fault : CreateFault) (status : Status) (old new : DiskSeen) → status ≡ status_of_creating fault
+    → IsRefusedBy old.told.bytes fault → HasStoreCause status old new → ¬ Rose old.faults new.faults
+    → (status ≡ Memory) ⊎ ((is_unborn old.told.bytes ≡ true) × (status ≡ Done))
+    ⊎ ((is_unborn old.told.bytes ≡ false) × (status ≡ AlreadyBorn))
+not_founded-completes creating.AlreadyBorn status old new is refused cause steady = inr (inr (refused, is))
+not_founded-completes (creating.StoreFault b a) status old new is refused cause steady =
+    absurd (no-store_fault status b a old new is cause steady)
+not_founded-completes creating.Memory status old new is refused cause steady = inl is
+
+pub found-completes : (settings : Settings) (at : Moment) (status : Status) (before after : OutputSeen)
+    (old new : DiskSeen) → FoundEnds settings at status before after old new → HasStoreCause status old new
+    → FoundCompletes status before after old new
+found-completes settings at status before after old new ends cause calm steady tell = ⊎_elim
+    (λ (missed : (fault : CreateFault) × (status ≡ status_of_creating fault) × NotFounded fault before after old).
+    not_founded-completes missed.0 status old new missed.1 (missed.2.cause tell) cause steady)
+    (λ (founded : JournalFounded settings at status before after old new). ⊎_elim
+    (λ (memory : status ≡ Memory). inl memory)
+    (λ (done : status ≡ Done). inr (inl (founded.was_unborn tell, done)))
+    (text-completes founded_text status before after founded.text calm))
+    ends
+
+-- where the disk doesn't fail, a journal that holds a history is opened, but for want of memory
+not_opened-completes : (fault : OpeningFault) (status : Status) (old new : DiskSeen) (history : List Entry)
+    → status ≡ status_of_opening fault → IsMissedBy old.told.bytes fault → HasStoreCause status old new
+    → ¬ Rose old.faults new.faults → StandsFor history old.told.bytes → status ≡ Memory
+not_opened-completes opening.Unborn status old new history is missed cause steady stands =
+    absurd (stands-born history old.told.bytes stands missed)
+not_opened-completes (opening.Damaged o) status old new history is missed cause steady stands =
+    absurd (stands-not_damaged history old.told.bytes o stands missed)
+not_opened-completes (opening.StoreFault b a) status old new history is missed cause steady stands =
+    absurd (no-store_fault status b a old new is cause steady)
+not_opened-completes opening.Memory status old new history is missed cause steady stands = is
+
+pub show-completes : (status : Status) (before after : OutputSeen) (old new : DiskSeen)
+    → ShowEnds status before after old new → HasStoreCause status old new → ShowCompletes status before after old new
+show-completes status before after old new ends cause calm steady tell history stands = ⊎_elim
+    (λ (missed : IsNotOpened status before after old new). inl
+    (not_opened-completes missed.0 status old new history missed.1 (missed.2.cause tell) cause steady stands))
+    (λ (shown : JournalShown status before after old new).
+    text-completes (shown_text shown.history) status before after shown.text calm)
+    ends
+
+-- what the end of a script's run says, in a status that stands for it
+ended-as : (status : Status) (end as_end : RunEnd) (before after : Streams) (first last : List Entry)
+    → journal_end status ≡ Some end → journal_end status ≡ Some as_end
+    → RunEnds farm_rule end (in_memory before first) (in_memory after last)
+    → RunEnds farm_rule as_end (in_memory before first) (in_memory after last)
+ended-as status end as_end before after first last stands said ends =
+    subst (λ (e : RunEnd). RunEnds farm_rule e (in_memory before first) (in_memory after last))
+    (same_Some end as_end (sym stands ∙ said)) ends
+
+-- where nothing fails, a script is run to its end or to the limit, but for want of memory
+ran-completes : (status : Status) (end : RunEnd) (before after : Streams) (old new : DiskSeen) (first last : List Entry)
+    → journal_end status ≡ Some end → RunEnds farm_rule end (in_memory before first) (in_memory after last)
+    → HasStoreCause status old new → ¬ Rose before.read_faults after.read_faults
+    → ¬ Rose before.write_faults after.write_faults → ¬ Rose old.faults new.faults
+    → (all : List ℕ) → before.left ≡ Some all
+    → (status ≡ Memory) ⊎ ((length all < INPUT_LIMIT) × (status ≡ Done))
+    ⊎ ((INPUT_LIMIT ≤ length all) × (status ≡ InputLimit))
+ran-completes Done end before after old new first last stands ends cause reads writes steady all told =
+    let done = ended-as Done end script.Done before after first last stands refl ends in
+    let whole = read_whole all done.0 before.left after.left told done.1.bytes (done.1.ended refl) in
+    inr (inl (omega (arith, done.2, ap length whole.1), refl))
+ran-completes Usage end before after old new first last stands ends cause reads writes steady all told =
+    absurd (none-some end stands)
+ran-completes ReadFault end before after old new first last stands ends cause reads writes steady all told =
+    let failed = ended-as ReadFault end script.ReadFault before after first last stands refl ends in
+    absurd (reads failed.0)
+ran-completes WriteFault end before after old new first last stands ends cause reads writes steady all told =
+    let failed = ended-as WriteFault end script.WriteFault before after first last stands refl ends in
+    absurd (writes failed.0)
+ran-completes (StoreFault b a) end before after old new first last stands ends cause reads writes steady all told =
+    absurd (steady cause.2)
+ran-completes (Damaged o) end before after old new first last stands ends cause reads writes steady all told =
+    absurd (none-some end stands)
+ran-completes Unborn end before after old new first last stands ends cause reads writes steady all told =
+    absurd (none-some end stands)
+ran-completes AlreadyBorn end before after old new first last stands ends cause reads writes steady all told =
+    absurd (none-some end stands)
+ran-completes Memory end before after old new first last stands ends cause reads writes steady all told = inl refl
+ran-completes (BadInput l) end before after old new first last stands ends cause reads writes steady all told =
+    absurd (none-some end stands)
+ran-completes InputLimit end before after old new first last stands ends cause reads writes steady all told =
+    let limit = ended-as InputLimit end script.InputLimit before after first last stands refl ends in
+    let front = read_front all limit.0 INPUT_LIMIT before.left after.left told limit.1.bytes limit.2 in
+    inr (inr (front.0, refl))
+
+pub run_journal-completes : (status : Status) (before after : Streams) (old new : DiskSeen)
+    → JournalRunEnds status before after old new → HasStoreCause status old new
+    → JournalRunCompletes status before after old new
+run_journal-completes status before after old new ends cause reads writes steady tell history stands all told = ⊎_elim
+    (λ (missed : IsNotOpened status before after old new). inl
+    (not_opened-completes missed.0 status old new history missed.1 (missed.2.cause tell) cause steady stands))
+    (λ (ran : (end : RunEnd) × (journal_end status ≡ Some end) × JournalRan end before after old new).
+    ran-completes status ran.0 before after old new ran.2.first ran.2.last ran.1 ran.2.ends cause reads writes steady
+    all told)
+    ends
