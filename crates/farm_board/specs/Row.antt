@@ -15,13 +15,13 @@ number_of H place = slice_index (numbers_of (totals H)) place
 
 -- numbers as totals
 abbrev pub totals_from : List ℕ → Totals
-totals_from row = record {
-  entries = slice_index row 0;
-  searches = slice_index row 1;
-  searching = slice_index row 2;
-  verifying = slice_index row 3;
-  confirmed = slice_index row 4;
-  ended = slice_index row 5;
-  counted = slice_index row 6;
-  orders = slice_index row 7;
+totals_from numbers = record {
+  entries = slice_index numbers 0;
+  searches = slice_index numbers 1;
+  searching = slice_index numbers 2;
+  verifying = slice_index numbers 3;
+  confirmed = slice_index numbers 4;
+  ended = slice_index numbers 5;
+  counted = slice_index numbers 6;
+  orders = slice_index numbers 7;
 }
