@@ -1,0 +1,6 @@
+pub mod Folds
+pub mod Places
+pub mod Steps
+pub mod Closing
+pub mod Walks
+pub mod Going

@@ -1,0 +1,83 @@
+-- A search that is moved or struck in two lists, and is put back where it stood.
+use Rattle.std.proofs.Common.{◌≡◌, ◌≢◌, ℕ, ◌<◌, ◌⊎◌, Bool, true, false, cond, List, [], ◌∷◌, refl, sym, ap, ◌∙◌, ⊎_elim, true≢false}
+use Rattle.std.proofs.lemmas.Bool.{cases_eq}
+use Rattle.active_order.specs.Order.{has, prior_of, put_behind, strike, IsOnce}
+use Rattle.active_order.proofs.Lists.{has-here, has-rest, has-there, other, same, strike-absent, strike-gone}
+use Rattle.active_order.proofs.Paths.{put_back}
+use Rattle.farm_turns.specs.Moves.{MayPutIn, StandsIn, Turns, prior_in, put_in}
+
+-- what stands in front of a number is there after it is struck
+prior-there : (s a : ℕ) (xs : List ℕ) → has s xs ≡ true → has (prior_of s a xs) (a ∷ strike s xs) ≡ true
+prior-there s a [] h = absurd (true≢false (sym h))
+prior-there s a (x ∷ xs) h =
+    ⊎_elim
+    (λ (e : s ≡ x).
+    let prior : prior_of s a (x ∷ xs) ≡ a =
+    ap (λ (b : Bool). cond b a (prior_of s x xs)) (same s x e) in
+    ap (λ (p : ℕ). has p (a ∷ strike s (x ∷ xs))) prior ∙ has-here a a (strike s (x ∷ xs)) refl)
+    (λ (ne : s ≢ x).
+    let prior : prior_of s a (x ∷ xs) ≡ prior_of s x xs =
+    ap (λ (b : Bool). cond b a (prior_of s x xs)) (other s x ne) in
+    let left : strike s (x ∷ xs) ≡ x ∷ strike s xs =
+    ap (λ (b : Bool). cond b xs (x ∷ strike s xs)) (other s x ne) in
+    ap (λ (p : ℕ). has p (a ∷ strike s (x ∷ xs))) prior
+    ∙ ap (λ (ys : List ℕ). has (prior_of s x xs) (a ∷ ys)) left
+    ∙ has-there (prior_of s x xs) a (x ∷ strike s xs) (prior-there s x xs (sym (has-rest s x xs ne) ∙ h)))
+    (cases_eq s x)
+
+pub same_lists : (t u : Turns) → t.never ≡ u.never → t.leased ≡ u.leased → t ≡ u
+same_lists t u never leased = λ i. record { never = never i; leased = leased i }
+
+-- a search that stands in one of two lists, in which no number stands twice
+pub record IsIn (t : Turns) (search count : ℕ) : Type 0 where
+  pub there : StandsIn t search
+  pub above : 0 < search
+  pub below : search < count
+  pub never_once : IsOnce (0 ∷ t.never)
+  pub leased_once : IsOnce (0 ∷ t.leased)
+  pub apart : has search t.never ≡ true → has search t.leased ≡ false
+
+-- the lists without it, where it may stand last
+pub record IsOut (t u : Turns) (search : ℕ) : Type 0 where
+  pub never : u.never ≡ strike search t.never
+  pub leased : strike search u.leased ≡ strike search t.leased
+
+in-leased : (t : Turns) (s : ℕ) → StandsIn t s → has s t.never ≡ false → has s t.leased ≡ true
+in-leased t s there none =
+    ⊎_elim (λ (l : has s t.never ≡ true). absurd (true≢false (sym l ∙ none))) (λ (r : has s t.leased ≡ true). r) there
+
+back-by : (fresh : Bool) (t u : Turns) (s count : ℕ) → IsIn t s count → IsOut t u s → has s t.never ≡ fresh →
+    put_in fresh s (prior_in fresh s t) u ≡ t
+back-by true t u s count i o is =
+    same_lists (put_in true s (prior_in true s t) u) t
+    (ap (put_behind (prior_of s 0 t.never) s 0) o.never ∙ put_back s 0 t.never i.never_once is)
+    (o.leased ∙ strike-absent s t.leased (i.apart is))
+back-by false t u s count i o is =
+    same_lists (put_in false s (prior_in false s t) u) t
+    (o.never ∙ strike-absent s t.never is)
+    (ap (put_behind (prior_of s 0 t.leased) s 0) o.leased
+    ∙ put_back s 0 t.leased i.leased_once (in-leased t s i.there is))
+
+pub back : (t u : Turns) (s count : ℕ) → IsIn t s count → IsOut t u s →
+    put_in (has s t.never) s (prior_in (has s t.never) s t) u ≡ t
+back t u s count i o = back-by (has s t.never) t u s count i o refl
+
+may-by : (fresh : Bool) (t u : Turns) (s count : ℕ) → IsIn t s count → IsOut t u s → has s t.never ≡ fresh →
+    MayPutIn u count s fresh (prior_in fresh s t)
+may-by true t u s count i o is = record {
+  above = i.above;
+  below = i.below;
+  absent = ap (has s) o.never ∙ strike-gone s t.never i.never_once.1;
+  behind = ap (λ (xs : List ℕ). has (prior_of s 0 t.never) (0 ∷ xs)) o.never ∙ prior-there s 0 t.never is;
+}
+may-by false t u s count i o is = record {
+  above = i.above;
+  below = i.below;
+  absent = ap (has s) o.never ∙ strike-gone s t.never i.never_once.1;
+  behind = ap (λ (xs : List ℕ). has (prior_of s 0 t.leased) (0 ∷ xs)) o.leased
+      ∙ prior-there s 0 t.leased (in-leased t s i.there is);
+}
+
+pub may-back : (t u : Turns) (s count : ℕ) → IsIn t s count → IsOut t u s →
+    MayPutIn u count s (has s t.never) (prior_in (has s t.never) s t)
+may-back t u s count i o = may-by (has s t.never) t u s count i o refl
