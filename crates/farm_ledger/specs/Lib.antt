@@ -1,0 +1,5 @@
+pub mod Rows
+pub mod Booked
+pub mod Waiting
+pub mod RegisterInside
+pub mod LedgerInside
