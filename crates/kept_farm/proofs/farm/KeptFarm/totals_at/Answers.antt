@@ -1,0 +1,17 @@
+use Rattle.std.proofs.Common.{◌≡◌, ℕ, ◌+◌, ◌-◌, ◌≤◌, List, length, take, sym, ap, subst, ◌∙◌, arith}
+use Rattle.farm_entry.specs.Pages.{totals}
+use Rattle.farm_entry.specs.declared.entry.Entry.{Entry}
+use Rattle.kept_farm.proofs.Keeping.{beside-at}
+use Rattle.kept_farm.proofs.farm.KeptFarm.totals_at.Goals as goal
+
+pub returns : goal.returns
+returns c =
+    let H : List Entry = c.self.inside.ledger in
+    let n : ℕ = c.args.count in
+    let within : n ≤ length H = subst (λ (X : List Entry). n ≤ length X) (sym c.self.view_is) c.requires.within in
+    let back : n - 1 + 1 ≡ n = omega (arith, c.requires.some) in
+    c.index.ensures
+    ∙ beside-at totals H c.self.inside.counted.items (n - 1) c.index.result.now c.self.invariant.counted
+    (omega (arith, within, c.requires.some))
+    ∙ ap (λ (k : ℕ). totals (take k H)) back
+    ∙ ap (λ (X : List Entry). totals (take n X)) c.self.view_is

@@ -1,0 +1,4 @@
+pub mod Beside
+pub mod Changes
+pub mod KeptInside
+pub mod Replying

@@ -1,0 +1,306 @@
+//! The farm as it is kept.
+
+ghost use Rattle.std.specs.Prelude.{◌≡◌, ◌<◌, ◌≤◌, ◌-◌, ◌++◌, ◌∷◌, [], Some, length, take, IfOk, OnOk, OnErr};
+ghost use Rattle.std.specs.Option.{option_copied, option_map};
+ghost use Rattle.flake_rate.specs.Miss.{FitsRate};
+ghost use Rattle.farm_types.specs.Moment.{moment_ms};
+ghost use Rattle.farm_entry.specs.Due.{next_run};
+ghost use Rattle.farm_entry.specs.History.{all_leases, lease_of, leases, opening_in, opening_numbered, openings, order_lines, place_of_key, place_of_report};
+ghost use Rattle.farm_entry.specs.Legal.{IsLegal};
+ghost use Rattle.farm_entry.specs.Orders.{next_order_at};
+ghost use Rattle.farm_entry.specs.Pages.{totals};
+ghost use Rattle.farm_entry.specs.Reply.{reply_at};
+ghost use Rattle.farm_laws.specs.Laws.{IsNotBefore};
+ghost use Rattle.kept_farm.specs.Replying.{reply_with};
+ghost use Rattle.state_laws.specs.Seen.{seen};
+
+use crate::changes::{search_in, standing_of, with_entry, with_standings};
+use crate::replies::{reply_to_lease, reply_to_opening, reply_to_report};
+use farm_books::Books;
+use farm_entry::{
+    DueRun, Entry, LeasedRun, Opening, OrderPage, Reply, ReportedRun, Settings, Standing, Totals,
+    What,
+};
+use farm_ledger::Ledger;
+use farm_rules::{Draft, NoOrder};
+use farm_state::FarmState;
+use farm_types::{Key, Memory, Moment};
+use search_state::SearchState;
+use std::alloc::Global;
+use std::marker::Model;
+
+/// What is counted of a farm that was just founded.
+const FOUNDED: Totals = Totals {
+    entries: 1,
+    searches: 0,
+    searching: 0,
+    verifying: 0,
+    confirmed: 0,
+    ended: 0,
+    counted: 0,
+    orders: 0,
+};
+
+/// A farm as it is kept. Contracts see it as its history.
+#[derive(Drop)]
+pub struct KeptFarm {
+    ledger: Ledger,
+    counted: Vec<Totals>,
+    standings: Vec<Standing>,
+}
+
+impl Model for KeptFarm {
+    ghost use Rattle.std.specs.Prelude.{List};
+    ghost use Rattle.farm_entry.specs.declared.entry.Entry.{Entry};
+
+    ghost Value = { List Entry };
+
+    ghost view = { λ farm. farm.ledger };
+
+    ghost use Rattle.kept_farm.specs.KeptInside.{IsKeptFarm};
+
+    ghost invariant = { IsKeptFarm };
+}
+
+impl KeptFarm {
+    /// A farm that was founded with these settings at this moment.
+    ///
+    /// # Errors
+    ///
+    /// [`Memory`].
+    pub fn found(alloc: Global, settings: Settings, at: Moment) -> Result<KeptFarm, Memory>
+        ensures { IfOk result (λ farm. farm ≡ record { at = at; what = What.Founded settings } ∷ []) }
+    {
+        let mut counted = Vec::new(alloc);
+        counted.push(FOUNDED)?;
+        let mut standings = Vec::new(alloc);
+        standings.push(Standing::Searching)?;
+        Ok(KeptFarm {
+            ledger: Ledger::found(alloc, settings, at)?,
+            counted,
+            standings,
+        })
+    }
+
+    /// The history, which is legal.
+    pub fn history(&self) -> &[Entry]
+        ensures history { result.now ≡ self.now }
+        ensures legal { IsLegal self.now }
+    {
+        self.books().history()
+    }
+
+    /// The history with the state of each search.
+    fn state(&self) -> &FarmState
+        ensures { result.now ≡ self.now }
+    {
+        self.ledger.turns().state()
+    }
+
+    /// The history with its books.
+    fn books(&self) -> &Books
+        ensures { result.now ≡ self.now }
+    {
+        self.state().books()
+    }
+
+    // What is looked up.
+
+    /// The place of the entry that holds a key.
+    pub fn place_of_key(&self, key: Key) -> Option<u32>
+        ensures { result ≡ place_of_key self.now key }
+    {
+        self.books().place_of_key(key)
+    }
+
+    /// The place of the report of a run.
+    pub fn place_of_report(&self, run: u32) -> Option<u32>
+        ensures { result ≡ place_of_report self.now run }
+    {
+        self.books().place_of_report(run)
+    }
+
+    /// The lease of a run.
+    pub fn lease_of(&self, run: u32) -> Option<LeasedRun>
+        ensures { result ≡ lease_of self.now run }
+    {
+        self.books().lease_of(run)
+    }
+
+    /// How many runs were handed out.
+    pub fn leases_count(&self) -> usize
+        ensures { result ≡ length (all_leases self.now) }
+    {
+        self.books().leases_count()
+    }
+
+    /// How many searches were opened.
+    pub fn searches_count(&self) -> usize
+        ensures { result ≡ length (openings self.now) }
+    {
+        self.state().searches_count()
+    }
+
+    /// The search with a number, as it was opened.
+    pub fn opening(&self, number: u32) -> Option<&Opening>
+        ensures { option_copied result ≡ opening_numbered self.now number }
+    {
+        self.ledger.opening(number)
+    }
+
+    /// The state of the search with a number, if it was opened.
+    pub fn search(&self, number: u32) -> Option<&SearchState>
+        ensures { option_copied result ≡ option_map (seen self.now) (opening_numbered self.now number) }
+    {
+        self.state().search(number)
+    }
+
+    /// How many runs of the search with a number were handed out, at both stages; none, where no such search was opened.
+    pub fn leases_of(&self, number: u32) -> u32
+        ensures { result ≡ length (leases self.now number) }
+    {
+        self.ledger.leases_of(number)
+    }
+
+    // What is to come next.
+
+    /// The run that is handed out next, over all searches, at a moment that is not before the last entry.
+    pub fn next_run(&self, moment: Moment) -> Option<DueRun>
+        requires { IsNotBefore self.now (moment_ms moment) }
+        ensures { result ≡ next_run self.now (moment_ms moment) }
+    {
+        self.ledger.turns().next_run(moment)
+    }
+
+    /// What the next request for an order comes to at a moment: the next order, or why there is none. Searches that were
+    /// passed over are not looked at again until they change.
+    pub fn next_order(&mut self, moment: Moment) -> Result<Draft, NoOrder>
+        ensures next { result ≡ next_order_at self.old (moment_ms moment) }
+        ensures kept { self.new ≡ self.old }
+    {
+        self.ledger.next_order(moment)
+    }
+
+    // What is shown.
+
+    /// What is counted of the first entries of the history.
+    pub fn totals_at(&self, count: usize) -> Totals
+        requires some { 0 < count }
+        requires within { count ≤ length self.now }
+        ensures { result ≡ totals (take count self.now) }
+    {
+        self.counted[count - 1]
+    }
+
+    /// All orders, as they are shown.
+    ///
+    /// # Errors
+    ///
+    /// [`Memory`].
+    pub fn order_page(&self, alloc: Global) -> Result<OrderPage, Memory>
+        ensures { IfOk result (λ page. page ≡ order_lines self.now) }
+    {
+        Ok(OrderPage::of(plain_history::order_lines(alloc, self.history())?))
+    }
+
+    /// The reply of the entry at a place: the same whatever came later.
+    ///
+    /// # Errors
+    ///
+    /// [`Memory`].
+    pub fn reply_at(&self, place: usize) -> Result<Option<Reply>, Memory>
+        ensures { IfOk result (λ reply. reply ≡ reply_at self.now place) }
+    {
+        let history = self.history();
+        if place >= history.len() {
+            return Ok(None);
+        }
+        self.reply_with(self.standings[place], &history[place].what)
+    }
+
+    /// The reply to what an entry records, where the search that it is about stood so then.
+    fn reply_with(&self, stood: Standing, what: &What) -> Result<Option<Reply>, Memory>
+        requires { (o : Opening) → opening_in what.now ≡ Some o → FitsRate o.miss o.rate }
+        ensures { IfOk result (λ reply. reply ≡ reply_with self.now stood what.now) }
+    {
+        match what {
+            What::Founded { .. } => Ok(None),
+            What::Opened(opening) => Ok(Some(reply_to_opening(opening, stood))),
+            What::Leased {
+                run,
+                search,
+                stage,
+                position,
+                deadline,
+                ..
+            } => {
+                let lease = LeasedRun {
+                    run: *run,
+                    search: *search,
+                    stage: *stage,
+                    position: *position,
+                    deadline: *deadline,
+                };
+                reply_to_lease(lease, self.opening(*search))
+            }
+            What::Reported { run, verdict, fate } => {
+                let report = ReportedRun {
+                    run: *run,
+                    verdict: *verdict,
+                    fate: *fate,
+                };
+                Ok(reply_to_report(report, stood, self.lease_of(*run)))
+            }
+            What::Cancelled { search, .. } => Ok(Some(Reply::Cancelled { search: *search })),
+            What::Ordered {
+                order,
+                commit,
+                search,
+                day,
+                ..
+            } => Ok(Some(Reply::Ordered {
+                order: *order,
+                commit: *commit,
+                search: *search,
+                day: *day,
+            })),
+        }
+    }
+
+    // One entry more, and one less.
+
+    /// Adds an entry that may come next.
+    ///
+    /// # Errors
+    ///
+    /// [`Memory`]. The history stays.
+    pub fn push(&mut self, alloc: Global, entry: Entry) -> Result<(), Memory>
+        requires { IsLegal (self.old ++ entry ∷ []) }
+        ensures pushed { OnOk result (self.new ≡ self.old ++ entry ∷ []) }
+        ensures kept { OnErr result (self.new ≡ self.old) }
+    {
+        let last = self.counted.len() - 1;
+        let counted = with_entry(self.counted[last], &entry.what);
+        let search = search_in(&self.ledger, &entry.what);
+        let before = standing_of(&self.ledger, search);
+        self.counted.reserve(1)?;
+        self.standings.reserve(1)?;
+        self.ledger.push(alloc, entry)?;
+        let after = standing_of(&self.ledger, search);
+        self.counted
+            .push_reserved(with_standings(counted, before, after));
+        self.standings
+            .push_reserved(after.unwrap_or(Standing::Searching));
+        Ok(())
+    }
+
+    /// Takes the last entry away, which takes no memory.
+    pub fn pop(&mut self)
+        requires { 1 < length self.old }
+        ensures { self.new ≡ take (length self.old - 1) self.old }
+    {
+        self.ledger.pop();
+        let _counted = self.counted.pop();
+        let _standing = self.standings.pop();
+    }
+}
