@@ -1,0 +1,4 @@
+pub mod Few
+pub mod Moments
+pub mod Next
+pub mod States

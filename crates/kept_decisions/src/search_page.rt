@@ -1,0 +1,51 @@
+//! What is shown of a search.
+
+ghost use Rattle.std.specs.Prelude.{◌≡◌, IfOk};
+ghost use Rattle.farm_entry.specs.Decision.{page_decision};
+ghost use Rattle.farm_entry.specs.History.{opening_numbered};
+ghost use Rattle.farm_entry.specs.Pages.{page_of};
+ghost use Rattle.state_laws.specs.Seen.{seen};
+
+use farm_entry::{Decision, Opening, Refusal, Reply, SearchPage};
+use farm_types::Memory;
+use kept_farm::KeptFarm;
+use search_state::SearchState;
+use std::alloc::Global;
+
+/// What is shown of a search, by its state.
+fn page_of(
+    alloc: Global,
+    farm: &KeptFarm,
+    opening: &Opening,
+    state: &SearchState,
+) -> Result<SearchPage, Memory>
+    requires { state.now ≡ seen farm.now opening.now }
+    ensures { IfOk result (λ page. page ≡ page_of farm.now opening.now) }
+{
+    let standing = state.standing();
+    Ok(SearchPage {
+        search: opening.search,
+        test: opening.test.copy()?,
+        budget: state.budget(),
+        leases: farm.leases_of(opening.search),
+        counted: state.counted(),
+        verified: state.verified(),
+        standing,
+        commit: opening.named_commit(standing),
+        shares: state.shares(alloc)?,
+    })
+}
+
+/// The page of a search.
+pub(crate) fn page_decision(alloc: Global, farm: &KeptFarm, search: u32) -> Result<Decision, Memory>
+    ensures { IfOk result (λ found. found ≡ page_decision farm.now search (opening_numbered farm.now search)) }
+{
+    let Some(opening) = farm.opening(search) else {
+        return Ok(Decision::Refuse(Refusal::UnknownSearch(search)));
+    };
+    let Some(state) = farm.search(search) else {
+        unreachable!();
+    };
+    let page = page_of(alloc, farm, opening, state)?;
+    Ok(Decision::Show(Reply::Search(page)))
+}
