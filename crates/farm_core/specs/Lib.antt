@@ -1,3 +1,4 @@
+pub mod Cutting
 pub mod FarmFaults
 pub mod FarmInside
 pub mod FarmView

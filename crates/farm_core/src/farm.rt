@@ -1,10 +1,11 @@
 //! The farm.
 
 use crate::prepared::{CoreFault, Prepared};
-use crate::tail::{append, reply_of};
+use crate::tail::{cut, reply_of};
 use farm_entry::{Command, Decision, Entry, Reply, Settings, Totals, What};
 use farm_types::{Memory, Moment};
-use plain_farm::{decide, is_next};
+use kept_decisions::{decide, is_next};
+use kept_farm::KeptFarm;
 use std::alloc::Global;
 use std::marker::Model;
 use thiserror::Error;
@@ -37,8 +38,8 @@ impl From<Memory> for AdmitFault {
 /// again; a further prepare, and each admit, leaves none of them.
 #[derive(Drop)]
 pub struct Farm {
-    entries: Vec<Entry>,
-    counted: Vec<Totals>,
+    alloc: Global,
+    kept: KeptFarm,
     committed: usize,
 }
 
@@ -55,9 +56,10 @@ impl Model for Farm {
 }
 
 impl Farm {
-    ghost use Rattle.std.specs.Prelude.{◌≡◌, ◌<◌, ◌-◌, ◌++◌, ◌∷◌, [], length, take, drop, slice_get, Some};
-    ghost use Rattle.std.specs.Prelude.{IfOk, IfErr, OnOk, OnErr};
-    ghost use Rattle.farm_entry.specs.Legal.{IsLegal};
+    ghost use Rattle.std.specs.Prelude.{◌≡◌, ◌<◌, ◌-◌, ◌++◌, ◌∷◌, ◌↔◌, [], length, take, drop, slice_get, Some};
+    ghost use Rattle.std.specs.Prelude.{IsTrue, IfOk, IfErr, OnOk, OnErr};
+    ghost use Rattle.farm_entry.specs.Decision.{decide};
+    ghost use Rattle.farm_entry.specs.Legal.{IsLegal, IsNext};
     ghost use Rattle.farm_entry.specs.Pages.{totals};
     ghost use Rattle.farm_entry.specs.Reply.{reply_at};
     ghost use Rattle.farm_core.specs.FarmFaults.{IsRefusedBy, IsUnfit};
@@ -74,13 +76,9 @@ impl Farm {
           ready = [];
         }) }
     {
-        let mut entries = Vec::new(alloc);
-        let mut counted = Vec::new(alloc);
-        let what = What::Founded { settings };
-        append(alloc, &mut entries, &mut counted, Entry { at, what })?;
         Ok(Farm {
-            entries,
-            counted,
+            alloc,
+            kept: KeptFarm::found(alloc, settings, at)?,
             committed: 1,
         })
     }
@@ -91,14 +89,14 @@ impl Farm {
         ensures legal { IsLegal self.now.history }
         ensures goes_on { IsLegal (self.now.history ++ self.now.ready) }
     {
-        &self.entries[..self.committed]
+        &self.kept.history()[..self.committed]
     }
 
     /// What is counted of the history.
     pub fn totals(&self) -> Totals
         ensures { result ≡ totals self.now.history }
     {
-        self.counted[self.committed - 1]
+        self.kept.totals_at(self.committed)
     }
 
     /// Prepares a command: says what it comes to at the history and a moment, and where that is a new entry, makes it
@@ -116,11 +114,10 @@ impl Farm {
         ensures ready { self.new.ready ≡ ready_after result }
     {
         self.forget_ready();
-        let alloc = self.allocator();
-        match decide(alloc, self.history(), command, at)? {
+        match self.decide(command, at)? {
             Decision::Refuse(refusal) => Err(CoreFault::Refused(refusal)),
             Decision::Repeat(place) => {
-                let reply = reply_of(alloc, self.history(), place as usize)?;
+                let reply = self.repeat(place as usize)?;
                 Ok(Prepared::Repeat(reply))
             }
             Decision::Show(reply) => Ok(Prepared::Shown(reply)),
@@ -145,7 +142,7 @@ impl Farm {
         ensures history { self.new.history ≡ self.old.history ++ self.old.ready }
         ensures ready { self.new.ready ≡ [] }
     {
-        self.committed = self.entries.len();
+        self.committed = self.kept.history().len();
     }
 
     /// Takes an entry that came from elsewhere, if it may come next, and drops it otherwise. Nothing that was ready
@@ -163,7 +160,7 @@ impl Farm {
         ensures ready { self.new.ready ≡ [] }
     {
         self.forget_ready();
-        if !is_next(self.allocator(), self.history(), &entry)? {
+        if !self.is_next(&entry)? {
             return Err(AdmitFault::Illegal);
         }
         self.make_ready(entry)?;
@@ -181,17 +178,42 @@ impl Farm {
         self.committed -= count;
     }
 
-    fn allocator(&self) -> Global {
-        *self.entries.allocator()
-    }
-
     /// Leaves nothing that may be committed.
     fn forget_ready(&mut self)
         ensures history { self.new.history ≡ self.old.history }
         ensures ready { self.new.ready ≡ [] }
     {
-        self.entries.truncate(self.committed);
-        self.counted.truncate(self.committed);
+        cut(&mut self.kept, self.committed);
+    }
+
+    /// What a command comes to, where nothing may be committed.
+    fn decide(&mut self, command: &Command, at: Moment) -> Result<Decision, Memory>
+        requires { self.old.ready ≡ [] }
+        ensures decided { IfOk result (λ found. found ≡ decide self.old.history command.now at) }
+        ensures legal { IsLegal self.old.history }
+        ensures kept { self.new ≡ self.old }
+    {
+        decide(self.alloc, &mut self.kept, command, at)
+    }
+
+    /// Whether an entry may come next, where nothing may be committed.
+    fn is_next(&mut self, entry: &Entry) -> Result<bool, Memory>
+        requires { self.old.ready ≡ [] }
+        ensures next { IfOk result (λ next. IsTrue next ↔ IsNext self.old.history entry.now) }
+        ensures legal { IsLegal self.old.history }
+        ensures kept { self.new ≡ self.old }
+    {
+        is_next(self.alloc, &mut self.kept, entry)
+    }
+
+    /// The reply of an entry past the founding, where nothing may be committed.
+    fn repeat(&self, place: usize) -> Result<Reply, Memory>
+        requires none_ready { self.now.ready ≡ [] }
+        requires later { 0 < place }
+        requires there { place < length self.now.history }
+        ensures { IfOk result (λ reply. reply_at self.now.history place ≡ Some reply) }
+    {
+        reply_of(&self.kept, place)
     }
 
     /// Makes an entry the one that may be committed.
@@ -202,8 +224,7 @@ impl Farm {
         ensures ready { OnOk result (self.new.ready ≡ entry ∷ []) }
         ensures none { OnErr result (self.new.ready ≡ []) }
     {
-        let alloc = self.allocator();
-        append(alloc, &mut self.entries, &mut self.counted, entry)?;
+        self.kept.push(self.alloc, entry)?;
         Ok(())
     }
 
@@ -213,7 +234,7 @@ impl Farm {
         ensures { IfOk result
             (λ reply. reply_at (self.now.history ++ self.now.ready) (length self.now.history) ≡ Some reply) }
     {
-        reply_of(self.allocator(), &self.entries, self.committed)
+        reply_of(&self.kept, self.committed)
     }
 
     /// Makes the new entry of a command the one that may be committed, and says what the command is replied.

@@ -6,9 +6,13 @@
 //! if it may come next, and `retract` takes the last entries back. Contracts see the history, and the entries that may
 //! be committed next.
 //!
-//! The body is the plain one: it keeps the list of entries and the totals after each, and answers by scanning the list
-//! with `plain_farm`. It stands on `farm_entry` for the types and the definitions of the farm, and on `farm_types` for
-//! moments and want of memory. The layer above may use every name below.
+//! What is kept for the history and for what may be committed next is kept once, by `kept_farm`: where an entry was
+//! made ready, its look-ups, its search and its totals are carried on with it, so that a commit moves one number. What was
+//! made ready and not committed is taken away again by the next call that needs the room.
+//!
+//! It stands on `kept_farm` for what is kept, on `kept_decisions` for what a command comes to, on `farm_entry` for the
+//! types and the definitions of the farm, and on `farm_types` for moments and want of memory. The layer above may use
+//! every name below.
 #![tactic(auto)]
 
 mod farm;

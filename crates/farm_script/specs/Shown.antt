@@ -23,7 +23,7 @@ shown_searches H (o ∷ others) = shown_line (reply.Search (page_of H o)) ++ sho
 abbrev pub shown_text : List Entry → List ℕ
 shown_text H = shown_line (reply.Farm (totals H)) ++ shown_searches H (openings H)
 
--- the line of the search that an entry opened, or nothing
+-- the line of a search that is there, or nothing
 abbrev pub shown_opening : List Entry → Option Opening → List ℕ
 shown_opening H None = []
 shown_opening H (Some o) = shown_line (reply.Search (page_of H o))

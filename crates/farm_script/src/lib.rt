@@ -7,9 +7,11 @@
 //! says for every way to end which lines were answered and which bytes were put; [`run_founded`] does so over a farm in
 //! memory that it founds.
 //!
-//! It stands on `farm_core` for the farm in memory, on `farm_wire` for what a line says and how a reply is written, on
-//! `link_io` for the input and the output, on `memchr`, and on the crates of the farm's values and definitions. The layer
-//! above may use every name below.
+//! [`shown_text`] is what the farm of a store shows of itself: its own page, and that of each search.
+//!
+//! It stands on `farm_core` for the farm in memory, on `farm_store` for one whose history stands on a disk, on `farm_wire`
+//! for what a line says and how a reply is written, on `link_io` for the input and the output, on `memchr`, and on the
+//! crates of the farm's values and definitions. The layer above may use every name below.
 #![tactic(auto)]
 
 mod answer_line;

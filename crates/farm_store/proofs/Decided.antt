@@ -18,7 +18,7 @@ use Rattle.farm_entry.specs.declared.refusal.Refusal.{Refusal}
 use Rattle.farm_journal.specs.State.{JournalState}
 use Rattle.farm_laws.proofs.Induct.{IsLegal-push}
 use Rattle.farm_laws.proofs.Recorded.{recorded}
-use Rattle.farm_store.specs.Answering.{AreAnswers, BatchSays, IsAnswer, as_batch, history_after}
+use Rattle.farm_store.specs.Answering.{AreAnswers, BatchSays, IsAnswer, IsAnswered, as_batch, history_after}
 use Rattle.farm_store.specs.Bytes.{StandsFor}
 use Rattle.farm_store.specs.Faults.{IsOfStore, OnCallFault, OnCallMemory}
 use Rattle.farm_store.specs.Recorded.{LeavesNew}
@@ -94,6 +94,24 @@ module _ {D : Type 0} (tells : D → Bool) (told : D → DiskState) (farm : Farm
   leaves-still new t = leaves_only-weaker (told s.disk) (told journal.disk) (IsWithOrWithout s.history s.pending)
       (IsLeft s new) (λ c before. inl before)
       (leaves-idle-view tells told farm journal store count s view t)
+
+  -- a refusal records nothing
+  pub says-refused : (farm' : FarmView) (q : Command) (m : Moment) (x : Refusal)
+      → IsAnswer farm.history (decide farm.history q m) (answer.Refused x)
+      → farm'.history ≡ after farm.history (decide farm.history q m) → count ≡ 0
+      → IsAnswered (record { command = q; at = m } ∷ []) (answer.Refused x ∷ []) s (store_view farm' journal count)
+  says-refused farm' q m x answered history zero =
+      let same : farm'.history ≡ farm.history =
+      history ∙ refused-after farm.history (decide farm.history q m) x answered in
+      let long = ap length same in
+      record {
+        repaired = farm.history;
+        found = inl same-history;
+        answers = (answered, tt);
+        history = history;
+        recorded = omega (arith, long, zero);
+        decided = undecided-none journal.pending farm'.ready idle;
+      }
 
   module _ (farm' : FarmView) (most : ℕ) (grows : Grows farm.history farm'.history most) where
     front : take (length farm.history) farm'.history ≡ farm.history

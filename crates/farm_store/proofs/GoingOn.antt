@@ -2,7 +2,7 @@
 use Rattle.std.proofs.Common.{Bool, true, false, true≢false, ◌≡◌, ◌≢◌, inl, inr, ℕ, ◌+◌, ◌*◌, ◌≤◌, ◌<◌, List, [], ◌∷◌, ◌++◌, length, take, drop, get_or, All, refl, sym, ◌∙◌, ap, subst, arith}
 use Rattle.std.specs.Prelude.{◌==◌, IfErr, IfOk, Result, Ok, Err, reverse, remove}
 use Rattle.std.proofs.lemmas.Bool.Decides.{nat_tests}
-use Rattle.std.proofs.lemmas.List.{append-nil, append_assoc, length-append, reverse-append, take-append-drop, take_more, drop_more}
+use Rattle.std.proofs.lemmas.List.{append-nil, append_assoc, length-append, reverse-append, take-append-drop, take_all, take_more, drop_more}
 use Rattle.std.proofs.lemmas.List.Elements.{All-get_or}
 use Rattle.entry_codec.specs.Grammar.{AreSpelled}
 use Rattle.entry_codec.specs.Spelling.{spelling}
@@ -177,6 +177,24 @@ pub misfit-first : (payload : List ℕ) (entries rest : List Entry) (e : Entry) 
 misfit-first payload entries rest e Unfit own is split none =
     misfit-part payload [] entries own is (λ legal. none rest (subst IsLegal split legal))
 misfit-first payload entries rest e Memory own is split none = tt
+
+-- a payload whose first entry founds a farm that the others go on with
+pub begun-whole : (payload : List ℕ) (entries rest H K : List Entry) (e : Entry) → AreSpelled entries
+    → payload ≡ spelling entries → entries ≡ e ∷ rest → H ≡ e ∷ [] → K ≡ H ++ rest → IsLegal (H ++ rest)
+    → GoesOn payload [] K
+begun-whole payload entries rest H K e own is split begun then legal = record {
+  part = entries;
+  spelled = own;
+  is = is;
+  whole = then ∙ ap (λ (l : List Entry). l ++ rest) begun ∙ sym split;
+  legal = subst IsLegal (sym then) legal;
+}
+
+-- all payloads were read
+pub grown-all : (before payloads : List (List ℕ)) (i : ℕ) (H : List Entry) (gate : ℕ)
+    → Grown before (take i payloads) H gate → length payloads ≤ i → Keeps (before ++ payloads) H
+grown-all before payloads i H gate grown past =
+    subst (λ (l : List (List ℕ)). Keeps (before ++ l) H) (take_all i payloads past) grown.keeps
 
 -- a payload whose entries may not come next
 pub misfit-on : (payload : List ℕ) (H entries : List Entry) (m : Misfit) → AreSpelled entries

@@ -16,6 +16,7 @@ mod asking;
 mod founding;
 pub mod laws;
 mod recording;
+mod showing;
 mod store;
 
 pub use asking::{Answer, Answers, Ask, CallFault, MAX_BATCH};

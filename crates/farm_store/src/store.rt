@@ -1,9 +1,11 @@
 //! A store: a farm whose history stands on a disk.
 
 ghost use Rattle.std.specs.Prelude.{◌≡◌, ◌≤◌, ◌++◌, [], true, false, List, length, IfOk, IfErr, OnOk, OnErr};
+ghost use Rattle.std.specs.Option.{option_map};
 ghost use Rattle.farm_disk.specs.Images.{EachImage, LeavesOnly, LeavesSinceSync};
+ghost use Rattle.farm_entry.specs.History.{opening_numbered};
 ghost use Rattle.farm_entry.specs.Legal.{IsLegal};
-ghost use Rattle.farm_entry.specs.Pages.{totals};
+ghost use Rattle.farm_entry.specs.Pages.{page_of, totals};
 ghost use Rattle.farm_journal.specs.Created.{CreatingCause, IsUnborn, OnCreatingMemory};
 ghost use Rattle.farm_journal.specs.Layout.{is_unborn};
 ghost use Rattle.farm_journal.specs.Opened.{OpeningCause};
@@ -20,11 +22,12 @@ use crate::answering::{answer, answer_all};
 use crate::asking::{Answer, Answers, Ask, CallFault};
 use crate::founding::found;
 use crate::recording::record_from;
+use crate::showing::page_in;
 use farm_core::Farm;
 use farm_disk::Disk;
-use farm_entry::{Command, Entry, Reply, Settings, Totals};
+use farm_entry::{Command, Entry, Reply, SearchPage, Settings, Totals};
 use farm_journal::{CreateFault, Journal, JournalFault, OpeningFault, Repaired};
-use farm_types::Moment;
+use farm_types::{Memory, Moment};
 use std::alloc::Global;
 use std::marker::Model;
 
@@ -216,6 +219,20 @@ impl<D: Disk> Store<D> {
         ensures { result ≡ totals self.now.history }
     {
         self.farm.totals()
+    }
+
+    /// The page of a search, where it was opened, while nothing is pending. The disk is not asked.
+    ///
+    /// # Errors
+    ///
+    /// [`Memory`].
+    pub fn page(&mut self, search: u32) -> Result<Option<SearchPage>, Memory>
+        requires { self.old.pending ≡ [] }
+        ensures page { IfOk result
+            (λ page. page ≡ option_map (page_of self.old.history) (opening_numbered self.old.history search)) }
+        ensures kept { self.new ≡ self.old }
+    {
+        page_in(&mut self.farm, search)
     }
 
     /// How many entries the last call recorded for its asks: they are the last of the history. Those that its repair

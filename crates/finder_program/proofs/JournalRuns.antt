@@ -118,15 +118,15 @@ ran-from_grows {D} meant end before after old new left is grows ends decided =
 
 -- what was shown of a store that was opened is the text of its journal's history
 pub shown-opened : {D : Type 0} (meant : disk.Ghosts D) (status : Status) (before after : OutputSeen)
-    (store : StoreState D) (old left : D) (H : List Entry) → H ≡ store.history → left ≡ store.disk
+    (store : StoreState D) (old left : D) → left ≡ store.disk
     → (meant.tells old ≡ true → StandsFor store.history (meant.told old).bytes)
     → (meant.tells old ≡ true → ReadsOnly (meant.told old) (meant.told store.disk))
-    → TextPut (shown_text H) status before after
+    → TextPut (shown_text store.history) status before after
     → JournalShown status before after (disk_seen meant old) (disk_seen meant left)
-shown-opened {D} meant status before after store old left H same is held only put =
+shown-opened {D} meant status before after store old left is held only put =
     subst (λ (d : D). JournalShown status before after (disk_seen meant old) (disk_seen meant d)) (sym is) (record {
       history = store.history;
       held = held;
       only = only;
-      text = subst (λ (h : List Entry). TextPut (shown_text h) status before after) same put;
+      text = put;
     })

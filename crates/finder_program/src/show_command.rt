@@ -1,7 +1,6 @@
 //! The subcommand `show JOURNAL`.
 
-ghost use Rattle.std.specs.Prelude.{◌≡◌};
-ghost use Rattle.farm_entry.specs.Legal.{IsLegal};
+ghost use Rattle.std.specs.Prelude.{◌≡◌, []};
 ghost use Rattle.farm_script.specs.Shown.{shown_text};
 ghost use Rattle.finder_program.specs.Disks.{HasStoreCause, disk_seen};
 ghost use Rattle.finder_program.specs.Show.{ShowEnds};
@@ -11,7 +10,6 @@ use crate::opening::status_of_opening;
 use crate::put_text::put_text;
 use crate::status::Status;
 use farm_disk::Disk;
-use farm_entry::Entry;
 use farm_script::shown_text;
 use farm_store::Store;
 use link_io::Sink;
@@ -25,19 +23,22 @@ pub fn show_command<K: Sink, D: Disk>(alloc: Global, output: &mut K, disk: D) ->
 {
     match Store::open_on(alloc, disk) {
         Ok(store) => {
-            let status = show_history(alloc, store.history(), output);
+            let mut store = store;
+            let status = show_store(alloc, &mut store, output);
             (status, store.into_disk())
         }
         Err((disk, fault)) => (status_of_opening(fault), disk),
     }
 }
 
-/// Writes what the farm of a history shows.
-fn show_history<K: Sink>(alloc: Global, history: &[Entry], output: &mut K) -> Status
-    requires { IsLegal history.now }
-    ensures { TextPut (shown_text history.now) result (output_seen K.Sink output.old) (output_seen K.Sink output.new) }
+/// Writes what the farm of a store shows while nothing is pending.
+fn show_store<K: Sink, D: Disk>(alloc: Global, store: &mut Store<D>, output: &mut K) -> Status
+    requires { store.old.pending ≡ [] }
+    ensures text { TextPut (shown_text store.old.history) result
+        (output_seen K.Sink output.old) (output_seen K.Sink output.new) }
+    ensures kept { store.new ≡ store.old }
 {
-    match shown_text(alloc, history) {
+    match shown_text(alloc, store) {
         Ok(text) => put_text(output, text.as_str()),
         Err(_) => Status::Memory,
     }

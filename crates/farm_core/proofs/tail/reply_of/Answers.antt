@@ -5,5 +5,5 @@ use Rattle.farm_core.proofs.tail.reply_of.Goals as goal
 
 pub unreachable-requires : goal.unreachable-requires
 unreachable-requires c =
-    let there = reply-there c.args.history.now c.args.place c.requires.legal c.requires.later c.requires.there in
+    let there = reply-there c.args.kept.now c.args.place c.history-history.ensures.legal c.requires.later c.requires.there in
     none-some there.0 (sym c.in-None.is ∙ c.in_ok-reply.ensures ∙ there.1)

@@ -1,25 +1,26 @@
-use Rattle.std.proofs.Common.{◌≡◌, ◌<◌, ◌++◌, ℕ, List, length, take, sym, ap, ◌∙◌, append_assoc, arith}
-use Rattle.farm_entry.specs.History.{opening_in, openings}
+use Rattle.std.proofs.Common.{◌+◌, ◌<◌, ◌++◌, ℕ, List, length, take, sym, ap, ◌∙◌, append_assoc, arith}
+use Rattle.std.specs.Prelude.{string_bytes}
+use Rattle.farm_entry.specs.History.{opening_numbered, openings}
 use Rattle.farm_entry.specs.Pages.{totals}
 use Rattle.farm_entry.specs.declared.reply.Reply.TheVariants as reply
-use Rattle.plain_history.proofs.Holding.{is_held}
+use Rattle.farm_store.specs.State.{StoreState}
 use Rattle.farm_script.specs.Shown.{shown_line, shown_opening, shown_searches}
-use Rattle.farm_script.proofs.ShownLines.{shown-upto}
+use Rattle.farm_script.proofs.ShownLines.{shown-next}
 use Rattle.farm_script.proofs.shown.shown_text.Goals as goal
 
-pub push_opening-requires-clause-held : goal.push_opening-requires-clause-held
-push_opening-requires-clause-held c =
-    let below : c.loop-entry.entry-index < length c.args.history.now = omega arith in
-    is_held c.args.history.now c.loop-entry.entry-index c.entry-item.result below c.entry-item.is
-
-pub loop-entry-preserved : goal.loop-entry-preserved
-loop-entry-preserved c =
-    let H = c.args.history.now in
-    let i = c.loop-entry.entry-index in
+pub loop-before-preserved : goal.loop-before-preserved
+loop-before-preserved g c =
+    let H = c.args.store.now.history in
+    let k = c.loop-before.before in
     let line = shown_line (reply.Farm (totals H)) in
-    let more = shown_opening H (opening_in c.entry-item.result.what) in
-    let below : i < length H = omega arith in
-    c.in_ok-push_opening.ensures
-    ∙ ap (λ (t : List ℕ). t ++ more) c.loop-entry.invariant
-    ∙ append_assoc line (shown_searches H (openings (take i H))) more
-    ∙ ap (λ (t : List ℕ). line ++ t) (sym (shown-upto H i c.entry-item.result below c.entry-item.is))
+    let more = shown_opening H (opening_numbered H (k + 1)) in
+    let below : k < length (openings H) = omega (arith, c.loop-before-test.true, c.searches_count-count.ensures.count) in
+    record {
+      kept = c.push_search.ensures.kept ∙ c.loop-before.invariant.kept;
+      text = c.in_ok-push_search.ensures.text
+          ∙ ap (λ (s : StoreState g.row.D.Denot). string_bytes c.loop-before.text
+          ++ shown_opening s.history (opening_numbered s.history (k + 1))) c.loop-before.invariant.kept
+          ∙ ap (λ (t : List ℕ). t ++ more) c.loop-before.invariant.text
+          ∙ append_assoc line (shown_searches H (take k (openings H))) more
+          ∙ ap (λ (t : List ℕ). line ++ t) (sym (shown-next H k c.searches_count-count.ensures.legal below));
+    }

@@ -6,7 +6,11 @@ use Rattle.farm_entry.specs.declared.reply.Reply.TheVariants as reply
 use Rattle.farm_script.specs.Shown.{shown_line, shown_searches}
 use Rattle.farm_script.proofs.shown.shown_text.Given as goal
 
-abbrev pub invariant-loop-entry : goal.invariant-loop-entry
-invariant-loop-entry l =
-    string_bytes l.text
-    ≡ shown_line (reply.Farm (totals l.history)) ++ shown_searches l.history (openings (take l.entry-index l.history))
+abbrev pub invariant-loop-before : goal.invariant-loop-before
+invariant-loop-before g l =
+    record {
+      kept : l.store ≡ l.fn.store;
+      text : string_bytes l.text
+          ≡ shown_line (reply.Farm (totals l.fn.store.history))
+          ++ shown_searches l.fn.store.history (take l.before (openings l.fn.store.history));
+    }

@@ -1,11 +1,11 @@
--- Why a payload begins no history.
+-- What history a payload begins, or why it begins none.
 use Rattle.std.proofs.Common.{◌≡◌, ◌<◌, ◌∙◌, ◌∷◌, [], ap, length, sym, subst}
 use Rattle.std.specs.Prelude.{IfErr, Result}
 use Rattle.std.proofs.lemmas.Result.{err_from_is_err_and}
 use Rattle.farm_core.specs.FarmView.{FarmView}
 use Rattle.farm_store.specs.Admitted.{IsMisfit}
 use Rattle.farm_store.specs.declared.admitting.Misfit.{Misfit}
-use Rattle.farm_store.proofs.GoingOn.{empty-by, misfit-empty, misfit-first, misfit-rest, removed-first, some-by}
+use Rattle.farm_store.proofs.GoingOn.{begun-whole, empty-by, misfit-empty, misfit-first, misfit-rest, removed-first, some-by}
 use Rattle.farm_store.proofs.admitting.begin.Goals as goal
 
 pub returns-then-is_empty-clause-misfit : goal.returns-then-is_empty-clause-misfit
@@ -48,3 +48,15 @@ returns-in_err-admit_all-clause-misfit c =
     (removed-first entries c.remove.result some c.remove.ensures.value
     ∙ ap (λ l. c.remove.result ∷ l) (sym c.remove.ensures.items))
     c.in_ok-farm.ensures.founded c.in_err-admit_all.ensures.misfit))
+
+pub returns-clause-farm : goal.returns-clause-farm
+returns-clause-farm c =
+    let entries = c.in_ok-entries.entries.items in
+    let some : 0 < length entries = some-by entries c.in_ok-entries.entries.len c.is_empty.result
+    c.in_ok-entries.entries.ok.0 c.is_empty.ensures c.if-is_empty.false in
+    begun-whole c.args.payload.now entries c.remove.new.self.items c.in_ok-farm.farm.history
+    c.admit_all.new.farm.history c.remove.result
+    c.in_ok-entries.ensures.spelled c.in_ok-entries.ensures.is
+    (removed-first entries c.remove.result some c.remove.ensures.value
+    ∙ ap (λ l. c.remove.result ∷ l) (sym c.remove.ensures.items))
+    c.in_ok-farm.ensures.founded c.in_ok-admit_all.ensures.admitted c.in_ok-admit_all.ensures.legal

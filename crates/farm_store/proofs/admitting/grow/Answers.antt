@@ -1,11 +1,11 @@
 -- What each further payload came to, by the lemmas of `GoingOn`.
-use Rattle.std.proofs.Common.{◌≡◌, ◌+◌, ◌++◌, inr, ℕ, List, length, take, refl, sym, ap, subst, arith}
+use Rattle.std.proofs.Common.{◌≡◌, ◌+◌, ◌≤◌, ◌++◌, inr, ℕ, List, length, take, refl, sym, ap, subst, arith}
 use Rattle.std.proofs.lemmas.List.Elements.{All-get_or}
 use Rattle.farm_journal.specs.Layout.{IsPayload}
 use Rattle.farm_store.specs.Admitted.{GoesOn, IsMisfit}
 use Rattle.farm_store.specs.declared.admitting.Misfit.{Misfit}
 use Rattle.farm_store.specs.declared.admitting.Misfit.TheVariants.{Unfit}
-use Rattle.farm_store.proofs.GoingOn.{gate-small, grown-more, grown-unfit}
+use Rattle.farm_store.proofs.GoingOn.{gate-small, grown-all, grown-more, grown-unfit}
 use Rattle.farm_store.proofs.admitting.grow.Goals as goal
 
 pub overflow_add-gate-in-Ok : goal.overflow_add-gate-in-Ok
@@ -43,3 +43,11 @@ loop-payload-preserved c = λ before keeps at.
     K (c.loop-payload.gate + (5 + length c.bytes-in-Ok.result.now)) c.requires.fit
     (subst (λ (l : List ℕ). GoesOn l H K) c.bytes.ensures c.in-Ok.ensures.farm)
     (ap (λ (l : List ℕ). c.loop-payload.gate + (5 + length l)) c.bytes-in-Ok.ensures)
+
+pub returns-clause-farm : goal.returns-clause-farm
+returns-clause-farm c = λ before keeps at.
+    let i = c.loop-payload.payload-index in
+    let out = c.loop-payload-test.false in
+    let past : length c.args.payloads.now ≤ i = omega (arith, out) in
+    grown-all before c.args.payloads.now i c.loop-payload.farm.history c.loop-payload.gate
+    (c.loop-payload.invariant before keeps at) past

@@ -2,28 +2,27 @@ use Rattle.std.proofs.Common.{◌≡◌, ◌++◌, ◌∷◌, [], List, sym, sub
 use Rattle.farm_entry.specs.Legal.{IsLegal}
 use Rattle.farm_entry.specs.declared.entry.Entry.{Entry}
 use Rattle.farm_laws.proofs.Induct.{IsLegal-push, IsLegal-pushed}
+use Rattle.farm_core.specs.FarmView.{FarmView}
 use Rattle.farm_core.proofs.farm.Farm.admit.Goals as goal
 
 pub returns-then-not-branch-clause-illegal : goal.returns-then-not-branch-clause-illegal
 returns-then-not-branch-clause-illegal c longer =
-    let H = c.history.result.now in
-    let same : H ≡ c.args.self.now.history = c.history.ensures.value ∙ c.forget_ready.ensures.history in
-    let legal : IsLegal H = subst IsLegal (sym c.history.ensures.value) c.history.ensures.legal in
+    let H = c.forget_ready.new.self.history in
+    let said = c.in_ok-is_next.ensures in
     let here : IsLegal (H ++ c.args.entry ∷ []) =
-    subst (λ (l : List Entry). IsLegal (l ++ c.args.entry ∷ [])) (sym same) longer in
-    true≢false (sym (c.in_ok-is_next.ensures.1 (IsLegal-pushed H c.args.entry legal here)) ∙ c.if-not-branch.true)
+    subst (λ (l : List Entry). IsLegal (l ++ c.args.entry ∷ [])) (sym c.forget_ready.ensures.history) longer in
+    true≢false (sym (said.next.1 (IsLegal-pushed H c.args.entry said.legal here)) ∙ c.if-not-branch.true)
 
 pub make_ready-requires-clause-next : goal.make_ready-requires-clause-next
 make_ready-requires-clause-next c =
-    let H = c.history.result.now in
-    let legal : IsLegal H = subst IsLegal (sym c.history.ensures.value) c.history.ensures.legal in
-    subst (λ (l : List Entry). IsLegal (l ++ c.args.entry ∷ [])) c.history.ensures.value
-    (IsLegal-push H c.args.entry legal (c.in_ok-is_next.ensures.0 c.if-not-branch.false))
+    let H = c.forget_ready.new.self.history in
+    let said = c.in_ok-is_next.ensures in
+    subst (λ (v : FarmView). IsLegal (v.history ++ c.args.entry ∷ [])) (sym said.kept)
+    (IsLegal-push H c.args.entry said.legal (said.next.0 c.if-not-branch.false))
 
 pub returns-clause-legal : goal.returns-clause-legal
 returns-clause-legal c =
-    let H = c.history.result.now in
-    let same : H ≡ c.args.self.now.history = c.history.ensures.value ∙ c.forget_ready.ensures.history in
-    let legal : IsLegal H = subst IsLegal (sym c.history.ensures.value) c.history.ensures.legal in
-    subst (λ (l : List Entry). IsLegal (l ++ c.args.entry ∷ [])) same
-    (IsLegal-push H c.args.entry legal (c.in_ok-is_next.ensures.0 c.if-not-branch.false))
+    let H = c.forget_ready.new.self.history in
+    let said = c.in_ok-is_next.ensures in
+    subst (λ (l : List Entry). IsLegal (l ++ c.args.entry ∷ [])) c.forget_ready.ensures.history
+    (IsLegal-push H c.args.entry said.legal (said.next.0 c.if-not-branch.false))

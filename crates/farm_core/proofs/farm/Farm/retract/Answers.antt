@@ -7,7 +7,7 @@ use Rattle.farm_core.proofs.farm.Farm.retract.Goals as goal
 
 pub returns-clause-ready : goal.returns-clause-ready
 returns-clause-ready c =
-    let L = c.self.inside.entries.items in
+    let L = c.self.inside.kept in
     let n = c.self.inside.committed in
     let H = c.args.self.now.history in
     let front : take n L ≡ H = ap (λ (f : FarmView). f.history) c.self.view_is ∙ c.forget_ready.ensures.history in

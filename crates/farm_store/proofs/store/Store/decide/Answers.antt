@@ -12,7 +12,7 @@ use Rattle.farm_store.specs.StoreInside.{store_view}
 use Rattle.farm_store.specs.declared.asking.Answer.{Answer}
 use Rattle.farm_store.specs.declared.asking.CallFault.{CallFault}
 use Rattle.farm_store.proofs.Calls.{Grows, after-grows}
-use Rattle.farm_store.proofs.Decided.{after-legal, ahead, counted, kept-same, leaves-missed, leaves-still, leaves-stored, one-missed, refused-after, says-missed, says-stored}
+use Rattle.farm_store.proofs.Decided.{after-legal, ahead, counted, kept-same, leaves-missed, leaves-still, leaves-stored, one-missed, refused-after, says-missed, says-refused, says-stored}
 use Rattle.farm_store.proofs.store.Store.decide.Goals as goal
 
 pub record_from-requires : goal.record_from-requires
@@ -123,6 +123,22 @@ invariant_of-self-in-Ok-Refused g c =
     c.in-Ok-Refused.field-0-is c.in-Ok-Refused.ensures.answer in
     kept-same t d farm journal c.self.invariant c.self.inside.recorded s c.self.view_is c.requires.decided farm'
     (c.in-Ok-Refused.ensures.history ∙ refused-after farm.history (decide farm.history q m) _ answered)
+
+pub returns-in-Ok-Refused-clause-says : goal.returns-in-Ok-Refused-clause-says
+returns-in-Ok-Refused-clause-says g c =
+    let t = g.D.Disk.tells in
+    let d = g.D.Disk.told in
+    let farm = c.self.inside.farm in
+    let journal = c.self.inside.journal in
+    let s = c.args.self.now in
+    let farm' = c.answer.new.farm in
+    let q = c.args.command.now in
+    let m = c.args.at in
+    let answered = subst (λ (a : Answer). IsAnswer farm.history (decide farm.history q m) a)
+    c.in-Ok-Refused.field-0-is c.in-Ok-Refused.ensures.answer in
+    let zero = ap (λ (x : StoreState g.row.D.Denot). x.recorded) c.self.view_is ∙ c.requires.none_recorded in
+    says-refused t d farm journal c.self.invariant c.self.inside.recorded s c.self.view_is c.requires.decided farm'
+    q m c.in-Ok-Refused.refusal answered c.in-Ok-Refused.ensures.history zero
 
 pub returns-in_ok-record_from-in-Ok-Done-clause-says : goal.returns-in_ok-record_from-in-Ok-Done-clause-says
 returns-in_ok-record_from-in-Ok-Done-clause-says g c =
