@@ -1,0 +1,69 @@
+//! What is asked.
+
+use farm_entry::{Command, OpenAsk, Suspects};
+use farm_types::{CommitId, Key, Moment, MomentFault, Name};
+use std::alloc::{AllocError, Global};
+use suspect_range::Suspect;
+
+/// How long a lease lasts, in milliseconds.
+pub(crate) const LEASE_MS: u32 = 1_000;
+
+/// The first moment, in milliseconds since 1970-01-01.
+const START_MS: u64 = 100_000_000;
+
+/// The moment of what is asked at a history of so many entries. Each is later than all the leases of those entries, so
+/// that a run is always due: at one moment each of four callers has at most one call.
+pub(crate) fn moment(entries: u64) -> Result<Moment, MomentFault> {
+    let passed = entries.saturating_mul(2 * u64::from(LEASE_MS));
+    Moment::of(START_MS.saturating_add(passed))
+}
+
+/// The key of a caller's command: the caller in the high half, and the number of the command in the low one.
+pub(crate) fn key(caller: u64, number: u64) -> Key {
+    Key((u128::from(caller) << 64) | u128::from(number))
+}
+
+/// The caller who made a key.
+pub(crate) fn caller(key: Key) -> u64 {
+    (key.0 >> 64) as u64
+}
+
+fn name(alloc: Global, text: &str) -> Result<Name, AllocError> {
+    match Name::of(alloc, text) {
+        Ok(name) => Ok(name),
+        Err(_) => Err(AllocError),
+    }
+}
+
+/// A lease.
+pub(crate) fn lease(alloc: Global, key: Key) -> Result<Command, AllocError> {
+    Ok(Command::Lease {
+        key,
+        worker: name(alloc, "w")?,
+    })
+}
+
+/// The open of a search that tens of reports leave without a result.
+pub(crate) fn open(alloc: Global) -> Result<Command, AllocError> {
+    let mut suspects = Vec::new(alloc);
+    suspects.push(Suspect {
+        commit: CommitId::of([1; 20]),
+        weight: 1,
+    })?;
+    suspects.push(Suspect {
+        commit: CommitId::of([2; 20]),
+        weight: 1,
+    })?;
+    Ok(Command::Open(OpenAsk {
+        key: key(0, 1),
+        test: name(alloc, "t")?,
+        base: CommitId::of([0; 20]),
+        suspects: Suspects::of(suspects),
+        calm: 1,
+        rate: (1, 2),
+        miss: (2, 5),
+        bar: (9_999, 10_000),
+        width: 8,
+        reruns: 1,
+    }))
+}
