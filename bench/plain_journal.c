@@ -1,15 +1,13 @@
 /* Writes the records of a journal again, to compare times with: for each record the same two writes and two syncs as the
  * journal made, and nothing else.
  *
- * Its words are the path of the journal and that of the file that it makes. It prints the nanoseconds that the records
- * took, but for the first, which founding wrote.
+ * Its words are the path of the journal and that of the file that it makes.
  */
 #include <fcntl.h>
 #include <stdint.h>
 #include <stdio.h>
 #include <stdlib.h>
 #include <sys/stat.h>
-#include <time.h>
 #include <unistd.h>
 
 enum { FIRST_GATE = 16 };
@@ -22,12 +20,6 @@ static void fail(const char *what) {
 static void put(int file, const void *bytes, size_t count, off_t at) {
     if (pwrite(file, bytes, count, at) != (ssize_t)count || fdatasync(file) != 0)
         fail("write");
-}
-
-static int64_t now(void) {
-    struct timespec t;
-    clock_gettime(CLOCK_MONOTONIC, &t);
-    return t.tv_sec * INT64_C(1000000000) + t.tv_nsec;
 }
 
 /* How long the record behind an open gate is: its length in 4 bytes, its payload and the next gate. */
@@ -51,7 +43,6 @@ int main(int count, char **words) {
     gate += record_length(bytes + gate);
     put(file, bytes, gate, 0);
     put(file, &closed, 1, gate);
-    int64_t began = now();
     while (bytes[gate] != 0) {
         size_t length = record_length(bytes + gate);
         unsigned char open_gate = bytes[gate];
@@ -62,6 +53,5 @@ int main(int count, char **words) {
         bytes[gate + length] = next;
         gate += length;
     }
-    printf("%lld\n", (long long)(now() - began));
     return 0;
 }

@@ -1,11 +1,15 @@
 #!/usr/bin/env python3
-"""Times `run` on a script of many searches, and prints seconds, microseconds a line and peak memory.
+"""Times `run` on a script of many searches beside a plain program in C that reads the same lines, decides nothing and
+writes lines of the same length (plain_lines.c, built here by `cc`). Prints seconds, microseconds a line, peak memory,
+and the ratio of the two.
 
-    bench/run.py [LINES [SEARCHES [SUSPECTS]]]        2000 lines over 20 searches of 10 suspects, if not said
+    bench/run.py [LINES [SEARCHES [LEAST [MOST]]]]        20000 lines over 2000 searches of 10 to 100 suspects, if not
+                                                          said
 
 Run it after `./finder build`. The script is made by playing workers against the program: each search has a culprit and
-a test that flakes by rule, so two runs measure the same work. Two further scripts of as many lines show what reading
-and printing cost alone: in one each line is read and refused, in the other each is a page of a farm without searches.
+a test that flakes by rule, so two runs measure the same work. The two programs are run in turn, and each has the least
+of its times. Two further scripts of as many lines show what reading and printing cost alone: in one each line is read
+and refused, in the other each is a page of a farm without searches.
 """
 import json
 import os
@@ -17,6 +21,7 @@ import time
 ROOT = os.path.dirname(os.path.dirname(os.path.abspath(__file__)))
 PROGRAM = os.path.join(ROOT, "crates", "culprit_finder", "out", "culprit_finder")
 START = 1_795_770_000_000
+TURNS = 7
 
 
 def commit(search, position):
@@ -44,80 +49,110 @@ def verdict(run, search, position, suspects):
 
 
 class Play:
-    """The program, asked line by line, and the lines that it was asked."""
+    """The program, asked line by line, the lines that it was asked, and its answers."""
 
-    def __init__(self, limit):
+    def __init__(self, limit=None):
         self.limit = limit
         self.lines = []
+        self.answers = []
         self.child = subprocess.Popen([PROGRAM, "run"], stdin=subprocess.PIPE, stdout=subprocess.PIPE)
 
     def ask(self, **command):
         """The answer to a command, or None once the script is long enough."""
         if len(self.lines) == self.limit:
             return None
-        command["at"] = START + len(self.lines)
-        if command["do"] in ("open", "lease"):
+        command.setdefault("at", START + len(self.lines))
+        if command["do"] in ("open", "lease", "revert"):
             command["key"] = f"{len(self.lines) + 1:032x}"
         line = json.dumps(command, separators=(",", ":")).encode() + b"\n"
         self.lines.append(line)
         self.child.stdin.write(line)
         self.child.stdin.flush()
-        return json.loads(self.child.stdout.readline())
+        self.answers.append(self.child.stdout.readline())
+        return json.loads(self.answers[-1])
 
     def end(self):
         self.child.communicate()
         return b"".join(self.lines)
 
 
-def script_of(limit, searches, suspects):
+def suspects_of(search, least, most):
+    return least + (37 * search) % (most - least + 1)
+
+
+def play(limit, searches, least, most):
     """Workers lease, look at the search's page and report, until the script has its lines."""
-    play = Play(limit)
+    game = Play(limit)
     for search in range(1, searches + 1):
-        play.ask(**opening(search, suspects))
-    while len(play.lines) < limit:
-        lease = play.ask(do="lease", worker=f"worker-{len(play.lines) % 10}")
+        game.ask(**opening(search, suspects_of(search, least, most)))
+    while len(game.lines) < limit:
+        lease = game.ask(do="lease", worker=f"worker-{len(game.lines) % 10}")
         if lease is None:
             break
         if "run" not in lease:
-            play.ask(do="farm")
+            game.ask(do="farm")
             continue
         run, search = lease["run"], lease["search"]
-        play.ask(do="search", search=search)
-        play.ask(do="report", run=run, verdict=verdict(run, search, lease["position"], suspects))
-    return play.end()
+        game.ask(do="search", search=search)
+        says = verdict(run, search, lease["position"], suspects_of(search, least, most))
+        game.ask(do="report", run=run, verdict=says)
+    game.end()
+    return game
 
 
-def measure(script):
-    """The least seconds of three runs, and the peak memory in MiB."""
-    best, peak = None, 0
+def took(command, script):
+    """The seconds and the peak memory in MiB of one run."""
     with tempfile.TemporaryFile() as source:
         source.write(script)
-        for _ in range(3):
-            source.seek(0)
-            began = time.perf_counter()
-            child = subprocess.Popen([PROGRAM, "run"], stdin=source, stdout=subprocess.DEVNULL)
-            _, status, usage = os.wait4(child.pid, 0)
-            seconds = time.perf_counter() - began
-            if status != 0:
-                sys.exit(f"the program ended with {os.waitstatus_to_exitcode(status)}")
-            best = seconds if best is None else min(best, seconds)
-            peak = max(peak, usage.ru_maxrss / 1024)
-    return best, peak
+        source.seek(0)
+        began = time.perf_counter()
+        child = subprocess.Popen(command, stdin=source, stdout=subprocess.DEVNULL)
+        _, status, usage = os.wait4(child.pid, 0)
+        seconds = time.perf_counter() - began
+    if status != 0:
+        sys.exit(f"{command[0]} ended with {os.waitstatus_to_exitcode(status)}")
+    return seconds, usage.ru_maxrss / 1024
+
+
+def seconds_of(script, turns=TURNS):
+    """The least seconds of some runs of the program."""
+    return min(took([PROGRAM, "run"], script)[0] for _ in range(turns))
 
 
 def report(name, script, lines):
-    seconds, peak = measure(script)
-    print(f"{name:34} {seconds:8.3f} s {seconds / lines * 1e6:10.1f} us a line {peak:8.1f} MiB")
-    return seconds
+    best, peak = min(took([PROGRAM, "run"], script) for _ in range(TURNS))
+    print(f"{name:44} {best:8.3f} s {best / lines * 1e6:10.1f} us a line {peak:8.1f} MiB")
+    return best
+
+
+def beside_plain(folder, game):
+    """The least seconds of the program and of the plain one on the script, run in turn, and the ratio in each turn."""
+    plain = os.path.join(folder, "plain_lines")
+    subprocess.run(["cc", "-O2", "-o", plain, os.path.join(ROOT, "bench", "plain_lines.c")], check=True)
+    lengths = os.path.join(folder, "lengths")
+    with open(lengths, "w") as file:
+        file.writelines(f"{len(answer) - 1}\n" for answer in game.answers)
+    script = b"".join(game.lines)
+    told = subprocess.run([plain, lengths], input=script, check=True, stdout=subprocess.PIPE).stdout
+    if [len(line) for line in told.splitlines(keepends=True)] != [len(answer) for answer in game.answers]:
+        sys.exit("the plain program writes other lines")
+    turns = [[took(command, script)[0] for command in ([PROGRAM, "run"], [plain, lengths])] for _ in range(TURNS)]
+    best = [min(turn[i] for turn in turns) for i in range(2)]
+    print(f"{'  the program, and the plain one':44} {best[0]:8.3f} s {best[1]:8.3f} s")
+    print(f"  ratio {best[0] / best[1]:.2f}; in turn " + ", ".join(f"{ours / other:.2f}" for ours, other in turns))
 
 
 def main():
-    numbers = [int(word) for word in sys.argv[1:]] + [2_000, 20, 10][len(sys.argv) - 1:]
-    lines, searches, suspects = numbers
-    script = script_of(lines, searches, suspects)
+    numbers = [int(word) for word in sys.argv[1:]] + [20_000, 2_000, 10, 100][len(sys.argv) - 1:]
+    lines, searches, least, most = numbers
+    game = play(lines, searches, least, most)
+    script = b"".join(game.lines)
     refused = script.replace(b'"do":"', b'"do":"not ')
     shown = b'{"at":86400000,"do":"farm"}\n' * lines
-    whole = report(f"{lines} lines, {searches} searches of {suspects}", script, lines)
+    print(f"{len(script)} bytes in, {sum(map(len, game.answers))} bytes out")
+    whole = report(f"{lines} lines, {searches} searches of {least} to {most}", script, lines)
+    with tempfile.TemporaryDirectory() as folder:
+        beside_plain(folder, game)
     read = report("the same lines, read and refused", refused, lines)
     printed = report("pages of an empty farm", shown, lines)
     print(f"reading and printing are about {100 * max(read, printed) / whole:.0f} % of it")
