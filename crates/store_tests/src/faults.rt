@@ -1,7 +1,6 @@
 //! A fault at each call of a disk in turn, and what the images of a crash then hold.
-use crate::commands::ask_of;
 use crate::images::held_in_images;
-use crate::plays::founding;
+use crate::plays::{founding, push_ask};
 use crate::words::bytes_of;
 use farm_disk::{CalmDisk, Disk, DiskFail, MemDisk};
 use farm_entry::Entry;
@@ -24,7 +23,7 @@ fn ask_all<D: Disk>(
     let mut number: u32 = 0;
     for text in script.split(' ') {
         number = number.saturating_add(1);
-        asks.push(ask_of(alloc, text, number)?)?;
+        push_ask(alloc, &mut asks, text, number)?;
         if !batches || asks.len() == 3 {
             if !is_answered(alloc, store, &asks) {
                 return Ok(());
@@ -70,8 +69,11 @@ fn play_with_fault(
     let disk = MemDisk::of(bytes_of(alloc, file), fails);
     match Store::found(alloc, disk, settings, at) {
         Ok(mut store) => {
-            ask_all(alloc, &mut store, script, batches)?;
-            Ok((store.history().len(), store.into_disk()))
+            let asked = ask_all(alloc, &mut store, script, batches);
+            let entries = store.history().len();
+            let disk = store.into_disk();
+            asked?;
+            Ok((entries, disk))
         }
         Err((disk, _)) => Ok((0, disk)),
     }
@@ -95,6 +97,47 @@ fn holds(
     }
 }
 
+/// The same where one call failed with no byte, one and all bytes kept: whether all of it holds, and whether the call failed.
+fn all_hold(
+    alloc: Global,
+    file: &str,
+    script: &str,
+    batches: bool,
+    call: u64,
+    whole: &[Entry],
+) -> Result<(bool, bool), AllocError> {
+    let mut good = true;
+    let mut failed = true;
+    for kept in [0, 1, u32::MAX] {
+        let (held, did) = holds(alloc, file, script, batches, DiskFail { call, kept }, whole)?;
+        good = good && held;
+        failed = failed && did;
+    }
+    Ok((good, failed))
+}
+
+/// Plays a script with a fault at each call in turn, by its whole history.
+fn play_each(
+    rt: &impl Print,
+    alloc: Global,
+    batches: bool,
+    file: &str,
+    script: &str,
+    whole: &[Entry],
+) -> io::Result<()> {
+    for call in 1..MOST_CALLS {
+        let (good, failed) = all_hold(alloc, file, script, batches, call, whole)?;
+        if !good {
+            return println!(rt; "call {call}: not held");
+        }
+        if !failed {
+            let entries = whole.len();
+            return println!(rt; "entries {entries}, each held at each of the calls before {call}");
+        }
+    }
+    println!(rt; "more calls")
+}
+
 /// Lets each call of a disk with these bytes fail in turn while a store is founded on it and asked a script, with no
 /// byte, one and all bytes kept, until none fails. Prints how many calls there are, and the number of the first one
 /// after which an image is no beginning of the whole history or lacks an entry whose reply came, or else that all
@@ -107,36 +150,5 @@ pub(crate) fn play_faults(
     script: &str,
 ) -> io::Result<()> {
     let store = whole_store(alloc, script, batches)?;
-    let whole = store.history();
-    for call in 1..MOST_CALLS {
-        let none = holds(
-            alloc,
-            file,
-            script,
-            batches,
-            DiskFail { call, kept: 0 },
-            whole,
-        )?;
-        let one = holds(
-            alloc,
-            file,
-            script,
-            batches,
-            DiskFail { call, kept: 1 },
-            whole,
-        )?;
-        let all = DiskFail {
-            call,
-            kept: u32::MAX,
-        };
-        let all = holds(alloc, file, script, batches, all, whole)?;
-        if !none.0 || !one.0 || !all.0 {
-            return println!(rt; "call {call}: not held");
-        }
-        if !none.1 {
-            let entries = whole.len();
-            return println!(rt; "entries {entries}, each held at each of the calls before {call}");
-        }
-    }
-    println!(rt; "more calls")
+    play_each(rt, alloc, batches, file, script, store.history())
 }

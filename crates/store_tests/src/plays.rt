@@ -3,7 +3,7 @@ use crate::commands::ask_of;
 use crate::images::held_in_images;
 use crate::words::{bytes_of, fails_of};
 use farm_disk::{CalmDisk, Disk, MemDisk};
-use farm_entry::{Reply, Settings};
+use farm_entry::{Entry, Reply, Settings};
 use farm_journal::Journal;
 use farm_store::{Answer, Ask, CallFault, MAX_BATCH, Store};
 use farm_types::Moment;
@@ -119,22 +119,78 @@ fn image_of(disk: &MemDisk) -> Result<Vec<u8>, AllocError> {
     }
 }
 
-/// Prints what the file of a store holds: its payloads, its entries, and those of the images of a crash.
-fn print_held(rt: &impl Print, alloc: Global, disk: MemDisk) -> io::Result<()> {
-    let Ok(store) = Store::open_on(alloc, CalmDisk::of(image_of(&disk)?)) else {
-        return println!(rt; "damaged");
-    };
-    if let Some((least, most)) = held_in_images(alloc, &disk, store.history()) {
-        print!(rt; "images {least}-{most}; ")?;
+/// Prints how many entries the images of a crash hold, where they are the first ones of a history.
+fn print_images(
+    rt: &impl Print,
+    alloc: Global,
+    disk: &MemDisk,
+    history: &[Entry],
+) -> io::Result<()> {
+    match held_in_images(alloc, disk, history) {
+        Some((least, most)) => print!(rt; "images {least}-{most}; "),
+        None => Ok(()),
     }
-    let entries = store.history().len();
-    match Journal::open_on(alloc, store.into_disk()) {
+}
+
+/// Prints how many payloads a disk with so many entries has.
+fn print_payloads(
+    rt: &impl Print,
+    alloc: Global,
+    disk: CalmDisk,
+    entries: usize,
+) -> io::Result<()> {
+    match Journal::open_on(alloc, disk) {
         Ok((_, payloads)) => {
             let payloads = payloads.len();
             println!(rt; "payloads {payloads}; entries {entries}")
         }
         Err(_) => println!(rt; ""),
     }
+}
+
+/// Prints what the file of a store holds: its payloads, its entries, and those of the images of a crash.
+fn print_held(rt: &impl Print, alloc: Global, disk: MemDisk) -> io::Result<()> {
+    match Store::open_on(alloc, CalmDisk::of(image_of(&disk)?)) {
+        Ok(store) => {
+            let printed = print_images(rt, alloc, &disk, store.history());
+            let entries = store.history().len();
+            let calm = store.into_disk();
+            printed?;
+            print_payloads(rt, alloc, calm, entries)
+        }
+        Err(_) => println!(rt; "damaged"),
+    }
+}
+
+/// Asks a word of a script by a single call, and prints the answer.
+fn print_call<D: Disk>(
+    rt: &impl Print,
+    alloc: Global,
+    store: &mut Store<D>,
+    text: &str,
+    number: u32,
+) -> io::Result<()> {
+    let ask = ask_of(alloc, text, number)?;
+    match store.call(alloc, &ask.command, ask.at) {
+        Ok(reply) => print_reply(rt, &reply)?,
+        Err(fault) => print_fault(rt, fault)?,
+    }
+    print!(rt; "; ")
+}
+
+/// Asks each word of a script, and prints the answers.
+fn print_calls<D: Disk>(
+    rt: &impl Print,
+    alloc: Global,
+    store: &mut Store<D>,
+    script: &str,
+) -> io::Result<()> {
+    let mut number: u32 = 0;
+    for text in script.split(' ') {
+        number = number.saturating_add(1);
+        print_call(rt, alloc, store, text, number)?;
+    }
+    Ok(())
 }
 
 /// Asks each word of a script by a single call over a disk of which these calls fail, and prints the answers.
@@ -144,22 +200,47 @@ pub(crate) fn play_calls(
     fails: &str,
     script: &str,
 ) -> io::Result<()> {
-    let east = fails == "east";
-    let disk = MemDisk::of(founded(alloc, east)?, fails_of(alloc, fails)?);
-    let Ok(mut store) = Store::open_on(alloc, disk) else {
-        return println!(rt; "not opened");
-    };
-    let mut number: u32 = 0;
-    for text in script.split(' ') {
-        number = number.saturating_add(1);
-        let ask = ask_of(alloc, text, number)?;
-        match store.call(alloc, &ask.command, ask.at) {
-            Ok(reply) => print_reply(rt, &reply)?,
-            Err(fault) => print_fault(rt, fault)?,
+    let disk = MemDisk::of(founded(alloc, fails == "east")?, fails_of(alloc, fails)?);
+    match Store::open_on(alloc, disk) {
+        Ok(mut store) => {
+            let printed = print_calls(rt, alloc, &mut store, script);
+            let disk = store.into_disk();
+            printed?;
+            print_held(rt, alloc, disk)
         }
-        print!(rt; "; ")?;
+        Err(_) => println!(rt; "not opened"),
     }
-    print_held(rt, alloc, store.into_disk())
+}
+
+/// Adds the ask of a word to a batch.
+pub(crate) fn push_ask(
+    alloc: Global,
+    asks: &mut Vec<Ask>,
+    text: &str,
+    number: u32,
+) -> Result<(), AllocError> {
+    asks.push(ask_of(alloc, text, number)?)?;
+    Ok(())
+}
+
+/// Asks each list of words of a script as a batch, and prints the answers.
+fn print_batches<D: Disk>(
+    rt: &impl Print,
+    alloc: Global,
+    store: &mut Store<D>,
+    script: &str,
+) -> io::Result<()> {
+    let mut number: u32 = 0;
+    let mut asks = Vec::new(alloc);
+    for texts in script.split(' ') {
+        asks.clear();
+        for text in texts.split('+') {
+            number = number.saturating_add(1);
+            push_ask(alloc, &mut asks, text, number)?;
+        }
+        ask_batch(rt, alloc, store, &asks)?;
+    }
+    Ok(())
 }
 
 /// Asks each word of a script, a list of words with `+` between being a batch, and prints the answers.
@@ -170,17 +251,13 @@ pub(crate) fn play_batches(
     script: &str,
 ) -> io::Result<()> {
     let disk = MemDisk::of(founded(alloc, false)?, fails_of(alloc, fails)?);
-    let Ok(mut store) = Store::open_on(alloc, disk) else {
-        return println!(rt; "not opened");
-    };
-    let mut number: u32 = 0;
-    for texts in script.split(' ') {
-        let mut asks = Vec::new(alloc);
-        for text in texts.split('+') {
-            number = number.saturating_add(1);
-            asks.push(ask_of(alloc, text, number)?)?;
+    match Store::open_on(alloc, disk) {
+        Ok(mut store) => {
+            let printed = print_batches(rt, alloc, &mut store, script);
+            let disk = store.into_disk();
+            printed?;
+            print_held(rt, alloc, disk)
         }
-        ask_batch(rt, alloc, &mut store, &asks)?;
+        Err(_) => println!(rt; "not opened"),
     }
-    print_held(rt, alloc, store.into_disk())
 }
