@@ -8,7 +8,7 @@
 //!
 //! What is kept for the history and for what may be committed next is kept once, by `kept_farm`: where an entry was
 //! made ready, its look-ups, its search and its totals are carried on with it, so that a commit moves one number. What was
-//! made ready and not committed is taken away again by the next call that needs the room.
+//! made ready and not committed is taken away again by the next `prepare`, `admit` or `retract`.
 //!
 //! It stands on `kept_farm` for what is kept, on `kept_decisions` for what a command comes to, on `farm_entry` for the
 //! types and the definitions of the farm, and on `farm_types` for moments and want of memory. The layer above may use

@@ -15,12 +15,16 @@ use std::rt::Files;
 /// that its name in its folder outlasts a crash isn't claimed. Nobody else may write to it.
 ///
 /// A call that a signal interrupts is made again, and one that moves a part of the bytes goes on. Each other error is
-/// counted as a fault, and so is a call outside the size, a folder in place of the file, and a missing folder.
+/// counted as a fault, and so is a call outside the size, a folder in place of the file, and a missing folder. The size is
+/// kept between the calls, so that a write asks the system for nothing else: it is asked anew by [`Disk::size`], and
+/// by the first call after an error.
 #[derive(Drop)]
 pub struct FileDisk<R: Files<File = File> + Drop> {
     rt: R,
     path: String,
     file: Option<File>,
+    // The size of the open file, where a call has told it and none has failed since.
+    size: Option<u64>,
     faults: u64,
 }
 
@@ -31,6 +35,7 @@ impl<R: Files<File = File> + Drop> FileDisk<R> {
             rt,
             path: String::from_str(alloc, path)?,
             file: None,
+            size: None,
             faults: 0,
         })
     }
@@ -69,20 +74,36 @@ impl<R: Files<File = File> + Drop> FileDisk<R> {
         }
     }
 
+    // Asks the system for the size.
     fn size_now(&mut self) -> io::Result<u64>
         ensures { self.new.faults ≡ self.old.faults }
     {
+        self.size = None;
         self.open(false)?;
         match &self.file {
-            Some(file) => Ok(file.metadata()?.len()),
+            Some(file) => {
+                let size = file.metadata()?.len();
+                self.size = Some(size);
+                Ok(size)
+            }
             None => Ok(0),
+        }
+    }
+
+    // The size that is known, or else what the system says.
+    fn size_kept(&mut self) -> io::Result<u64>
+        ensures { self.new.faults ≡ self.old.faults }
+    {
+        match self.size {
+            Some(size) => Ok(size),
+            None => self.size_now(),
         }
     }
 
     fn read_now(&mut self, at: u64, buf: &mut [u8]) -> io::Result<()>
         ensures { self.new.faults ≡ self.old.faults }
     {
-        let size = self.size_now()?;
+        let size = self.size_kept()?;
         within(at.saturating_add(buf.len() as u64), size)?;
         match &self.file {
             Some(file) => file.read_exact_at(buf, at),
@@ -93,11 +114,16 @@ impl<R: Files<File = File> + Drop> FileDisk<R> {
     fn write_now(&mut self, at: u64, bytes: &[u8]) -> io::Result<()>
         ensures { self.new.faults ≡ self.old.faults }
     {
-        let size = self.size_now()?;
+        let size = self.size_kept()?;
         within(at, size)?;
         self.open(true)?;
+        self.size = None;
         match &self.file {
-            Some(file) => file.write_all_at(bytes, at),
+            Some(file) => {
+                file.write_all_at(bytes, at)?;
+                self.size = Some(at.saturating_add(bytes.len() as u64).max(size));
+                Ok(())
+            }
             None => Ok(()),
         }
     }
@@ -105,10 +131,15 @@ impl<R: Files<File = File> + Drop> FileDisk<R> {
     fn cut_now(&mut self, size: u64) -> io::Result<()>
         ensures { self.new.faults ≡ self.old.faults }
     {
-        let present = self.size_now()?;
+        let present = self.size_kept()?;
         within(size, present)?;
+        self.size = None;
         match &self.file {
-            Some(file) => file.set_len(size),
+            Some(file) => {
+                file.set_len(size)?;
+                self.size = Some(size);
+                Ok(())
+            }
             None => Ok(()),
         }
     }

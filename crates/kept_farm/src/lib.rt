@@ -1,5 +1,5 @@
-//! A farm as it is kept: a legal history, and beside it all that a farm is asked for, so that each answer is looked up and
-//! not searched for.
+//! A farm as it is kept: a legal history, and beside it what a farm is asked for, so that each answer is looked up and
+//! not searched for. Only the list of all orders is made by going through the history.
 //!
 //! Contracts see a [`KeptFarm`] as the history, a list of entries, and each look-up as the definition of the farm that it
 //! answers. An entry more costs what it changes, and the last one can be taken away again, which takes no memory.
