@@ -2,13 +2,16 @@
 """Times single lines of a script: for each kind `run` is timed on a script that leads up to such lines, and on the same
 script with the lines behind it. Prints the difference, in microseconds a line.
 
-    bench/line_costs.py [LINES [SEARCHES]]        20000 lines of each kind, over 2000 searches, if not said
+    bench/line_costs.py [--instructions] [LINES [SEARCHES]]        20000 lines of each kind, over 2000 searches, if
+                                                                   not said
 
-Run it after `./finder build`. The two scripts are run in turn, and each has the least of its times. All lines of a kind
-but the refused ones record an entry. What reading a line and printing its reply take is in each number; the last kind,
+Run it after `./finder build`. The two scripts are run in turn, and each has the least of its times. With --instructions
+the processor's instructions are counted by valgrind in place of the time, so that nothing is lost in noise. All lines of
+a kind but the refused ones record an entry. What reading a line and printing its reply take is in each number; the last kind,
 pages of an empty farm, has nearly that alone.
 """
 import json
+import re
 import subprocess
 import sys
 
@@ -88,6 +91,20 @@ def cost(before, lines):
     return (least[1] - least[0]) / len(lines)
 
 
+def counted(script):
+    """How many instructions the program runs for a script."""
+    command = ["valgrind", "--tool=callgrind", "--callgrind-out-file=/dev/null", run.PROGRAM, "run"]
+    ran = subprocess.run(command, input=script, check=True, stdout=subprocess.DEVNULL, stderr=subprocess.PIPE)
+    return int(re.search(rb"Collected : (\d+)", ran.stderr)[1])
+
+
+def instructions(before, lines):
+    """The instructions that the lines take, a line."""
+    scripts = [b"".join(before), b"".join(before + lines)]
+    without, whole = [counted(script) for script in scripts]
+    return (whole - without) / len(lines)
+
+
 def told(before, lines):
     """The last answer, so that it is seen what was timed."""
     script = b"".join(before + lines)
@@ -96,9 +113,13 @@ def told(before, lines):
 
 
 def main():
-    count, searches = [int(word) for word in sys.argv[1:]] + [20_000, 2_000][len(sys.argv) - 1:]
+    words = sys.argv[1:]
+    counts = words[:1] == ["--instructions"]
+    numbers = [int(word) for word in words[counts:]]
+    count, searches = numbers + [20_000, 2_000][len(numbers):]
     for name, before, lines in kinds(count, searches):
-        print(f"{name:56} {cost(before, lines) * 1e6:10.2f} us a line   {told(before, lines)}", flush=True)
+        took = f"{instructions(before, lines):10.0f} instructions" if counts else f"{cost(before, lines) * 1e6:10.2f} us"
+        print(f"{name:56} {took} a line   {told(before, lines)}", flush=True)
 
 
 if __name__ == "__main__":
