@@ -1,64 +1,90 @@
-//! A call of `finder` over inputs and outputs in memory.
+//! A call of `finder` over an input, an output and a disk in memory.
 
+use crate::output::{Output, Stop};
 use farm_disk::CalmDisk;
 use farm_types::{MOMENT_MIN_MS, Moment};
 use finder_program::{Status, finder};
-use link_io::{MemClock, MemSink, MemSource};
+use link_io::{MemClock, MemSource};
 use std::alloc::{AllocError, Global};
 
-/// How a call ended, and what it wrote.
+/// What a call is given: its words, with a space between two of them; the input, in pieces of a size, where 0 is no
+/// bound, of which the take with a number fails, where 0 is none; the journal; and where the output stops.
+#[derive(Clone, Copy)]
+pub(crate) struct Call<'a> {
+    pub(crate) words: &'a str,
+    pub(crate) input: &'a [u8],
+    pub(crate) piece: usize,
+    pub(crate) fails: u64,
+    pub(crate) journal: &'a [u8],
+    pub(crate) stop: Stop,
+}
+
+/// A call with these words over this input and this journal, where nothing fails.
+pub(crate) fn calm_call<'a>(words: &'a str, input: &'a [u8], journal: &'a [u8]) -> Call<'a> {
+    Call {
+        words,
+        input,
+        piece: 0,
+        fails: 0,
+        journal,
+        stop: Stop {
+            at: 0,
+            wants_memory: false,
+        },
+    }
+}
+
+/// How a call ended, what it wrote, and the journal afterwards.
 #[derive(Drop)]
-pub struct Played {
-    pub status: Status,
-    pub written: Vec<u8>,
+pub(crate) struct Played {
+    pub(crate) status: Status,
+    pub(crate) written: Vec<u8>,
+    pub(crate) journal: Vec<u8>,
+}
+
+impl Played {
+    /// Whether two calls came to the same.
+    pub(crate) fn is_like(&self, other: &Played) -> bool {
+        self.status == other.status
+            && self.written == other.written
+            && self.journal == other.journal
+    }
+
+    /// What was written, as text.
+    pub(crate) fn text(&self) -> &str {
+        std::str::from_utf8(&self.written).unwrap_or("no text")
+    }
 }
 
 /// A clock that stands at the first moment that there is.
-pub fn first_moment() -> MemClock {
+fn first_moment() -> MemClock {
     match Moment::of(MOMENT_MIN_MS) {
         Ok(at) => MemClock::at(at),
         Err(_) => unreachable!(),
     }
 }
 
-/// The words of a subcommand that takes no further word.
-pub fn words_of(alloc: Global, word: &str) -> Result<Vec<String>, AllocError> {
+fn words_of(alloc: Global, line: &str) -> Result<Vec<String>, AllocError> {
     let mut words = Vec::new(alloc);
-    words.push(String::from_str(alloc, word)?)?;
+    for word in line.split(' ') {
+        words.push(String::from_str(alloc, word)?)?;
+    }
     Ok(words)
 }
 
-/// Calls a subcommand over an input that is given in pieces of this size, where 0 is no bound.
-pub fn play(alloc: Global, word: &str, input: &[u8], piece: usize) -> Result<Played, AllocError> {
-    let bytes = Vec::from_slice(alloc, input)?;
-    play_source(
-        alloc,
-        word,
-        MemSource::in_pieces(bytes, vec![in alloc; piece]?, Vec::new(alloc)),
-    )
+fn source_of(alloc: Global, call: Call) -> Result<MemSource, AllocError> {
+    let bytes = Vec::from_slice(alloc, call.input)?;
+    let pieces = vec![in alloc; call.piece]?;
+    Ok(MemSource::in_pieces(bytes, pieces, vec![in alloc; call.fails]?))
 }
 
-/// The same, where the take with this number fails.
-pub fn play_with_fault(
-    alloc: Global,
-    word: &str,
-    input: &[u8],
-    piece: usize,
-    fails: u64,
-) -> Result<Played, AllocError> {
-    let bytes = Vec::from_slice(alloc, input)?;
-    play_source(
-        alloc,
-        word,
-        MemSource::in_pieces(bytes, vec![in alloc; piece]?, vec![in alloc; fails]?),
-    )
-}
-
-fn play_source(alloc: Global, word: &str, mut input: MemSource) -> Result<Played, AllocError> {
-    let words = words_of(alloc, word)?;
-    let mut output = MemSink::of(alloc, Vec::new(alloc));
-    let disk = CalmDisk::of(Vec::new(alloc));
-    let (status, _) = finder(
+/// Makes a call.
+pub(crate) fn play(alloc: Global, call: Call) -> Result<Played, AllocError> {
+    let words = words_of(alloc, call.words)?;
+    let mut input = source_of(alloc, call)?;
+    let mut output = Output::of(alloc, call.stop);
+    let disk = CalmDisk::of(Vec::from_slice(alloc, call.journal)?);
+    let (status, disk) = finder(
         alloc,
         &words,
         &mut input,
@@ -68,6 +94,7 @@ fn play_source(alloc: Global, word: &str, mut input: MemSource) -> Result<Played
     );
     Ok(Played {
         status,
-        written: Vec::from_slice(alloc, output.bytes())?,
+        written: output.bytes,
+        journal: Vec::from_slice(alloc, disk.bytes())?,
     })
 }
