@@ -2,23 +2,33 @@
 """Times single lines of a script: for each kind `run` is timed on a script that leads up to such lines, and on the same
 script with the lines behind it. Prints the difference, in microseconds a line.
 
-    bench/line_costs.py [--instructions] [LINES [SEARCHES]]        20000 lines of each kind, over 2000 searches, if
-                                                                   not said
+    bench/line_costs.py [--instructions | --farm] [LINES [SEARCHES]]        20000 lines of each kind, over 2000
+                                                                            searches, if not said
 
 Run it after `./finder build`. The two scripts are run in turn, and each has the least of its times. With --instructions
-the processor's instructions are counted by valgrind in place of the time, so that nothing is lost in noise. All lines of
-a kind but the refused ones record an entry. What reading a line and printing its reply take is in each number; the last kind,
+the processor's instructions are counted by valgrind in place of the time, so that nothing is lost in noise. With --farm
+the time is that in the functions of the farm's crates alone, by perf's samples: without reading and printing, and
+without the memory that they ask for. All lines of a kind but the refused ones record an entry. What reading a line and printing its reply take is in each number; the last kind,
 pages of an empty farm, has nearly that alone.
 """
 import json
 import re
 import subprocess
 import sys
+import tempfile
 
 import run
 
 START = 1_795_770_000_000
 LEASE_MS = 60_000
+# The crates between the lines and the journal.
+FARM = (
+    "farm_core kept_decisions kept_farm farm_ledger farm_turns farm_state farm_books plain_history search_state posterior "
+    "threshold_pick run_plan verify_flow lease_book report_inbox active_order revert_orders weight_exact suspect_range"
+).split()
+# How many samples perf takes in a second, and of how many runs of a script.
+SAMPLES = 10_000
+SAMPLED = 10
 # How many reports change the weights of one search.
 FAILS = 25
 
@@ -105,6 +115,27 @@ def instructions(before, lines):
     return (whole - without) / len(lines)
 
 
+def in_farm(script):
+    """The seconds that the program spends in the farm's crates for a script."""
+    samples = 0
+    with tempfile.TemporaryDirectory() as folder:
+        data = f"{folder}/data"
+        record = ["perf", "record", "-q", "-e", "cpu-clock", "-F", str(SAMPLES), "-o", data, run.PROGRAM, "run"]
+        for _ in range(SAMPLED):
+            subprocess.run(record, input=script, check=True, stdout=subprocess.DEVNULL, stderr=subprocess.DEVNULL)
+            shown = subprocess.run(["perf", "script", "-i", data, "-F", "ip,sym"], check=True, capture_output=True).stdout
+            crates = [line.split()[1].split(b"::")[0].decode() for line in shown.splitlines()]
+            samples += sum(crate in FARM for crate in crates)
+    return samples / SAMPLES / SAMPLED
+
+
+def farm_cost(before, lines):
+    """The seconds in the farm's crates that the lines take, a line."""
+    scripts = [b"".join(before), b"".join(before + lines)]
+    without, whole = [in_farm(script) for script in scripts]
+    return (whole - without) / len(lines)
+
+
 def told(before, lines):
     """The last answer, so that it is seen what was timed."""
     script = b"".join(before + lines)
@@ -114,11 +145,13 @@ def told(before, lines):
 
 def main():
     words = sys.argv[1:]
-    counts = words[:1] == ["--instructions"]
-    numbers = [int(word) for word in words[counts:]]
-    count, searches = numbers + [20_000, 2_000][len(numbers):]
+    how = words.pop(0) if words and words[0].startswith("--") else ""
+    count, searches = [int(word) for word in words] + [20_000, 2_000][len(words):]
     for name, before, lines in kinds(count, searches):
-        took = f"{instructions(before, lines):10.0f} instructions" if counts else f"{cost(before, lines) * 1e6:10.2f} us"
+        if how == "--instructions":
+            took = f"{instructions(before, lines):10.0f} instructions"
+        else:
+            took = f"{(farm_cost if how == '--farm' else cost)(before, lines) * 1e6:10.3f} us"
         print(f"{name:56} {took} a line   {told(before, lines)}", flush=True)
 
 
