@@ -1,37 +1,57 @@
 //! Lists of items.
 
-use crate::ids::id;
-use farm_types::Name;
+use crate::ranges::{print_suspect, print_suspects, suspects};
+use crate::texts::word;
+use farm_types::{Name, NameFault};
 use item_list::ItemList;
-use std::test::Fail;
+use std::alloc::Global;
+use std::io;
 use suspect_range::Suspect;
 
-#[test]
-fn a_list_is_its_items(rt: HostRuntime) -> Result<(), Fail> {
-    let first = Suspect {
-        commit: id(1),
-        weight: 1,
-    };
-    let second = Suspect {
-        commit: id(2),
-        weight: 65_536,
-    };
-    let suspects = ItemList::of(vec![in rt.alloc(); first, second]?);
-    assert_eq!(rt; suspects.len(), 2);
-    assert!(rt; !suspects.is_empty());
-    assert_eq!(rt; [*suspects.at(0), *suspects.at(1)], [first, second]);
-    assert_eq!(rt; suspects.as_slice(), [first, second].as_slice());
-    assert_ne!(rt; suspects, ItemList::of(vec![in rt.alloc(); second, first]?));
-    assert_eq!(rt; suspects.into_vec().as_slice(), [first, second].as_slice());
-    Ok(())
+fn print_each(rt: &impl Print, list: &ItemList<Suspect>) -> io::Result<()> {
+    for index in 0..list.len() {
+        print_suspect(rt, list.at(index))?;
+    }
+    println!(rt; "and no more, empty {}", list.is_empty())
 }
 
-#[test]
-fn a_list_of_values_that_own_memory_is_compared_by_them(rt: HostRuntime) -> Result<(), Fail> {
-    let names = ItemList::of(vec![in rt.alloc(); Name::of(rt.alloc(), "worker-1")?]?);
-    let same = ItemList::of(vec![in rt.alloc(); Name::of(rt.alloc(), "worker-1")?]?);
-    assert_eq!(rt; names, same);
-    assert_ne!(rt; names, ItemList::of(Vec::new(rt.alloc())));
-    assert!(rt; ItemList::<u32>::of(Vec::new(rt.alloc())).is_empty());
-    Ok(())
+/// Prints a list of suspects, as its items, as a slice or as the `Vec` that it is made into.
+pub(crate) fn play_list(rt: &impl Print, alloc: Global, name: &str, text: &str) -> io::Result<()> {
+    let list = ItemList::of(suspects(alloc, text)?);
+    match name {
+        "list_as_slice" => print_suspects(rt, list.as_slice()),
+        "list_into_vec" => print_suspects(rt, &list.into_vec()),
+        _ => print_each(rt, &list),
+    }
+}
+
+/// Prints whether two lists of suspects are the same.
+pub(crate) fn print_lists(rt: &impl Print, alloc: Global, text: &str) -> io::Result<()> {
+    let (first, second) = text.split_once('/').unwrap_or((text, ""));
+    let first = ItemList::of(suspects(alloc, first)?);
+    let second = ItemList::of(suspects(alloc, second)?);
+    println!(rt; "same {}", first == second)
+}
+
+// The list of one name, and of none where the text is empty.
+fn names(alloc: Global, text: &str) -> Result<ItemList<Name>, NameFault> {
+    let mut all = Vec::new(alloc);
+    if !text.is_empty() && all.push(Name::of(alloc, text)?).is_err() {
+        return Err(NameFault::Memory);
+    }
+    Ok(ItemList::of(all))
+}
+
+/// Prints whether two lists of names are the same, each of which has one or none.
+pub(crate) fn print_name_lists(rt: &impl Print, alloc: Global, text: &str) -> io::Result<()> {
+    let (first, second) = word(text);
+    match (names(alloc, first), names(alloc, second)) {
+        (Ok(first), Ok(second)) => println!(rt; "same {}", first == second),
+        _ => println!(rt; "no names"),
+    }
+}
+
+/// Prints whether a list of no numbers is empty.
+pub(crate) fn print_numbers(rt: &impl Print, alloc: Global) -> io::Result<()> {
+    println!(rt; "empty {}", ItemList::<u32>::of(Vec::new(alloc)).is_empty())
 }
