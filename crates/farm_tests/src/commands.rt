@@ -1,0 +1,91 @@
+//! The commands of a case.
+
+use crate::texts::{commit, number_of, word};
+use farm_entry::{Command, OpenAsk, Suspects};
+use farm_types::{Key, Memory, Name};
+use std::alloc::Global;
+use suspect_range::Suspect;
+use weight_exact::Verdict;
+
+// The name with a text.
+fn name_of(alloc: Global, text: &str) -> Result<Name, Memory> {
+    match Name::of(alloc, text) {
+        Ok(name) => Ok(name),
+        Err(_) => Err(Memory),
+    }
+}
+
+// The number with these digits, and 0 where they aren't those of a small one.
+fn small(digits: &str) -> u8 {
+    digits.parse::<u8>().unwrap_or(0)
+}
+
+// Suspects of one weight, whose commits are numbered on from the first.
+fn suspects(alloc: Global, first: u8, count: u8, weight: u32) -> Result<Suspects, Memory> {
+    let mut suspects = Vec::new(alloc);
+    for number in 0..count {
+        suspects.push(Suspect {
+            commit: commit(first.saturating_add(number)),
+            weight,
+        })?;
+    }
+    Ok(Suspects::of(suspects))
+}
+
+// Opens a search among suspects of one weight, above commit 0: with a calm weight of 1, a flake rate of 1/10, no misses, a
+// bar of 9/10, one run at a time and one rerun on each side.
+fn open(alloc: Global, key: Key, text: &str) -> Result<Command, Memory> {
+    let (first, rest) = word(text);
+    let (count, weight) = word(rest);
+    let suspects = suspects(alloc, small(first), small(count), number_of(weight))?;
+    let test = name_of(alloc, "t")?;
+    Ok(Command::Open(OpenAsk {
+        key,
+        test,
+        base: commit(0),
+        suspects,
+        calm: 1,
+        rate: (1, 10),
+        miss: (0, 1),
+        bar: (9, 10),
+        width: 1,
+        reruns: 1,
+    }))
+}
+
+fn report(text: &str) -> Command {
+    let (run, verdict) = word(text);
+    let run = number_of(run);
+    if verdict == "fail" {
+        Command::Report {
+            run,
+            verdict: Verdict::Fail,
+        }
+    } else {
+        Command::Report {
+            run,
+            verdict: Verdict::Pass,
+        }
+    }
+}
+
+/// The command of a line, with this key where it has one.
+pub(crate) fn command_of(
+    alloc: Global,
+    key: Key,
+    name: &str,
+    rest: &str,
+) -> Result<Command, Memory> {
+    match name {
+        "open" => open(alloc, key, rest),
+        "lease" => Ok(Command::Lease {
+            key,
+            worker: name_of(alloc, "w")?,
+        }),
+        "report" => Ok(report(rest)),
+        _ => Ok(Command::TakeRevert {
+            key,
+            agent: name_of(alloc, "agent")?,
+        }),
+    }
+}
