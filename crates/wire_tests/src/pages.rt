@@ -1,0 +1,91 @@
+//! The text of each reply that shows something.
+
+use crate::replies::print_reply;
+use crate::texts::{commit_of, name_of, number_at, number_of, standing_of, word_at};
+use farm_entry::{OrderLine, OrderPage, Reply, SearchPage, Shares, Totals};
+use farm_types::{CommitId, Memory, Name};
+use std::alloc::Global;
+use std::io;
+
+fn shares_of(alloc: Global, text: &str) -> Result<Shares, Memory> {
+    let mut shares = Vec::new(alloc);
+    for share in text.split(' ') {
+        shares.push(number_of(share))?;
+    }
+    Ok(Shares::of(shares))
+}
+
+/// Prints the page of a search of the test `t`: its search, budget, leases, runs counted and verified, standing and
+/// commit, and its shares behind a slash.
+pub(crate) fn print_page(rt: &impl Print, alloc: Global, text: &str) -> io::Result<()> {
+    let (numbers, shares) = text.split_once(" / ").unwrap_or((text, ""));
+    match (name_of(alloc, "t"), shares_of(alloc, shares)) {
+        (Ok(test), Ok(shares)) => {
+            let page = SearchPage {
+                search: number_at(numbers, 0),
+                test,
+                budget: number_at(numbers, 1),
+                leases: number_at(numbers, 2),
+                counted: number_at(numbers, 3),
+                verified: number_at(numbers, 4),
+                standing: standing_of(word_at(numbers, 5)),
+                commit: commit_of(word_at(numbers, 6)),
+                shares,
+            };
+            print_reply(rt, alloc, &Reply::Search(page))
+        }
+        _ => println!(rt; "out of memory"),
+    }
+}
+
+/// Prints the totals of a farm, in the order of their fields.
+pub(crate) fn print_totals(rt: &impl Print, alloc: Global, text: &str) -> io::Result<()> {
+    let totals = Totals {
+        entries: u64::from(number_at(text, 0)),
+        searches: u64::from(number_at(text, 1)),
+        searching: u64::from(number_at(text, 2)),
+        verifying: u64::from(number_at(text, 3)),
+        confirmed: u64::from(number_at(text, 4)),
+        ended: u64::from(number_at(text, 5)),
+        counted: u64::from(number_at(text, 6)),
+        orders: u64::from(number_at(text, 7)),
+    };
+    print_reply(rt, alloc, &Reply::Farm(totals))
+}
+
+/// Prints the page of no orders.
+pub(crate) fn print_no_orders(rt: &impl Print, alloc: Global) -> io::Result<()> {
+    print_reply(rt, alloc, &Reply::Orders(OrderPage::of(Vec::new(alloc))))
+}
+
+// Prints the page of the first order, on day 1.
+fn print_first(
+    rt: &impl Print,
+    alloc: Global,
+    agent: Name,
+    commit: CommitId,
+    search: u32,
+) -> io::Result<()> {
+    let line = OrderLine {
+        order: 1,
+        agent,
+        commit,
+        search,
+        day: 1,
+    };
+    match vec![in alloc; line] {
+        Ok(lines) => print_reply(rt, alloc, &Reply::Orders(OrderPage::of(lines))),
+        Err(_) => println!(rt; "out of memory"),
+    }
+}
+
+/// Prints the page of one order, the first, on day 1: its agent, commit and search.
+pub(crate) fn print_order(rt: &impl Print, alloc: Global, text: &str) -> io::Result<()> {
+    match (
+        name_of(alloc, word_at(text, 0)),
+        commit_of(word_at(text, 1)),
+    ) {
+        (Ok(agent), Some(commit)) => print_first(rt, alloc, agent, commit, number_at(text, 2)),
+        _ => println!(rt; "no order"),
+    }
+}
