@@ -1,93 +1,51 @@
 //! Which position is due.
 
+use crate::texts::{count_of, position_of, positions, word};
 use run_plan::{due_search, due_verify};
-use std::process::Abort;
-use std::test::Fail;
+use std::alloc::Global;
+use std::io;
 
-#[test]
-fn a_search_of_width_8_goes_down_its_plan(rt: HostRuntime) -> Result<(), Fail> {
-    // Two suspects: each stands in the plan four times. What is out, and what is due.
-    let plan = [1, 1, 1, 1, 2, 2, 2, 2];
-    let worked: [(&[u16], Option<u16>); 9] = [
-        (&[], Some(1)),
-        (&[1], Some(1)),
-        (&[1, 1, 1], Some(1)),
-        (&[1, 1, 1, 1], Some(2)),
-        (&[2, 1, 2, 1, 2], Some(1)),
-        (&[2, 2, 2, 2], Some(1)),
-        (&[1, 1, 1, 1, 2, 2, 2], Some(2)),
-        (&[1, 1, 1, 1, 2, 2, 2, 2], None),
-        (&[2, 2, 2, 2, 2, 2, 2, 2], None),
-    ];
-    for (outstanding, due) in worked {
-        assert_eq!(rt; due_search(&plan, outstanding), due, "with {outstanding:?}");
-    }
-    Ok(())
+// The texts of two lists with a slash between them.
+fn lists(text: &str) -> (&str, &str) {
+    let (first, second) = text.split_once('/').unwrap_or((text, ""));
+    (first.trim(), second.trim())
 }
 
-#[test]
-fn a_run_strikes_one_entry_of_the_plan(rt: HostRuntime) -> Result<(), Fail> {
-    // A plan, what is out, and what is due.
-    let worked: [(&[u16], &[u16], Option<u16>); 8] = [
-        (&[1, 2, 4], &[1], Some(2)),
-        // Two runs at one position, and one entry there: the second strikes nothing, and an entry is struck once.
-        (&[2, 3, 5], &[2, 2], Some(3)),
-        (&[2, 2, 5], &[2, 2], Some(5)),
-        (&[2, 2, 5], &[5, 2], Some(2)),
-        (&[3, 2, 3], &[3], Some(2)),
-        // A run at a position that the plan no longer has strikes nothing, and takes up room.
-        (&[2, 3], &[7], Some(2)),
-        (&[2], &[7], None),
-        (&[], &[], None),
-    ];
-    for (plan, outstanding, due) in worked {
-        assert_eq!(rt;
-            due_search(plan, outstanding),
-            due,
-            "{plan:?} with {outstanding:?}"
-        );
+/// Prints what is due of a plan, with what is out behind a slash.
+pub(crate) fn print_due(rt: &impl Print, alloc: Global, text: &str) -> io::Result<()> {
+    let (plan, out) = lists(text);
+    match (positions(alloc, plan), positions(alloc, out)) {
+        (Ok(plan), Ok(out)) => println!(rt; "{:?}", due_search(&plan, &out)),
+        _ => println!(rt; "out of memory"),
     }
-    Ok(())
 }
 
-#[test]
-fn more_than_255_runs_are_counted(rt: HostRuntime) -> Result<(), Fail> {
-    let plan = [4; 302];
-    let outstanding = [4; 301];
-    assert_eq!(rt; due_search(&plan, &outstanding), Some(4));
-    assert_eq!(rt; due_search(&outstanding, &plan), None);
-    assert_eq!(rt; due_search(&plan, &[5; 301]), Some(4));
-    let far_ahead = [4; 257];
-    assert_eq!(rt; due_verify(4, 0, 0, &far_ahead, 8), Some(3));
-    assert_eq!(rt; due_verify(5, 8, 0, &far_ahead, 8), None);
-    assert_eq!(rt; due_verify(4, 255, 0, &far_ahead, 255), Some(3));
-    Ok(())
+fn print_rerun(rt: &impl Print, text: &str, out: &[u16]) -> io::Result<()> {
+    let (culprit, rest) = word(text);
+    let (at_culprit, rest) = word(rest);
+    let (at_parent, reruns) = word(rest);
+    let culprit = position_of(culprit);
+    if culprit == 0 {
+        return println!(rt; "no culprit");
+    }
+    println!(rt;
+        "{:?}",
+        due_verify(
+            culprit,
+            count_of(at_culprit),
+            count_of(at_parent),
+            out,
+            count_of(reruns)
+        )
+    )
 }
 
-#[test]
-fn the_culprit_is_rerun_before_its_parent(rt: HostRuntime) -> Result<(), Fail> {
-    // Reruns counted at the culprit, 3, and at its parent, 2; what is out; reruns asked for; and what is due.
-    let worked: [(u8, u8, &[u16], u8, Option<u16>); 10] = [
-        (0, 0, &[], 1, Some(3)),
-        (0, 0, &[3], 1, Some(2)),
-        (0, 0, &[2], 1, Some(3)),
-        (0, 0, &[2, 3], 1, None),
-        (1, 0, &[3], 2, Some(2)),
-        (1, 1, &[3, 2], 2, None),
-        (0, 2, &[3], 2, Some(3)),
-        (2, 1, &[], 2, Some(2)),
-        // Runs at other positions don't count.
-        (1, 0, &[1, 4, 4], 2, Some(3)),
-        (0, 0, &[], 0, None),
-    ];
-    for (at_culprit, at_parent, outstanding, reruns, due) in worked {
-        assert_eq!(rt;
-            due_verify(3, at_culprit, at_parent, outstanding, reruns),
-            due,
-            "{at_culprit} and {at_parent} of {reruns} with {outstanding:?}"
-        );
+/// Prints which rerun is due: of a culprit, the reruns counted at it and at its parent, those asked for, and what is out
+/// behind a slash.
+pub(crate) fn print_due_rerun(rt: &impl Print, alloc: Global, text: &str) -> io::Result<()> {
+    let (counts, out) = lists(text);
+    match positions(alloc, out) {
+        Ok(out) => print_rerun(rt, counts, &out),
+        Err(fault) => println!(rt; "{fault}"),
     }
-    // The parent of the first suspect is the base.
-    assert_eq!(rt; due_verify(1, 1, 0, &[], 1), Some(0));
-    Ok(())
 }
