@@ -1,0 +1,175 @@
+//! Requests: searches of each kind of end and outside each limit, and leases.
+
+use crate::dice::Dice;
+use farm_entry::{Command, OpenAsk, Suspects};
+use farm_types::{CommitId, Key, Memory, Name};
+use std::alloc::Global;
+use suspect_range::Suspect;
+
+/// The numbers of a search. The commits of its suspects are numbered on from the first, and all have one weight.
+#[derive(Clone, Copy)]
+pub(crate) struct Shape {
+    base: u32,
+    first: u32,
+    count: u32,
+    weight: u32,
+    calm: u32,
+    rate: (u32, u32),
+    miss: (u32, u32),
+    bar: (u32, u32),
+    width: u32,
+    reruns: u32,
+}
+
+/// Two suspects of weight 1, with a calm weight of 1, a flake rate of 1/10, no misses, a bar of 9/10, one run at a time
+/// and one rerun on each side.
+pub(crate) const PLAIN: Shape = Shape {
+    base: 200,
+    first: 1,
+    count: 2,
+    weight: 1,
+    calm: 1,
+    rate: (1, 10),
+    miss: (0, 1),
+    bar: (9, 10),
+    width: 1,
+    reruns: 1,
+};
+
+/// How many kinds of searches are within all limits, which are the first ones.
+pub(crate) const SOUND: u32 = 8;
+
+/// How many kinds are outside a limit.
+pub(crate) const FAULTY: u32 = 10;
+
+/// The search of a kind.
+pub(crate) fn shape_of(kind: u32, dice: &mut Dice) -> Shape {
+    let shape = Shape {
+        first: dice.below(5),
+        count: dice.below(5).saturating_add(2),
+        weight: dice.below(3).saturating_add(1),
+        bar: (8, 10),
+        width: dice.below(3).saturating_add(1),
+        reruns: dice.below(2).saturating_add(1),
+        ..PLAIN
+    };
+    match kind {
+        // Runs that hardly tell hypotheses apart, so that the budget of about a dozen is used up.
+        0 | 1 => Shape {
+            rate: (989, 1_000),
+            miss: (1, 100),
+            bar: (9_999, 10_000),
+            width: 8,
+            ..shape
+        },
+        // The same, but a pass clears suspects.
+        2 => Shape {
+            rate: (999, 1_000),
+            bar: (9_999, 10_000),
+            width: 6,
+            ..shape
+        },
+        // One suspect, which the prior alone brings to the bar.
+        3 | 4 => Shape {
+            count: 1,
+            weight: 1_000,
+            ..shape
+        },
+        // Many suspects, several runs at once and a high bar.
+        5 => Shape {
+            count: 20,
+            rate: (1, 100),
+            bar: (99, 100),
+            width: 8,
+            reruns: 3,
+            ..shape
+        },
+        6 => Shape {
+            calm: 1_000,
+            ..shape
+        },
+        7 => Shape {
+            miss: (1, 20),
+            ..shape
+        },
+        8 => Shape { count: 0, ..shape },
+        9 => Shape {
+            count: 1_001,
+            ..shape
+        },
+        10 => Shape {
+            weight: 65_536,
+            ..shape
+        },
+        11 => Shape { calm: 0, ..shape },
+        12 => Shape {
+            base: shape.first,
+            ..shape
+        },
+        13 => Shape {
+            rate: (0, 10),
+            ..shape
+        },
+        14 => Shape {
+            miss: (19, 20),
+            ..shape
+        },
+        15 => Shape {
+            bar: (1, 2),
+            ..shape
+        },
+        16 => Shape { width: 9, ..shape },
+        _ => Shape { reruns: 0, ..shape },
+    }
+}
+
+/// The name that a text spells.
+pub(crate) fn name(alloc: Global, text: &str) -> Result<Name, Memory> {
+    match Name::of(alloc, text) {
+        Ok(name) => Ok(name),
+        Err(_) => Err(Memory),
+    }
+}
+
+// The commit whose bytes are all the lowest byte of a number.
+fn commit(number: u32) -> CommitId {
+    CommitId::of([(number & 0xff) as u8; 20])
+}
+
+fn suspects(alloc: Global, shape: Shape) -> Result<Suspects, Memory> {
+    let mut suspects = Vec::new(alloc);
+    for number in 0..shape.count {
+        suspects.push(Suspect {
+            commit: commit(shape.first.saturating_add(number)),
+            weight: shape.weight,
+        })?;
+    }
+    Ok(Suspects::of(suspects))
+}
+
+/// The request for the search with these numbers.
+pub(crate) fn open(alloc: Global, key: u32, shape: Shape) -> Result<Command, Memory> {
+    Ok(Command::Open(OpenAsk {
+        key: Key(u128::from(key)),
+        test: name(alloc, "t")?,
+        base: commit(shape.base),
+        suspects: suspects(alloc, shape)?,
+        calm: shape.calm,
+        rate: shape.rate,
+        miss: shape.miss,
+        bar: shape.bar,
+        width: shape.width,
+        reruns: shape.reruns,
+    }))
+}
+
+/// The request of a worker for a run.
+pub(crate) fn lease(alloc: Global, key: u32) -> Result<Command, Memory> {
+    match name(alloc, "w") {
+        Ok(worker) => Ok(Command::Lease {
+            key: Key(u128::from(key)),
+            worker,
+        }),
+        Err(fault) => Err(fault),
+    }
+}

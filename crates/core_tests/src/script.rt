@@ -1,0 +1,132 @@
+//! Scripts of words, whose answers are printed. `open:KEY` opens a search for one of two suspects and `lease:KEY` asks
+//! for a run, each so many minutes after the founding as its key says; `opens:COUNT` and `leases:COUNT` do so under
+//! each key from 1 on, and print the last answer; `farm` shows the totals, `entry:PLACE` prints an entry,
+//! `retract:COUNT` takes the last entries back, and `admit:PLACE` admits the entry that was first made at a place.
+
+use crate::asks::{PLAIN, lease, open};
+use crate::moments::moment_or;
+use crate::table::{Table, admit_copy, take_back};
+use crate::words::number_of;
+use farm_core::{CoreFault, Farm, Prepared};
+use farm_entry::{Command, Reply};
+use farm_types::Moment;
+use std::alloc::Global;
+use std::io;
+
+/// A minute in milliseconds, which is how long a lease lasts.
+const MINUTE_MS: u64 = 60_000;
+
+// What comes of a command, whose entry is committed, if it makes one.
+fn call(farm: &mut Farm, command: &Command, at: Moment) -> Result<Reply, CoreFault> {
+    match farm.prepare(command, at) {
+        Ok(Prepared::New(entry, reply)) => {
+            farm.commit(entry);
+            Ok(reply)
+        }
+        Ok(Prepared::Repeat(reply)) => Ok(reply),
+        Ok(Prepared::Shown(reply)) => Ok(reply),
+        Err(fault) => Err(fault),
+    }
+}
+
+// Asks a farm for the command of a word with a number.
+fn ask(
+    alloc: Global,
+    farm: &mut Farm,
+    start: Moment,
+    name: &str,
+    number: u32,
+) -> Result<Reply, CoreFault> {
+    let waited = MINUTE_MS.saturating_mul(u64::from(number));
+    let command = match name {
+        "open" | "opens" => open(alloc, number, PLAIN),
+        "lease" | "leases" => lease(alloc, number),
+        _ => Ok(Command::ShowFarm),
+    };
+    match command {
+        Ok(command) => call(
+            farm,
+            &command,
+            moment_or(start.ms().saturating_add(waited), start),
+        ),
+        Err(_) => Err(CoreFault::Memory),
+    }
+}
+
+// Asks a farm for the commands of a word with each number from 1 on, but the last.
+fn ask_many(alloc: Global, farm: &mut Farm, start: Moment, name: &str, count: u32) {
+    for number in 1..count {
+        let _called = ask(alloc, farm, start, name, number);
+    }
+}
+
+// Prints what comes of the last of the commands of a word at the farm, and asks the twin for the same, but for many.
+fn print_call(
+    rt: &impl Print,
+    alloc: Global,
+    table: &mut Table,
+    start: Moment,
+    name: &str,
+    number: u32,
+) -> io::Result<()> {
+    if name.ends_with('s') {
+        ask_many(alloc, &mut table.farm, start, name, number);
+    } else {
+        let _followed = ask(alloc, &mut table.twin, start, name, number);
+    }
+    let called = ask(alloc, &mut table.farm, start, name, number);
+    println!(rt; "{called:?}")
+}
+
+// Prints the entry at a place of the farm.
+fn print_entry(rt: &impl Print, farm: &Farm, place: usize) -> io::Result<()> {
+    let entry = farm.history().get(place);
+    println!(rt; "{entry:?}")
+}
+
+// Admits the entry at a place of the twin to the farm, and prints what comes of it.
+fn print_admitted(rt: &impl Print, table: &mut Table, place: usize) -> io::Result<()> {
+    match table.twin.history().get(place) {
+        Some(entry) => {
+            let admitted = admit_copy(&mut table.farm, entry.copy());
+            println!(rt; "{admitted:?}")
+        }
+        None => println!(rt; "no entry"),
+    }
+}
+
+// Plays a word.
+fn play_word(
+    rt: &impl Print,
+    alloc: Global,
+    table: &mut Table,
+    start: Moment,
+    text: &str,
+) -> io::Result<()> {
+    let (name, digits) = text.split_once(':').unwrap_or((text, ""));
+    let number = number_of(digits);
+    print!(rt; "{text}: ")?;
+    match name {
+        "entry" => print_entry(rt, &table.farm, number as usize),
+        "admit" => print_admitted(rt, table, number as usize),
+        "retract" => {
+            let done = take_back(&mut table.farm, number as usize);
+            println!(rt; "{done}")
+        }
+        _ => print_call(rt, alloc, table, start, name, number),
+    }
+}
+
+/// Plays the words of a script.
+pub(crate) fn play_script(
+    rt: &impl Print,
+    alloc: Global,
+    table: &mut Table,
+    start: Moment,
+    script: &str,
+) -> io::Result<()> {
+    for text in script.split(' ') {
+        play_word(rt, alloc, table, start, text)?;
+    }
+    Ok(())
+}
