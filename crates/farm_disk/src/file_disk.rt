@@ -1,7 +1,8 @@
 //! A disk over a file of the system: the trusted edge, which tells contracts nothing of its content.
-ghost use Rattle.std.specs.Prelude.{◌≡◌, ◌≤◌, [], false};
+ghost use Rattle.std.specs.Prelude.{◌≡◌, ◌≤◌, [], false, IfOk};
 ghost use Rattle.told_list.specs.Counts.{Rose};
 ghost use Rattle.farm_disk.specs.Answers.{OnFailed};
+ghost use Rattle.farm_disk.specs.FileDisk.{file_faults, file_path};
 
 use crate::{Did, Disk, Memory, Size, Written};
 use std::alloc::Global;
@@ -29,8 +30,11 @@ pub struct FileDisk<R: Files<File = File> + Drop> {
 }
 
 impl<R: Files<File = File> + Drop> FileDisk<R> {
-    /// The file at a path. It isn't touched yet.
-    pub fn at(alloc: Global, rt: R, path: &str) -> Result<FileDisk<R>, Memory> {
+    /// The file at a path, with no fault so far. It isn't touched yet.
+    pub fn at(alloc: Global, rt: R, path: &str) -> Result<FileDisk<R>, Memory>
+        ensures path { IfOk result (λ disk. file_path disk ≡ path.now) }
+        ensures faults { IfOk result (λ disk. file_faults disk ≡ 0) }
+    {
         Ok(FileDisk {
             rt,
             path: String::from_str(alloc, path)?,
@@ -183,7 +187,7 @@ impl<R: Files<File = File> + Drop> Disk for FileDisk<R> {
 
     ghost told = { λ d. record { bytes = []; steps = [] } };
 
-    ghost count = { λ d. d.faults };
+    ghost count = { file_faults };
 
     fn faults(&self) -> u64 {
         self.faults
