@@ -1,82 +1,16 @@
--- A farm over a disk in memory may be lent to several threads: its lock is `Sync`, since what the lock holds is `Send`.
--- The checker shows both of each type, but not of a `ToldList`, which holds snapshots of itself, nor of what has one in it.
-use denote.RattleType.{RattleType}
+-- A farm over a disk in memory may be lent to several threads.
 use denote.Param.Send.{IsSend, IsSync, sendable}
-use denote.Model.Local.{Parts, rows}
-use denote.Model.Marks.{tied_send}
 use Rattle.std.proofs.Crossing.{crosses}
-use Rattle.told_list.specs.contracts.list.ToldList as ToldList
-use Rattle.told_list.specs.contracts.list.ToldList.TheKnot.{frame, step, sizes, at-ToldList}
-use Rattle.told_list.specs.declared.list.ToldList.TheDeep.{the_members, member-ToldList}
-use Rattle.active_order.proofs.active.ActiveOrder.TheSendSync as ActiveOrder
-use Rattle.search_state.specs.contracts.state.SearchState as SearchState
-use Rattle.farm_books.proofs.books.Books.TheSendSync as Books
-use Rattle.farm_state.specs.contracts.state.FarmState as FarmState
-use Rattle.farm_turns.specs.contracts.turns.FarmTurns as FarmTurns
-use Rattle.farm_ledger.specs.contracts.ledger.Ledger as Ledger
-use Rattle.farm_ledger.specs.contracts.register.Register as Register
-use Rattle.kept_farm.specs.contracts.farm.KeptFarm as KeptFarm
-use Rattle.farm_core.specs.contracts.farm.Farm as Farm
 use Rattle.farm_disk.specs.contracts.in_memory.calm_disk.CalmDisk as CalmDisk
 use Rattle.farm_disk.specs.contracts.in_memory.calm_disk.CalmDiskDisk.TheImpl.{ghosts}
-use Rattle.farm_journal.specs.contracts.journal.Journal as Journal
-use Rattle.farm_store.specs.contracts.store.Store as Store
-use Rattle.turn_lock.proofs.lock.TurnLock.TheSendSync as TurnLock
-use Rattle.turn_lock.proofs.pass.Pass.TheSendSync as Pass
-use Rattle.farm_board.proofs.board.Board.TheSendSync as Board
-use Rattle.farm_board.proofs.pass.BoardPass.TheSendSync as BoardPass
-use Rattle.shared_farm.specs.contracts.locked.Locked as Locked
 use Rattle.shared_farm.specs.contracts.farm.SharedFarm as SharedFarm
+use Rattle.shared_farm.proofs.Crossing.{told_list-send, shared_farm-sync, along}
 
--- what a told list is made of, whatever the lists below it are
-newest-send : (T : RattleType) (p : Parts (frame T)) → IsSend (at-ToldList T p)
-newest-send T p = search (sendable, crosses) depth 20
+calm_disk-send : IsSend CalmDisk.the_row
+calm_disk-send = search (told_list-send, sendable, crosses) depth 20
 
-layer-send : (T : RattleType) (p : Parts (frame T)) → ((j : the_members) → IsSend (rows (frame T) p j))
-    → (i : the_members) → IsSend (rows (frame T) (step T p) i)
-layer-send T p all member-ToldList =
-    record { owned = λ x vs y. ((newest-send T p).owned _ vs, tt); leaving = λ k x w. tt }
-
-pub told_list-send : (T : RattleType) → IsSend (ToldList.the_row T)
-told_list-send T = tied_send (frame T) (step T) (sizes T) (layer-send T) member-ToldList
-
--- ---- the farm, layer by layer
-pub search_state-send : IsSend SearchState.the_row
-search_state-send = search (told_list-send, sendable, crosses) depth 60 fits 100000
-
-pub farm_state-send : IsSend FarmState.the_row
-farm_state-send = search (search_state-send, Books.the_send, sendable, crosses) depth 20
-
-pub farm_turns-send : IsSend FarmTurns.the_row
-farm_turns-send = search (farm_state-send, ActiveOrder.the_send, sendable, crosses) depth 20
-
-pub register-send : IsSend Register.the_row
-register-send = search (farm_turns-send, sendable, crosses) depth 20
-
-pub ledger-send : IsSend Ledger.the_row
-ledger-send = search (register-send, sendable, crosses) depth 20
-
-pub kept_farm-send : IsSend KeptFarm.the_row
-kept_farm-send = search (ledger-send, sendable, crosses) depth 20
-
-pub farm-send : IsSend Farm.the_row
-farm-send = search (kept_farm-send, sendable, crosses) depth 20
-
--- ---- the store, and what the lock holds
-pub disk-send : IsSend CalmDisk.the_row
-disk-send = search (told_list-send, sendable, crosses) depth 20
-
-pub journal-send : IsSend (Journal.the_row CalmDisk.the_row ghosts)
-journal-send = search (disk-send, told_list-send, sendable, crosses) depth 20
-
-pub store-send : IsSend (Store.the_row CalmDisk.the_row ghosts)
-store-send = search (journal-send, farm-send, sendable, crosses) depth 20
-
-pub locked-send : IsSend (Locked.the_row CalmDisk.the_row ghosts)
-locked-send = search (store-send, Board.the_send, Board.the_sync, BoardPass.the_send, sendable, crosses) depth 20
-
-pub shared_farm-sync : IsSync (SharedFarm.the_row CalmDisk.the_row ghosts)
-shared_farm-sync = search (locked-send, TurnLock.the_sync, sendable, crosses) depth 20
+pub calm_farm-sync : IsSync (SharedFarm.the_row CalmDisk.the_row ghosts)
+calm_farm-sync = shared_farm-sync CalmDisk.the_row ghosts calm_disk-send
 
 -- what a closure takes along to a thread
-pub ruleset lent = (shared_farm-sync, Pass.the_send, sendable, crosses)
+pub ruleset lent = (calm_farm-sync, along)

@@ -43,27 +43,49 @@ pub(crate) fn lease(alloc: Global, key: Key) -> Result<Command, AllocError> {
     })
 }
 
+/// So many suspects of weight 1, whose commits are numbered from 1 in their last byte.
+fn suspects(alloc: Global, count: u8) -> Result<Suspects, AllocError> {
+    let mut suspects = Vec::new(alloc);
+    for number in 1..=count {
+        let mut bytes = [0; 20];
+        bytes[19] = number;
+        suspects.push(Suspect {
+            commit: CommitId::of(bytes),
+            weight: 1,
+        })?;
+    }
+    Ok(Suspects::of(suspects))
+}
+
 /// The open of a search that tens of reports leave without a result.
 pub(crate) fn open(alloc: Global) -> Result<Command, AllocError> {
-    let mut suspects = Vec::new(alloc);
-    suspects.push(Suspect {
-        commit: CommitId::of([1; 20]),
-        weight: 1,
-    })?;
-    suspects.push(Suspect {
-        commit: CommitId::of([2; 20]),
-        weight: 1,
-    })?;
     Ok(Command::Open(OpenAsk {
         key: key(0, 1),
         test: name(alloc, "t")?,
         base: CommitId::of([0; 20]),
-        suspects: Suspects::of(suspects),
+        suspects: suspects(alloc, 2)?,
         calm: 1,
         rate: (1, 2),
         miss: (2, 5),
         bar: (9_999, 10_000),
         width: 8,
+        reruns: 1,
+    }))
+}
+
+/// The open of a search among four suspects, of which one run is out at once. The middle of its belief is as near to
+/// position 2 as to position 3, so the first run is at the smaller of the two.
+pub(crate) fn open_four(alloc: Global) -> Result<Command, AllocError> {
+    Ok(Command::Open(OpenAsk {
+        key: key(0, 1),
+        test: name(alloc, "t")?,
+        base: CommitId::of([0; 20]),
+        suspects: suspects(alloc, 4)?,
+        calm: 1,
+        rate: (1, 10),
+        miss: (0, 1),
+        bar: (9, 10),
+        width: 1,
         reruns: 1,
     }))
 }

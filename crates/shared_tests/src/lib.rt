@@ -1,4 +1,5 @@
-//! Tests of the shared farm: callers in four threads, a reader of totals beside them, and the history that they leave.
+//! Tests of the shared farm: callers in four threads, a reader of totals beside them, and the history that they leave;
+//! a pass that is split and joined again; and what readers made before and after a call see of it.
 //!
 //! Nothing stands on this crate.
 #![tactic(auto)]
@@ -9,3 +10,9 @@ mod asks;
 mod callers;
 #[cfg(test)]
 mod counts;
+#[cfg(test)]
+mod disks;
+#[cfg(test)]
+mod missed;
+#[cfg(test)]
+mod passes;
