@@ -1,0 +1,4 @@
+pub mod Core
+pub mod Steps
+pub mod Origins
+pub mod Leases

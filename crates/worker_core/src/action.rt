@@ -1,0 +1,31 @@
+//! What a worker is to do.
+
+use farm_types::Key;
+use weight_exact::Verdict;
+
+/// What a worker does next.
+#[derive(Clone, Copy, Debug, PartialEq, Eq)]
+pub enum Action {
+    /// To draw a key for the next lease.
+    Draw,
+    /// To ask the farm for a run, under this key.
+    AskLease(Key),
+    /// To run the test of this run, at the commit that came with the lease.
+    RunTest(u32),
+    /// To report this verdict of the run.
+    SendReport(u32, Verdict),
+    /// To do nothing more.
+    Stop(End),
+}
+
+/// Why a worker stops.
+#[derive(Clone, Copy, Debug, PartialEq, Eq)]
+pub enum End {
+    /// The farm had no run to hand out.
+    Idle,
+    /// As many runs were leased as the worker was started for, and the last of them was reported.
+    Limit,
+    /// A request was lost as often as it may be sent. The number is the status that the last try came back with, or 0
+    /// where no whole response came.
+    Peer(u16),
+}

@@ -1,0 +1,24 @@
+//! What a worker is told.
+
+use farm_types::Key;
+use weight_exact::Verdict;
+
+/// What came of the last action.
+#[derive(Clone, Copy, Debug, PartialEq, Eq)]
+pub enum Event {
+    /// Nothing was done yet.
+    Begin,
+    /// This key was drawn.
+    Drew(Key),
+    /// The farm handed out this run.
+    Leased(u32),
+    /// The farm has no run to hand out now.
+    Nothing,
+    /// The test was run, and this is its verdict.
+    Ran(Verdict),
+    /// The farm has noted the report.
+    Noted,
+    /// The request was lost, or the farm couldn't serve it. The number is the status that came back, or 0 where no whole
+    /// response came.
+    Lost(u16),
+}
