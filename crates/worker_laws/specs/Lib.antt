@@ -1,0 +1,4 @@
+pub mod World
+pub mod Workers
+pub mod Happenings
+pub mod Given
