@@ -1,0 +1,21 @@
+//! One HTTP response, read from the bytes that are held of a connection.
+//!
+//! [`read_response`] says what stands at their front: a whole response, an interim one to be left out, nothing whole yet, or
+//! bytes that no further ones can make a response. A response is a head within the limits and a body of just the length that
+//! its one Content-Length states; other fields aren't looked at (`specs/Whole.antt`). The heads are read with `httparse`, by
+//! whose grammar the contracts speak, and hold for every continuation of the bytes. So a reader of a connection needs no
+//! more than [`Progress`] says.
+#![tactic(auto)]
+
+mod fields;
+pub mod laws;
+mod limits;
+mod numbers;
+mod progress;
+mod reading;
+#[cfg(test)]
+mod tests;
+
+pub use limits::{INTERIM_STATUS, MAX_BODY_BYTES, MAX_FIELDS, MAX_HEAD_BYTES};
+pub use progress::{Progress, Response};
+pub use reading::read_response;

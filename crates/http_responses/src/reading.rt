@@ -1,0 +1,62 @@
+//! The response at the front of the bytes held.
+ghost use Rattle.std.specs.Prelude.{◌≡◌, ◌≤◌, All, length, map, take};
+ghost use Rattle.httparse.specs.Spans.{IsHeaderWithin, header_bytes};
+ghost use Rattle.http_responses.specs.Framing.{length_by, length_values};
+ghost use Rattle.http_responses.specs.Reading.{Says, progress_of};
+
+use crate::fields::body_length;
+use crate::limits::{INTERIM_STATUS, MAX_FIELDS, MAX_HEAD_BYTES};
+use crate::{Progress, Response};
+use httparse::Status;
+use httparse::spans::{EMPTY_HEADER_SPAN, HeaderSpan, ResponseSpans, parse_response};
+
+/// What stands at the front of the bytes held, whatever bytes follow.
+pub fn read_response(held: &[u8]) -> Progress
+    ensures { Says held.now result }
+{
+    let front = front_of(held);
+    let mut spans = [EMPTY_HEADER_SPAN; MAX_FIELDS];
+    match parse_response(front, &mut spans) {
+        Ok(Status::Complete(head)) => behind_head(front, &spans[..head.headers], &head, held.len()),
+        Ok(Status::Partial) => {
+            if held.len() < MAX_HEAD_BYTES {
+                Progress::More
+            } else {
+                Progress::Never
+            }
+        }
+        Err(_) => Progress::Never,
+    }
+}
+
+/// The bytes in which a head has to end.
+fn front_of(held: &[u8]) -> &[u8]
+    ensures { result.now ≡ take MAX_HEAD_BYTES held.now }
+{
+    if held.len() < MAX_HEAD_BYTES {
+        held
+    } else {
+        &held[..MAX_HEAD_BYTES]
+    }
+}
+
+/// What stands at the front of so many bytes, where they begin with a head.
+fn behind_head(front: &[u8], fields: &[HeaderSpan], head: &ResponseSpans, held: usize) -> Progress
+    requires fields { All (IsHeaderWithin (length front.now)) fields.now }
+    requires within { head.now.len ≤ held }
+    ensures { result ≡ progress_of head.now.code head.now.len
+        (length_by (length_values (map (header_bytes front.now) fields.now))) held }
+{
+    if head.code == INTERIM_STATUS {
+        return Progress::Interim(head.len);
+    }
+    match body_length(front, fields) {
+        None => Progress::Never,
+        Some(length) if held - head.len < length => Progress::More,
+        Some(length) => Progress::Whole(Response {
+            status: head.code,
+            body: head.len,
+            end: head.len + length,
+        }),
+    }
+}
