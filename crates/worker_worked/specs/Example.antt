@@ -1,0 +1,36 @@
+-- What happens to one worker and a farm with one search.
+use Rattle.std.specs.Prelude.{List, [], ◌∷◌}
+use Rattle.weight_exact.specs.declared.run.Verdict.TheVariants.{Fail, Pass}
+use Rattle.farm_entry.specs.declared.command.Command.TheVariants.{Open}
+use Rattle.farm_worked.specs.Example.{ask_for, at_first, the_key, the_settings, the_worker}
+use Rattle.worker_laws.specs.Happenings.{Happening, all_happen, answered, begins, draws, is_asked, loses, receives, runner_answers, takes}
+use Rattle.worker_laws.specs.Workers.{crew}
+use Rattle.worker_laws.specs.World.{World, founded}
+
+-- the search is opened, and the worker leases, runs and reports until there is no run. The answer at place 2, which is the
+-- first to a report, is never received
+abbrev pub what_happens : List Happening
+what_happens =
+    is_asked 9 (Open (ask_for 1 1000 1)) at_first answered
+    ∷ begins 0
+    ∷ draws 0 (the_key 2)
+    ∷ takes 0 at_first answered
+    ∷ receives 0 1
+    ∷ runner_answers 0 Fail
+    ∷ takes 1 at_first answered
+    ∷ loses 0 0
+    ∷ takes 2 at_first answered
+    ∷ receives 0 3
+    ∷ draws 0 (the_key 3)
+    ∷ takes 3 at_first answered
+    ∷ receives 0 4
+    ∷ runner_answers 0 Pass
+    ∷ takes 4 at_first answered
+    ∷ receives 0 5
+    ∷ draws 0 (the_key 4)
+    ∷ takes 5 at_first answered
+    ∷ receives 0 6
+    ∷ []
+
+abbrev pub played : World
+played = all_happen (founded the_settings at_first (crew ((the_worker, 5) ∷ []))) what_happens

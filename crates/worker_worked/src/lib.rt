@@ -1,0 +1,29 @@
+//! A worker that serves a small farm, played by evaluating the definitions of `worker_laws`: each law is the contract of a
+//! call that does nothing.
+//!
+//! `specs/Example` has what happens, over a farm of `farm_worked`. Nothing stands on this crate.
+#![tactic(auto)]
+
+ghost use Rattle.std.specs.Prelude.{◌≡◌, ◌∷◌, [], length, map, slice_get, Some};
+ghost use Rattle.std.specs.Option.{option_map};
+ghost use Rattle.farm_entry.specs.History.{reports};
+ghost use Rattle.farm_worked.specs.Example.{the_commit, the_test};
+ghost use Rattle.weight_exact.specs.declared.run.Verdict.TheVariants.{Fail, Pass};
+ghost use Rattle.worker_core.specs.declared.action.Action.TheVariants.{Stop};
+ghost use Rattle.worker_core.specs.declared.action.End.TheVariants.{Idle};
+ghost use Rattle.worker_laws.specs.World.{Worker};
+ghost use Rattle.worker_worked.specs.Example.{played};
+
+use farm_entry::ReportedRun;
+
+/// One suspect whose weight alone names it: its run is at the suspect and fails, and the rerun at the base passes. The first
+/// answer to a report is lost, so the report comes twice; it is recorded once. Then the farm has no run, and the worker
+/// stops, with six entries in the history and two runs made.
+pub fn a_lost_report_is_sent_again()
+    ensures entries { length played.history ≡ 6 }
+    ensures runs { map (λ (r : ReportedRun). r.run) (reports played.history) ≡ 1 ∷ 2 ∷ [] }
+    ensures verdicts { map (λ (r : ReportedRun). r.verdict) (reports played.history) ≡ Fail ∷ Pass ∷ [] }
+    ensures made { played.made ≡ record { test = the_test; commit = the_commit 1; verdict = Fail }
+        ∷ record { test = the_test; commit = the_commit 0; verdict = Pass } ∷ [] }
+    ensures ends { option_map (λ (w : Worker). w.core.last) (slice_get played.workers 0) ≡ Some (Some (Stop Idle)) }
+{}
