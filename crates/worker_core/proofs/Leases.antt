@@ -1,17 +1,15 @@
 -- A worker takes no more leases than it was started for, and stops at its limit after exactly so many.
-use Rattle.std.proofs.Common.{◌≡◌, ℕ, ◌+◌, ◌-◌, ◌≤◌, ◌==◌, nat_lt, Bool, true, false, List, [], ◌∷◌, if◌then◌else◌, Option, Some, None, refl, sym, subst, ap, ◌∙◌, ⊎_elim, ◌⊎◌, arith}
+use Rattle.std.proofs.Common.{◌≡◌, ℕ, ◌+◌, ◌≤◌, ◌==◌, Bool, true, false, List, [], ◌∷◌, if◌then◌else◌, Option, Some, None, refl, sym, subst, ap, ◌∙◌, ⊎_elim, ◌⊎◌, arith}
 use Rattle.std.proofs.lemmas.Bool.Decides.{nat_tests}
-use Rattle.std.proofs.lemmas.Option.{none-some}
 use Rattle.worker_core.specs.Core.{Core, HasLeases}
 use Rattle.worker_core.specs.Leases.{leases_taken, taken_by}
 use Rattle.worker_core.specs.Origins.{Asked, Reported}
 use Rattle.worker_core.specs.Steps.{Stepped, act, again, core_after, core_start, core_step, lose, step_from}
 use Rattle.worker_core.specs.declared.action.Action.{Action}
 use Rattle.worker_core.specs.declared.action.Action.TheVariants.{Draw, AskLease, RunTest, SendReport, Stop}
-use Rattle.worker_core.specs.declared.action.End.TheVariants.{Idle, Limit, Peer}
+use Rattle.worker_core.specs.declared.action.End.TheVariants.{Limit, Peer}
 use Rattle.worker_core.specs.declared.event.Event.{Event}
-use Rattle.worker_core.specs.declared.event.Event.TheVariants.{Begin, Drew, Leased, Nothing, Ran, Noted, Lost}
-use Rattle.worker_core.specs.declared.worker.TheConstants.{MAX_TRIES}
+use Rattle.worker_core.specs.declared.event.Event.TheVariants.{Drew, Leased, Nothing, Ran, Noted, Lost}
 
 -- at the limit no lease is left
 abbrev IsSpent : ℕ → Option Action → Type 0

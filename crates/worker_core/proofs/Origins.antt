@@ -1,15 +1,14 @@
 -- Each step does what it is a cause for.
-use Rattle.std.proofs.Common.{◌≡◌, ◌⊎◌, ℕ, ◌+◌, ◌≤◌, ◌==◌, nat_lt, Bool, true, false, if◌then◌else◌, Option, Some, None, refl, inl, inr, arith}
+use Rattle.std.proofs.Common.{◌≡◌, ◌⊎◌, ℕ, ◌+◌, ◌==◌, nat_lt, Bool, true, false, if◌then◌else◌, Option, Some, None, refl, inl, inr, arith}
 use Rattle.std.proofs.lemmas.Bool.Decides.{nat_tests}
-use Rattle.weight_exact.specs.declared.run.Verdict.{Verdict}
 use Rattle.worker_core.specs.Core.{Core}
 use Rattle.worker_core.specs.Origins.{Asked, ComesFrom, Reported}
-use Rattle.worker_core.specs.Steps.{act, again, core_step, lose, step_from}
+use Rattle.worker_core.specs.Steps.{act, again, core_step, step_from}
 use Rattle.worker_core.specs.declared.action.Action.{Action}
 use Rattle.worker_core.specs.declared.action.Action.TheVariants.{Draw, AskLease, RunTest, SendReport, Stop}
 use Rattle.worker_core.specs.declared.action.End.TheVariants.{Idle, Limit, Peer}
 use Rattle.worker_core.specs.declared.event.Event.{Event}
-use Rattle.worker_core.specs.declared.event.Event.TheVariants.{Begin, Drew, Leased, Nothing, Ran, Noted, Lost}
+use Rattle.worker_core.specs.declared.event.Event.TheVariants.{Drew, Leased, Nothing, Ran, Noted, Lost}
 use Rattle.worker_core.specs.declared.worker.TheConstants.{MAX_TRIES}
 
 -- a lost request

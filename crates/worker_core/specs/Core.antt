@@ -1,7 +1,7 @@
 -- What contracts see of a worker.
 use Rattle.std.specs.Prelude.{ℕ, ◌<◌, ◌≤◌, Option, Some, None, ⊤}
 use Rattle.worker_core.specs.declared.action.Action.{Action}
-use Rattle.worker_core.specs.declared.action.Action.TheVariants.{Draw, AskLease, RunTest, SendReport, Stop}
+use Rattle.worker_core.specs.declared.action.Action.TheVariants.{Draw, AskLease}
 use Rattle.worker_core.specs.declared.worker.TheConstants.{MAX_TRIES}
 
 -- how many leases it may still take, how often its last request was lost, and what it did last, if anything

@@ -1,5 +1,5 @@
 -- How many leases a worker takes.
-use Rattle.std.specs.Prelude.{ℕ, ◌+◌, List, [], ◌∷◌, Option, Some, None}
+use Rattle.std.specs.Prelude.{ℕ, ◌+◌, List, [], ◌∷◌, Option, Some}
 use Rattle.worker_core.specs.Core.{Core}
 use Rattle.worker_core.specs.Steps.{core_step}
 use Rattle.worker_core.specs.declared.action.Action.{Action}

@@ -5,7 +5,7 @@ use Rattle.worker_core.specs.declared.action.Action.{Action}
 use Rattle.worker_core.specs.declared.action.Action.TheVariants.{Draw, AskLease, RunTest, SendReport, Stop}
 use Rattle.worker_core.specs.declared.action.End.TheVariants.{Idle, Limit, Peer}
 use Rattle.worker_core.specs.declared.event.Event.{Event}
-use Rattle.worker_core.specs.declared.event.Event.TheVariants.{Begin, Drew, Leased, Nothing, Ran, Noted, Lost}
+use Rattle.worker_core.specs.declared.event.Event.TheVariants.{Drew, Leased, Nothing, Ran, Noted, Lost}
 use Rattle.worker_core.specs.declared.worker.TheConstants.{MAX_TRIES}
 
 -- a worker that did nothing yet
