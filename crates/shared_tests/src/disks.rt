@@ -2,7 +2,7 @@
 ghost use Rattle.turn_lock.specs.Known.{IsReady};
 
 use crate::asks::moment;
-use crate::missed::{Missed, missed_call};
+use crate::missed::{Missed, failed, missed_call};
 use crate::passes::founded;
 use farm_disk::{CalmDisk, Disk, FileDisk};
 use farm_entry::{Command, Reply};
@@ -69,7 +69,7 @@ fn shown<D: Disk + Drop + Send, R: Threads + Wait + Sync>(
 fn two_threads_share_a_farm_over_memory(rt: HostRuntime) -> Result<(), Fail> {
     let alloc = rt.alloc();
     let seen = shown(&rt, alloc, CalmDisk::of(Vec::new(alloc)));
-    assert!(rt; seen == Ok(2) || seen == Err(Missed::Memory));
+    assert_eq!(rt; seen, Ok(2));
     Ok(())
 }
 
@@ -77,9 +77,9 @@ fn two_threads_share_a_farm_over_memory(rt: HostRuntime) -> Result<(), Fail> {
 fn a_farm_over_a_file_in_no_folder_is_not_founded(rt: HostRuntime) -> Result<(), Fail> {
     let alloc = rt.alloc();
     let Ok(disk) = FileDisk::at(alloc, rt, "missing/journal") else {
-        return Ok(());
+        return Err(failed(Missed::Memory));
     };
     let seen = shown(&rt, alloc, disk);
-    assert!(rt; seen == Err(Missed::Disk) || seen == Err(Missed::Memory));
+    assert_eq!(rt; seen, Err(Missed::Disk));
     Ok(())
 }

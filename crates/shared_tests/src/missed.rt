@@ -1,11 +1,12 @@
 //! Why a play came to no end.
 
 use farm_store::{CallFault, CreateFault};
+use std::test::Fail;
 
 /// Why a play came to no end.
 #[derive(Clone, Copy, Debug, PartialEq, Eq)]
 pub(crate) enum Missed {
-    /// Out of memory, which each call may answer, and which shows nothing of the farm.
+    /// Out of memory.
     Memory,
     /// The disk failed.
     Disk,
@@ -29,4 +30,13 @@ pub(crate) fn missed_call(fault: CallFault) -> Missed {
         CallFault::StoreFault { .. } => Missed::Disk,
         CallFault::Refused(_) => Missed::Reply,
     }
+}
+
+/// The failure of a test whose play came to no end.
+pub(crate) fn failed(missed: Missed) -> Fail {
+    Fail::from(match missed {
+        Missed::Memory => "out of memory",
+        Missed::Disk => "the disk failed",
+        Missed::Reply => "a wrong reply",
+    })
 }

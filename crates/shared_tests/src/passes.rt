@@ -2,7 +2,7 @@
 ghost use Rattle.turn_lock.specs.Known.{IsReady};
 
 use crate::asks::{key, lease, moment, open_four};
-use crate::missed::{Missed, missed_call, missed_founding};
+use crate::missed::{Missed, failed, missed_call, missed_founding};
 use farm_disk::{CalmDisk, Disk};
 use farm_entry::{Command, Reply, Settings};
 use farm_store::Store;
@@ -177,8 +177,7 @@ fn a_lease_of_a_split_pass_stands_in_the_history_that_is_left(rt: HostRuntime) -
             assert!(rt; seen.after >= 2);
             Ok(())
         }
-        Err(Missed::Memory) => Ok(()),
-        Err(_) => Err(Fail::from("a wrong reply")),
+        Err(missed) => Err(failed(missed)),
     }
 }
 
@@ -191,7 +190,6 @@ fn readers_see_what_was_stored_before_they_read(rt: HostRuntime) -> Result<(), F
             assert_eq!(rt; seen.after, 3);
             Ok(())
         }
-        Err(Missed::Memory) => Ok(()),
-        Err(_) => Err(Fail::from("a wrong reply")),
+        Err(missed) => Err(failed(missed)),
     }
 }
