@@ -1,0 +1,49 @@
+-- How long the body of a request is, and what the connection does (RFC 9112, sections 3.2, 6 and 9, and RFC 9110,
+-- section 10.1.1), where what this service doesn't do is refused.
+use Rattle.std.specs.Prelude.{ℕ, Bool, not, ◌&&◌, ◌||◌, ◌==◌, List, [], ◌∷◌, length, nat_lt, Result, Ok, Err, codes, bytes_eq, if◌then◌else◌}
+use Rattle.std.specs.Str.Parse.{digits_value}
+use Rattle.http_requests.specs.Fields.{FieldText, named_values, has_close, expects_continue}
+use Rattle.http_requests.specs.Texts.{is_number}
+use Rattle.http_requests.specs.declared.fault.Fault.{Fault}
+use Rattle.http_requests.specs.declared.fault.Fault.TheVariants as fault
+use Rattle.http_requests.specs.declared.limits.TheConstants.{MAX_BODY_BYTES}
+
+-- a version of HTTP/1 where exactly one Host field has to stand has it
+abbrev pub has_host : ℕ → List FieldText → Bool
+has_host minor fields = (minor == 0) || (length (named_values (codes "host") fields) == 1)
+
+-- a transfer coding is named
+abbrev pub has_coding : List FieldText → Bool
+has_coding fields = nat_lt 0 (length (named_values (codes "transfer-encoding") fields))
+
+-- the length that one value states
+abbrev pub stated_length : List ℕ → Result ℕ Fault
+stated_length value =
+    if not (is_number value) then Err fault.BadRequest
+    else if nat_lt MAX_BODY_BYTES (digits_value 10 value) then Err fault.TooLarge
+    else Ok (digits_value 10 value)
+
+-- the length that the values of Content-Length state: a POST has to state one, and no other request has a body without
+abbrev pub length_by : List ℕ → List (List ℕ) → Result ℕ Fault
+length_by method [] = if bytes_eq method (codes "POST") then Err fault.LengthRequired else Ok 0
+length_by method (value ∷ []) = stated_length value
+length_by method (value ∷ second ∷ values) = Err fault.BadRequest
+
+-- the length of the body, or the fault for which none is read
+unfoldable pub body_length : List ℕ → ℕ → List FieldText → Result ℕ Fault
+body_length method minor fields =
+    if not (has_host minor fields) then Err fault.BadRequest
+    else if has_coding fields then Err fault.NotImplemented
+    else length_by method (named_values (codes "content-length") fields)
+
+-- the interim answer is put before the body is read
+unfoldable pub wants_interim : ℕ → List FieldText → ℕ → Bool
+wants_interim minor fields len = (minor == 1) && (nat_lt 0 len && expects_continue fields)
+
+-- the connection closes after the answer
+unfoldable pub closes_after : ℕ → List FieldText → Bool
+closes_after minor fields = (minor == 0) || has_close fields
+
+-- the answer's body isn't put
+unfoldable pub is_head_method : List ℕ → Bool
+is_head_method method = bytes_eq method (codes "HEAD")

@@ -1,0 +1,10 @@
+pub mod Fields
+pub mod Framing
+pub mod Heads
+pub mod Items
+pub mod Laws
+pub mod Next
+pub mod Paths
+pub mod Routes
+pub mod Rows
+pub mod Texts
