@@ -1,0 +1,15 @@
+-- Texts one after the other.
+use Rattle.std.specs.Prelude.{ℕ, List, [], ◌∷◌}
+use Rattle.std.specs.List.{flat_map}
+use Rattle.std.specs.Borrow.{Bor}
+use Rattle.httparse.specs.Ascii.{crlf_bytes}
+use Rattle.http_answers.specs.Lines.{content_type, length_name}
+
+-- the texts, joined in their order
+abbrev pub joined : List (Bor (List ℕ)) → List ℕ
+joined pieces = flat_map (λ piece. piece.now) pieces
+
+-- an answer by its parts: the lines in their order, an empty line, and the body
+unfoldable pub parts_joined : List ℕ → List ℕ → List ℕ → List ℕ → List ℕ → List ℕ
+parts_joined status size allow close body =
+    flat_map (λ part. part) (status ∷ content_type ∷ length_name ∷ size ∷ crlf_bytes ∷ allow ∷ close ∷ crlf_bytes ∷ body ∷ [])

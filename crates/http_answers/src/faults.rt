@@ -1,0 +1,63 @@
+//! How the faults of requests are answered.
+ghost use Rattle.std.specs.Prelude.{◌≡◌};
+ghost use Rattle.http_answers.specs.Faults.{fault_text, fault_status, fault_allow, bad_field_text};
+
+use crate::Status;
+use http_requests::{Allow, Fault, PathField};
+
+/// The body of an answer whose command's entry the store couldn't take.
+pub const STORE_FAULT_TEXT: &[u8] = br#"{"refused":"StoreFault"}"#;
+
+/// The body of an answer for which memory was wanting.
+pub const MEMORY_TEXT: &[u8] = br#"{"refused":"Memory"}"#;
+
+/// The body of the answer to a fault: a JSON object whose members stand in the order of their names.
+#[tactic(auto, unfolding(crate::specs::Faults::fault_text))]
+pub fn fault_text(fault: Fault) -> &'static [u8]
+    ensures { result.now ≡ fault_text fault }
+{
+    match fault {
+        Fault::BadRequest => br#"{"refused":"BadRequest"}"#,
+        Fault::NotImplemented => br#"{"refused":"NotImplemented"}"#,
+        Fault::TooLarge => br#"{"refused":"TooLarge"}"#,
+        Fault::LengthRequired => br#"{"refused":"LengthRequired"}"#,
+        Fault::NotFound => br#"{"refused":"NotFound"}"#,
+        Fault::MethodNotAllowed(_) => br#"{"refused":"MethodNotAllowed"}"#,
+        Fault::BadField(field) => bad_field_text(field),
+    }
+}
+
+/// The body of the answer to a path whose number isn't one.
+fn bad_field_text(field: PathField) -> &'static [u8]
+    ensures { result.now ≡ bad_field_text field }
+{
+    match field {
+        PathField::Run => br#"{"field":"run","refused":"BadField"}"#,
+        PathField::Search => br#"{"field":"search","refused":"BadField"}"#,
+    }
+}
+
+/// The status of the answer to a fault.
+pub fn fault_status(fault: Fault) -> Status
+    ensures { result ≡ fault_status fault }
+{
+    match fault {
+        Fault::BadRequest => Status::BadRequest,
+        Fault::NotImplemented => Status::NotImplemented,
+        Fault::TooLarge => Status::TooLarge,
+        Fault::LengthRequired => Status::LengthRequired,
+        Fault::NotFound => Status::NotFound,
+        Fault::MethodNotAllowed(_) => Status::MethodNotAllowed,
+        Fault::BadField(_) => Status::BadRequest,
+    }
+}
+
+/// The methods that the answer to a fault names.
+pub fn fault_allow(fault: Fault) -> Option<Allow>
+    ensures { result ≡ fault_allow fault }
+{
+    match fault {
+        Fault::MethodNotAllowed(allow) => Some(allow),
+        _ => None,
+    }
+}

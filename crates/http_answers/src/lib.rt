@@ -1,0 +1,20 @@
+//! The answers of an HTTP connection as bytes: the status line and the fields of an answer, the interim answer, and the
+//! bodies of the faults that `http_requests` names. An answer is put to a sink piece by piece, from texts that stand in
+//! the program and digits on the stack, so it takes no memory of its own.
+//!
+//! The crate stands on `http_requests` for faults and methods, on `link_io` for sinks, and on `itoa` for digits. The
+//! layers above may use every name below. Which bytes an answer has is defined by `answer_bytes` and `interim_bytes` of
+//! `specs/Answers`.
+#![tactic(auto)]
+
+mod answer;
+mod faults;
+mod lines;
+mod pieces;
+mod status;
+#[cfg(test)]
+mod tests;
+
+pub use answer::{Answer, put_answer, put_interim};
+pub use faults::{MEMORY_TEXT, STORE_FAULT_TEXT, fault_allow, fault_status, fault_text};
+pub use status::Status;

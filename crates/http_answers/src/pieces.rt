@@ -1,0 +1,53 @@
+//! Several texts put one after the other.
+ghost use Rattle.std.specs.Prelude.{◌≡◌, ◌<◌, ◌≤◌, ℕ, OnOk, OnErr, IsErrOf, length, take};
+ghost use Rattle.std.specs.Io.KnownBytes.{append_known};
+ghost use Rattle.link_io.specs.Counts.{Rose};
+ghost use Rattle.http_answers.specs.Pieces.{joined, parts_joined};
+
+use crate::lines::{content_type, length_name, line_end};
+use link_io::{PutFault, Sink, put_all};
+
+/// Puts the pieces in their order, and stops at the first put that moves nothing. What was put by then stays put: a
+/// prefix of them all, and never the whole.
+#[tactic(auto, using(link_io::proofs::Told::told_bytes))]
+pub(crate) fn put_pieces<K: Sink>(output: &mut K, pieces: &[&[u8]]) -> Result<(), PutFault>
+    ensures done { OnOk result
+        (K.written output.new ≡ append_known (K.written output.old) (joined pieces.now)) }
+    ensures stopped { OnErr result
+        ((n : ℕ) × (n < length (joined pieces.now))
+        × (K.written output.new ≡ append_known (K.written output.old) (take n (joined pieces.now)))) }
+    ensures rises { IsErrOf result PutFault.Failed → Rose (K.count output.old) (K.count output.new) }
+    ensures never_falls { K.count output.old ≤ K.count output.new }
+{
+    for piece in pieces {
+        put_all(output, piece)?;
+    }
+    Ok(())
+}
+
+/// Puts an answer by its status line, the digits of its length, the lines that it may have, and its body.
+#[tactic(auto, unfolding(crate::specs::Pieces::parts_joined))]
+pub(crate) fn put_parts<'p, K: Sink>(
+    output: &mut K,
+    status: &'p [u8],
+    size: &'p [u8],
+    allow: &'p [u8],
+    close: &'p [u8],
+    body: &'p [u8],
+) -> Result<(), PutFault>
+    ensures done { OnOk result
+        (K.written output.new ≡ append_known (K.written output.old)
+        (parts_joined status.now size.now allow.now close.now body.now)) }
+    ensures stopped { OnErr result
+        ((n : ℕ) × (n < length (parts_joined status.now size.now allow.now close.now body.now))
+        × (K.written output.new ≡ append_known (K.written output.old)
+        (take n (parts_joined status.now size.now allow.now close.now body.now)))) }
+    ensures rises { IsErrOf result PutFault.Failed → Rose (K.count output.old) (K.count output.new) }
+    ensures never_falls { K.count output.old ≤ K.count output.new }
+{
+    let content = content_type();
+    let name = length_name();
+    let end = line_end();
+    let pieces = [status, content, name, size, end, allow, close, end, body];
+    put_pieces(output, &pieces)
+}
