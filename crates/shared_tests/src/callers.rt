@@ -9,6 +9,7 @@ use farm_disk::CalmDisk;
 use farm_entry::{Command, Entry, Reply, Settings, What};
 use farm_store::{Answer, Ask, MAX_BATCH, Store};
 use farm_types::Moment;
+use plain_farm::first_illegal;
 use shared_farm::{Pass, SharedFarm, TotalsReader};
 use std::alloc::Global;
 use std::sync::Wait;
@@ -17,11 +18,11 @@ use std::thread;
 use std::thread::Threads;
 use weight_exact::Verdict;
 
-/// How many leases each caller asks for one by one.
-const LEASES: u64 = 1_980;
+/// How many leases each caller asks for one by one, each nine times. With the reports it makes 2,002 calls.
+const LEASES: u64 = 218;
 
-/// After how many of them it asks twice more for the last one, and reports its run twice.
-const STRIDE: u64 = 396;
+/// After how many of them it reports the last one's run, eight times.
+const STRIDE: u64 = 43;
 
 /// How many leases the batch has with which each caller ends.
 const BATCH: u64 = 2;
@@ -51,8 +52,8 @@ fn run_of<R: Wait>(
     }
 }
 
-/// Whether a command is answered twice with the run that it has to do with.
-fn is_repeated<R: Wait>(
+/// Whether a command is answered four times with the run that it has to do with.
+fn is_again<R: Wait>(
     rt: &R,
     alloc: Global,
     farm: &Shared,
@@ -66,10 +67,31 @@ fn is_repeated<R: Wait>(
 {
     let first = run_of(rt, alloc, farm, pass, command, at);
     let second = run_of(rt, alloc, farm, pass, command, at);
-    first == Some(run) && second == Some(run)
+    let third = run_of(rt, alloc, farm, pass, command, at);
+    let fourth = run_of(rt, alloc, farm, pass, command, at);
+    [first, second, third, fourth] == [Some(run); 4]
 }
 
-/// One lease, which at each stride is asked for again and reported. Answers whether each reply is as it should be.
+/// Whether a command is answered eight times with the run that it has to do with.
+fn is_repeated<R: Wait>(
+    rt: &R,
+    alloc: Global,
+    farm: &Shared,
+    pass: &mut Pass,
+    command: &Command,
+    at: Moment,
+    run: u32,
+) -> bool
+    requires { IsReady farm.now pass.old }
+    ensures { IsReady farm.entry.now pass.new }
+{
+    let first = is_again(rt, alloc, farm, pass, command, at, run);
+    let second = is_again(rt, alloc, farm, pass, command, at, run);
+    first && second
+}
+
+/// One lease, which is asked for again and again, and at each stride reported. Answers whether each reply is as it should
+/// be.
 fn step<R: Wait>(
     rt: &R,
     alloc: Global,
@@ -91,15 +113,15 @@ fn step<R: Wait>(
     let Some(run) = run_of(rt, alloc, farm, pass, &command, at) else {
         return false;
     };
+    let same = is_repeated(rt, alloc, farm, pass, &command, at, run);
     if number % STRIDE != 0 {
-        return true;
+        return same;
     }
     let verdict = if number % (2 * STRIDE) == 0 {
         Verdict::Fail
     } else {
         Verdict::Pass
     };
-    let same = is_repeated(rt, alloc, farm, pass, &command, at, run);
     is_repeated(
         rt,
         alloc,
@@ -368,11 +390,19 @@ fn admitted(alloc: Global, history: &[Entry]) -> Option<Farm> {
     Some(farm)
 }
 
-/// Whether another farm admits a history, entry by entry, so that it is legal.
-fn is_legal(alloc: Global, history: &[Entry]) -> bool {
+/// Whether another farm admits a history, entry by entry.
+fn is_admitted(alloc: Global, history: &[Entry]) -> bool {
     match admitted(alloc, history) {
         Some(farm) => farm.history() == history,
         None => false,
+    }
+}
+
+/// Whether the plain program finds no entry that may not stand where it does.
+fn is_legal(alloc: Global, history: &[Entry]) -> bool {
+    match first_illegal(alloc, history) {
+        Ok(place) => place.is_none(),
+        Err(_) => false,
     }
 }
 
@@ -386,6 +416,7 @@ fn each_call_of_four_threads_stands_in_a_legal_history(rt: HostRuntime) -> Resul
         return Err(Fail::from("a wrong reply"));
     };
     assert!(rt; is_legal(alloc, store.history()));
+    assert!(rt; is_admitted(alloc, store.history()));
     assert!(rt; is_whole(store.history()));
     Ok(())
 }
