@@ -5,7 +5,7 @@ ghost use Rattle.farm_entry.specs.Reply.{reply_at};
 
 use farm_entry::Reply;
 use farm_types::Memory;
-use kept_farm::KeptFarm;
+use kept_decisions::KeptFarm;
 
 /// Takes the last entries away, down to a count. It takes no memory.
 pub fn cut(kept: &mut KeptFarm, count: usize)

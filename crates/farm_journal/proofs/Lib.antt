@@ -10,3 +10,4 @@ pub mod OpeningSteps
 pub mod Run
 pub mod Scan
 pub mod Upgrade
+pub mod Crossing

@@ -5,3 +5,4 @@ pub mod Bookings
 pub mod Earliest
 pub mod Changed
 pub mod Served
+pub mod Crossing

@@ -8,3 +8,4 @@ pub mod GoingOn
 pub mod Repairs
 pub mod Spellings
 pub mod Standing
+pub mod Crossing

@@ -4,3 +4,4 @@ pub mod Steps
 pub mod Closing
 pub mod Walks
 pub mod Going
+pub mod Crossing

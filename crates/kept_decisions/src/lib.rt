@@ -18,4 +18,5 @@ mod legal;
 mod search_page;
 
 pub use decisions::decide;
+pub use kept_farm::KeptFarm;
 pub use legal::is_next;

@@ -1,3 +1,4 @@
 mod Keeping
 mod Counting
 mod Replied
+pub mod Crossing

@@ -3,3 +3,4 @@ pub mod Loads
 pub mod Picks
 pub mod Reclosed
 pub mod Verified
+pub mod Crossing

@@ -4,7 +4,8 @@ use Rattle.std.proofs.Crossing.{crosses}
 use Rattle.farm_disk.specs.contracts.in_memory.calm_disk.CalmDisk as CalmDisk
 use Rattle.farm_disk.specs.contracts.in_memory.calm_disk.CalmDiskDisk.TheImpl.{ghosts}
 use Rattle.shared_farm.specs.contracts.farm.SharedFarm as SharedFarm
-use Rattle.shared_farm.proofs.Crossing.{told_list-send, shared_farm-sync, along}
+use Rattle.told_list.proofs.Crossing.{told_list-send}
+use Rattle.shared_farm.proofs.Crossing.{shared_farm-sync, along}
 
 calm_disk-send : IsSend CalmDisk.the_row
 calm_disk-send = search (told_list-send, sendable, crosses) depth 20
