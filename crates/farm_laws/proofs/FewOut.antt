@@ -14,11 +14,12 @@ use Rattle.farm_entry.specs.declared.entry.Entry.{Entry}
 use Rattle.farm_entry.specs.declared.lease.DueRun.{DueRun}
 use Rattle.farm_entry.specs.declared.lease.LeasedRun.{LeasedRun}
 use Rattle.farm_entry.specs.declared.opening.Opening.{Opening}
+use Rattle.farm_laws.specs.Openings.{HasOpening}
 use Rattle.farm_laws.proofs.Counts.{filter-none}
 use Rattle.farm_laws.proofs.EntryParts.{leased-facts}
 use Rattle.farm_laws.proofs.Filters.{opening_numbered-stays}
 use Rattle.farm_laws.proofs.Induct.{each_legal}
-use Rattle.farm_laws.proofs.Known.{HasOpening, leases-known, next_run-due}
+use Rattle.farm_laws.proofs.Known.{leases-known, next_run-due}
 use Rattle.farm_laws.proofs.Numbered.{no_lease, opening-found}
 use Rattle.farm_laws.proofs.OpenLeases.{IsHanded, is_for, is_out, new_cases, new_out, out-grow}
 use Rattle.farm_laws.proofs.Stepped.{Stepped}

@@ -16,6 +16,7 @@ use Rattle.farm_entry.specs.declared.lease.ReportedRun.{ReportedRun}
 use Rattle.farm_entry.specs.declared.opening.Opening.{Opening}
 use Rattle.farm_entry.specs.declared.standing.Standing.{Standing}
 use Rattle.farm_entry.specs.declared.standing.Standing.TheVariants.{Searching, Verifying, Confirmed, Vindicated, NoCulprit, Inconclusive, Cancelled}
+use Rattle.farm_laws.specs.Openings.{HasOpening}
 use Rattle.farm_laws.proofs.EntryParts.{each_part, leased-facts, reported-facts}
 use Rattle.farm_laws.proofs.Filters.{HasLease, ReportsKnown, lease_of-stays, opening_numbered-stays}
 use Rattle.farm_laws.proofs.Lists.{contains-head, contains-tail}
@@ -99,9 +100,6 @@ next_run-due H m d h =
     }
 
 -- each run that was handed out is of a search
-abbrev pub HasOpening : List Entry → ℕ → Type 0
-HasOpening H s = (o : Opening) × (opening_numbered H s ≡ Some o)
-
 pub leases-known : (H : List Entry) → IsLegal H → All (λ (l : LeasedRun). HasOpening H l.search) (all_leases H)
 leases-known =
     each_part lease_in (λ (H : List Entry) (l : LeasedRun). HasOpening H l.search) no_lease

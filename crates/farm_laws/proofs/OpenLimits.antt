@@ -2,9 +2,7 @@
 use Rattle.std.proofs.Common.{◌≡◌, ℕ, ◌*◌, ◌-◌, ◌<◌, ◌≤◌, List, [], ◌∷◌, ◌++◌, length, map, slice_index, All, Contains, arith, length-append}
 use Rattle.std.proofs.lemmas.List.{get_or_push, length-map}
 use Rattle.std.proofs.lemmas.List.Elements.{All-contains}
-use Rattle.flake_rate.specs.Miss.{FitsRate}
 use Rattle.flake_rate.proofs.Values.{miss-in_limits, rate-in_limits}
-use Rattle.suspect_range.specs.Range.{IsSuspectRange}
 use Rattle.suspect_range.proofs.Legal.{IsSuspectRange-from_no_fault}
 use Rattle.weight_exact.specs.Weights.{Setup, hypotheses, prior}
 use Rattle.weight_exact.proofs.FactorNumbers.{fail_out_positive, pass_out_positive}
@@ -15,16 +13,10 @@ use Rattle.farm_entry.specs.declared.entry.Entry.{Entry}
 use Rattle.weight_exact.specs.declared.limits.TheConstants.{MAX_WIDTH}
 use Rattle.farm_entry.specs.declared.limits.TheConstants.{MAX_RERUNS}
 use Rattle.farm_entry.specs.declared.opening.Opening.{Opening}
+use Rattle.farm_laws.specs.Openings.{OpenWithin}
 use Rattle.farm_laws.proofs.EntryParts.{each_part, opened-facts}
 use Rattle.farm_laws.proofs.Made.{fits_of, is_made, range_of, within_of}
 use Rattle.farm_laws.proofs.Numbered.{no_opening}
-
--- what a search was opened within
-pub record OpenWithin (o : Opening) : Type 0 where
-  pub range : IsSuspectRange o.range.base o.range.suspects o.range.calm
-  pub miss : FitsRate o.miss o.rate
-  pub width : (1 ≤ o.width) × (o.width ≤ MAX_WIDTH)
-  pub reruns : (1 ≤ o.reruns) × (o.reruns ≤ MAX_RERUNS)
 
 pub all-open_within : (H : List Entry) → IsLegal H → All (λ (o : Opening). OpenWithin o) (openings H)
 all-open_within =

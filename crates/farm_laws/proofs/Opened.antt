@@ -18,10 +18,11 @@ use Rattle.farm_entry.specs.declared.lease.ReportedRun.{ReportedRun}
 use Rattle.farm_entry.specs.declared.opening.Opening.{Opening}
 use Rattle.farm_entry.proofs.Growing.{openings-grow}
 use Rattle.farm_entry.specs.Legal.{ask_of}
+use Rattle.farm_laws.specs.Openings.{HasOpening}
 use Rattle.farm_laws.proofs.EntryParts.{opened-facts}
 use Rattle.farm_laws.proofs.Filters.{HasLease, counted-grow}
 use Rattle.farm_laws.proofs.Induct.{each_legal}
-use Rattle.farm_laws.proofs.Known.{HasOpening, leases-known, reports-known}
+use Rattle.farm_laws.proofs.Known.{leases-known, reports-known}
 use Rattle.farm_laws.proofs.Made.{is_made}
 use Rattle.farm_laws.proofs.Numbered.{lease-there, no_opening, number-at, openings-numbered}
 use Rattle.farm_laws.proofs.RunSteps.{chosen_run, counted_run-is}

@@ -15,9 +15,10 @@ use Rattle.farm_entry.specs.declared.entry.What.TheVariants.{Founded, Opened, Le
 use Rattle.farm_entry.specs.declared.lease.LeasedRun.{LeasedRun}
 use Rattle.farm_entry.specs.declared.reply.Reply.{Reply}
 use Rattle.farm_entry.specs.declared.settings.Settings.{Settings}
+use Rattle.farm_laws.specs.Openings.{HasOpening}
 use Rattle.farm_laws.proofs.Filters.{lease_of-stays, opening_numbered-stays}
 use Rattle.farm_laws.proofs.Induct.{each_legal}
-use Rattle.farm_laws.proofs.Known.{HasOpening, leases-known, next_run-due}
+use Rattle.farm_laws.proofs.Known.{leases-known, next_run-due}
 use Rattle.farm_laws.proofs.Numbered.{lease-there, opening-found}
 use Rattle.farm_laws.proofs.Stepped.{KindFacts}
 

@@ -1,3 +1,4 @@
 pub mod Days
 pub mod Laws
 pub mod Loads
+pub mod Openings

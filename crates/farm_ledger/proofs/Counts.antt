@@ -13,8 +13,9 @@ use Rattle.farm_entry.specs.declared.entry.What.{What}
 use Rattle.farm_entry.specs.declared.entry.What.TheVariants.{Founded, Opened, Leased, Reported, Cancelled, Ordered}
 use Rattle.farm_entry.specs.declared.lease.LeasedRun.{LeasedRun}
 use Rattle.farm_entry.specs.declared.opening.Opening.{Opening}
+use Rattle.farm_laws.specs.Openings.{HasOpening}
 use Rattle.farm_laws.proofs.Filters.{leases-grow}
-use Rattle.farm_laws.proofs.Known.{HasOpening, leases-known}
+use Rattle.farm_laws.proofs.Known.{leases-known}
 use Rattle.farm_laws.proofs.Lists.{nil-filter}
 use Rattle.farm_laws.proofs.Numbered.{number-at, opening-there, openings-numbered}
 use Rattle.farm_ledger.specs.Rows.{blank, one_less, one_more, with_lease, with_row, without_lease, without_row}

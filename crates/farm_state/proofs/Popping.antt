@@ -12,10 +12,11 @@ use Rattle.farm_entry.specs.declared.entry.What.TheVariants.{Founded, Opened, Le
 use Rattle.farm_entry.specs.declared.lease.LeasedRun.{LeasedRun}
 use Rattle.farm_entry.specs.declared.lease.ReportedRun.{ReportedRun}
 use Rattle.farm_entry.specs.declared.opening.Opening.{Opening}
+use Rattle.farm_laws.specs.Openings.{HasOpening}
 use Rattle.farm_laws.proofs.EntryParts.{cancelled-facts, reported-facts}
 use Rattle.farm_laws.proofs.Filters.{lease_of-stays, opening_numbered-stays}
 use Rattle.farm_laws.proofs.Induct.{IsLegal-first, IsLegal-pushed}
-use Rattle.farm_laws.proofs.Known.{HasOpening, leases-known}
+use Rattle.farm_laws.proofs.Known.{leases-known}
 use Rattle.farm_laws.proofs.Numbered.{lease-there, opening-found, opening-there}
 use Rattle.farm_laws.proofs.Stepped.{stepped}
 use Rattle.farm_books.proofs.Entries.{IsLast, last-of}

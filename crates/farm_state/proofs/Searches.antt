@@ -10,9 +10,10 @@ use Rattle.farm_entry.specs.declared.entry.Entry.{Entry}
 use Rattle.farm_entry.specs.declared.lease.LeasedRun.{LeasedRun}
 use Rattle.farm_entry.specs.declared.opening.Opening.{Opening}
 use Rattle.farm_entry.proofs.Growing.{openings-grow}
-use Rattle.farm_laws.proofs.Known.{HasOpening, leases-known}
+use Rattle.farm_laws.specs.Openings.{HasOpening, OpenWithin}
+use Rattle.farm_laws.proofs.Known.{leases-known}
 use Rattle.farm_laws.proofs.Numbered.{lease-there, number-at, opening-found, opening-there, openings-numbered}
-use Rattle.farm_laws.proofs.OpenLimits.{OpenWithin, open_within}
+use Rattle.farm_laws.proofs.OpenLimits.{open_within}
 use Rattle.search_state.specs.SearchView.{SearchView}
 use Rattle.state_laws.specs.Seen.{all_seen, seen}
 

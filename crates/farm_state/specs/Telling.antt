@@ -7,7 +7,7 @@ use Rattle.farm_entry.specs.declared.entry.What.{What}
 use Rattle.farm_entry.specs.declared.lease.LeasedRun.{LeasedRun}
 use Rattle.farm_entry.specs.declared.lease.ReportedRun.{ReportedRun}
 use Rattle.farm_entry.specs.declared.limits.TheConstants.{MAX_ENTRIES}
-use Rattle.farm_laws.proofs.Known.{HasOpening}
+use Rattle.farm_laws.specs.Openings.{HasOpening}
 use Rattle.search_laws.specs.Steps.{IsAbout}
 use Rattle.search_state.specs.SearchView.{IsPlaced, SearchView, after_report, cancelled, fate_in}
 

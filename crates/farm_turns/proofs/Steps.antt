@@ -15,10 +15,11 @@ use Rattle.farm_entry.specs.declared.lease.LeasedRun.{LeasedRun}
 use Rattle.farm_entry.specs.declared.lease.ReportedRun.{ReportedRun}
 use Rattle.farm_entry.specs.declared.opening.Opening.{Opening}
 use Rattle.farm_entry.proofs.Growing.{openings-grow}
+use Rattle.farm_laws.specs.Openings.{HasOpening}
 use Rattle.farm_laws.proofs.Ends.{end-kept}
 use Rattle.farm_laws.proofs.EntryParts.{cancelled-facts, opened-facts, reported-facts}
 use Rattle.farm_laws.proofs.Induct.{IsLegal-pushed}
-use Rattle.farm_laws.proofs.Known.{HasOpening, leases-known}
+use Rattle.farm_laws.proofs.Known.{leases-known}
 use Rattle.farm_laws.proofs.Lists.{contains-head}
 use Rattle.farm_laws.proofs.Made.{is_made}
 use Rattle.farm_laws.proofs.Numbered.{lease-there, number-at, opening-found, opening-there, openings-numbered}

@@ -22,9 +22,10 @@ use Rattle.farm_entry.specs.declared.reply.Reply.TheVariants as reply
 use Rattle.farm_entry.specs.declared.standing.Standing.{Standing}
 use Rattle.farm_entry.specs.declared.standing.Standing.TheVariants.{Searching}
 use Rattle.farm_entry.proofs.Growing.{all_leases-grow, openings-grow, reports-grow}
+use Rattle.farm_laws.specs.Openings.{HasOpening}
 use Rattle.farm_laws.proofs.Filters.{HasLease}
 use Rattle.farm_laws.proofs.Induct.{IsLegal-first}
-use Rattle.farm_laws.proofs.Known.{HasOpening, leases-known, reports-known}
+use Rattle.farm_laws.proofs.Known.{leases-known, reports-known}
 use Rattle.farm_laws.proofs.Numbered.{lease-there}
 use Rattle.farm_laws.proofs.OpenLimits.{open_within}
 use Rattle.kept_farm.specs.Changes.{last_standing, search_in, standing_of}

@@ -17,7 +17,8 @@ use Rattle.threshold_pick.proofs.Alive.{RiseAbove-cumulative}
 use Rattle.threshold_pick.proofs.Plans.{ArePicks-plan}
 use Rattle.farm_entry.specs.Setup.{setup_of}
 use Rattle.farm_entry.specs.declared.opening.Opening.{Opening}
-use Rattle.farm_laws.proofs.OpenLimits.{OpenWithin, setup_facts}
+use Rattle.farm_laws.specs.Openings.{OpenWithin}
+use Rattle.farm_laws.proofs.OpenLimits.{setup_facts}
 use Rattle.farm_laws.proofs.Standings.{some-left}
 use Rattle.belief_laws.proofs.Beliefs.{are_cumulative, are_positive, hypotheses-of, prior_positive}
 

@@ -9,7 +9,7 @@ use Rattle.verify_flow.specs.Verification.{Verification}
 use Rattle.farm_entry.specs.Setup.{setup_of}
 use Rattle.farm_entry.specs.declared.opening.Opening.{Opening}
 use Rattle.farm_entry.specs.declared.standing.Standing.TheVariants.{Verifying}
-use Rattle.farm_laws.proofs.OpenLimits.{OpenWithin}
+use Rattle.farm_laws.specs.Openings.{OpenWithin}
 use Rattle.search_state.specs.SearchView.{SearchView, bar_of, standing_in}
 use Rattle.search_state.specs.declared.state.SearchState.TheInside.{Inside}
 

@@ -9,7 +9,7 @@ ghost use Rattle.posterior.specs.StandsFor.{StandsFor};
 ghost use Rattle.farm_entry.specs.Setup.{budget_of_search, setup_of};
 ghost use Rattle.farm_entry.specs.declared.limits.TheConstants.{MAX_ENTRIES};
 ghost use Rattle.farm_entry.specs.declared.standing.Standing.TheVariants.{Searching, Verifying};
-ghost use Rattle.farm_laws.proofs.OpenLimits.{OpenWithin};
+ghost use Rattle.farm_laws.specs.Openings.{OpenWithin};
 ghost use Rattle.search_state.specs.SearchView.{IsPlaced, adds_load, after_counted, after_report, cancelled, due_in, fate_in, gone_over, has_room, opened, passes_budget, position_searching, position_verifying, shares_in, standing_in};
 
 use crate::decided::{first_standing, first_verification, next_standing};

@@ -18,9 +18,10 @@ use Rattle.farm_entry.specs.declared.entry.What.TheVariants.{Founded, Opened, Le
 use Rattle.farm_entry.specs.declared.lease.LeasedRun.{LeasedRun}
 use Rattle.farm_entry.specs.declared.lease.ReportedRun.{ReportedRun}
 use Rattle.farm_entry.specs.declared.opening.Opening.{Opening}
+use Rattle.farm_laws.specs.Openings.{HasOpening}
 use Rattle.farm_laws.proofs.EntryParts.{cancelled-facts, each_part, opened-facts}
 use Rattle.farm_laws.proofs.Filters.{HasLease, counted-grow, lease_of-stays, opening_numbered-stays, was_cancelled-grow, went_over-grow}
-use Rattle.farm_laws.proofs.Known.{HasOpening, leases-known, reports-known}
+use Rattle.farm_laws.proofs.Known.{leases-known, reports-known}
 use Rattle.farm_laws.proofs.Made.{is_made}
 use Rattle.farm_laws.proofs.Numbered.{lease-there, number-at, opening-there, openings-numbered}
 use Rattle.farm_laws.proofs.Opened.{fresh-counted}

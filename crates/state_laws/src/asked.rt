@@ -5,7 +5,7 @@ ghost use Rattle.farm_entry.specs.Decision.{run_with};
 ghost use Rattle.farm_entry.specs.History.{lease_of, openings, report_in, reruns, runs};
 ghost use Rattle.farm_entry.specs.Legal.{IsLegal};
 ghost use Rattle.farm_entry.specs.declared.limits.TheConstants.{MAX_ENTRIES};
-ghost use Rattle.farm_laws.proofs.OpenLimits.{OpenWithin};
+ghost use Rattle.farm_laws.specs.Openings.{OpenWithin};
 ghost use Rattle.search_state.specs.SearchView.{IsPlaced, fate_in};
 ghost use Rattle.state_laws.specs.Seen.{seen};
 

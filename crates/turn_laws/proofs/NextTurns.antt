@@ -17,10 +17,11 @@ use Rattle.farm_entry.specs.declared.entry.What.TheVariants.{Founded, Opened, Le
 use Rattle.farm_entry.specs.declared.lease.LeasedRun.{LeasedRun}
 use Rattle.farm_entry.specs.declared.opening.Opening.{Opening}
 use Rattle.farm_entry.proofs.Growing.{openings-grow}
+use Rattle.farm_laws.specs.Openings.{HasOpening}
 use Rattle.farm_laws.proofs.Ends.{end-kept}
 use Rattle.farm_laws.proofs.EntryParts.{leased-facts, opened-facts}
 use Rattle.farm_laws.proofs.Induct.{IsLegal-pushed}
-use Rattle.farm_laws.proofs.Known.{HasOpening, leases-known, next_run-due}
+use Rattle.farm_laws.proofs.Known.{leases-known, next_run-due}
 use Rattle.farm_laws.proofs.Lists.{contains-head, contains-nil, nil-filter}
 use Rattle.farm_laws.proofs.Made.{is_made}
 use Rattle.farm_laws.proofs.Numbered.{no_opening, number-at, opening-found, opening-there, openings-numbered}

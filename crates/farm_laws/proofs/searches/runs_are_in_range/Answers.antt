@@ -1,8 +1,9 @@
 use Rattle.std.proofs.lemmas.List.Elements.{All-contains}
 use Rattle.farm_entry.specs.History.{all_leases}
 use Rattle.farm_entry.specs.declared.lease.LeasedRun.{LeasedRun}
+use Rattle.farm_laws.specs.Openings.{HasOpening}
 use Rattle.farm_laws.proofs.InRange.{leases-fit_search, runs-in_range}
-use Rattle.farm_laws.proofs.Known.{HasOpening, leases-known}
+use Rattle.farm_laws.proofs.Known.{leases-known}
 use Rattle.farm_laws.proofs.searches.runs_are_in_range.Goals as goal
 
 pub returns : goal.returns
