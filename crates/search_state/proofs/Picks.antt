@@ -1,11 +1,12 @@
 -- The plan of a search can be made of what is kept of it.
-use Rattle.std.proofs.Common.{◌≡◌, ℕ, ◌+◌, ◌*◌, ◌^◌, ◌<◌, ◌≤◌, List, None, length, sym, ap, subst, ◌∙◌, arith}
+use Rattle.std.proofs.Common.{◌≡◌, ℕ, ◌+◌, ◌*◌, ◌^◌, ◌<◌, ◌≤◌, Bool, if◌then◌else◌, List, None, length, sym, ap, subst, ◌∙◌, arith, le-ltb}
 use Rattle.weight_exact.specs.Load.{floor}
 use Rattle.weight_exact.specs.Plan.{plan}
 use Rattle.weight_exact.specs.Share.{reached}
 use Rattle.weight_exact.specs.Weights.{AreInRange, Setup, hypotheses, suspects, total}
 use Rattle.weight_exact.specs.declared.limits.TheConstants.{BASIS_POINTS}
 use Rattle.weight_exact.specs.declared.run.Run.{Run}
+use Rattle.weight_exact.proofs.Plans.{length-plan}
 use Rattle.weight_exact.proofs.Shares.{total_positive}
 use Rattle.posterior.specs.Kept.{Kept, at}
 use Rattle.posterior.specs.StandsFor.{StandsFor}
@@ -15,6 +16,7 @@ use Rattle.threshold_pick.specs.Picks.{ArePicks}
 use Rattle.threshold_pick.specs.Sums.{RiseAbove, whole}
 use Rattle.threshold_pick.proofs.Alive.{RiseAbove-cumulative}
 use Rattle.threshold_pick.proofs.Plans.{ArePicks-plan}
+use Rattle.farm_rules.specs.Due.{due_search, first_entry, struck}
 use Rattle.farm_entry.specs.Setup.{setup_of}
 use Rattle.farm_entry.specs.declared.opening.Opening.{Opening}
 use Rattle.farm_laws.specs.Openings.{OpenWithin}
@@ -69,3 +71,12 @@ undecided-plan o told k positions u picks =
     let ready = is_ready o told k u in
     ArePicks-plan (setup_of o) told k.sums positions o.width ready.sums ready.total ready.left
     (subst (λ (n : ℕ). ArePicks k.sums n o.width positions) ready.floor_is picks)
+
+-- nothing is due where as many runs are out as the plan has places
+pub full-none : (o : Opening) (told : List Run) (out : List ℕ) → o.width ≤ length out →
+    due_search (plan (setup_of o) told o.width) out ≡ None
+full-none o told out full =
+    let places : List ℕ = plan (setup_of o) told o.width in
+    let long : length places ≡ o.width = length-plan (setup_of o) told o.width in
+    ap (λ (b : Bool). if b then first_entry (struck places out) else None)
+    (le-ltb (length out) (length places) (omega (arith, full, long)))

@@ -159,8 +159,11 @@ impl SearchState {
         requires { standing_in self.now ≡ Searching }
         ensures { result ≡ position_searching self.now outstanding.now }
     {
-        let mut plan = [0; MAX_WIDTH as usize];
         let places = usize::from(self.width);
+        if places <= outstanding.len() {
+            return None;
+        }
+        let mut plan = [0; MAX_WIDTH as usize];
         self.write_plan(&mut plan[..places]);
         due_search(&plan[..places], outstanding)
     }
