@@ -44,7 +44,6 @@ fn lease_of(dice: &mut Dice, run: u32, now: u64) -> Lease
         stage: stage_of(dice),
         position: (dice.below(1_000) & 0xffff) as u16,
         deadline: now.saturating_add(wait_of(dice)),
-        place: dice.below(1_000_000),
     }
 }
 

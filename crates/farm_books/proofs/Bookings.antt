@@ -259,10 +259,10 @@ still-leases H e helds no_lease no_report are =
     }
 
 -- a lease more
-booked-leases : (H : List Entry) (e : Entry) (helds : List Held) (l : LeasedRun) (place : ℕ) → IsLegal H →
+booked-leases : (H : List Entry) (e : Entry) (helds : List Held) (l : LeasedRun) → IsLegal H →
     lease_in e.what ≡ Some l → l.run ≡ length (all_leases H) + 1 → AreLeases H helds →
-    AreLeases (H ++ e ∷ []) (helds ++ booked l place ∷ [])
-booked-leases H e helds l place legal is number are =
+    AreLeases (H ++ e ∷ []) (helds ++ booked l ∷ [])
+booked-leases H e helds l legal is number are =
     let more = more-leases H e l is in
     let longer = H ++ e ∷ [] in
     let no_report = lease-not_report e.what l is in
@@ -270,11 +270,11 @@ booked-leases H e helds l place legal is number are =
     sym (unreported-step H e l.run no_report ∙ next-unreported H l.run legal number) in
     record {
       leases_are =
-          map-append (λ (held : Held). leased held.lease) helds (booked l place ∷ [])
+          map-append (λ (held : Held). leased held.lease) helds (booked l ∷ [])
           ∙ ap (λ (ls : List LeasedRun). ls ++ l ∷ []) are.leases_are
           ∙ sym more;
       marks_are =
-          map-append (λ (held : Held). held.is_answered) helds (booked l place ∷ [])
+          map-append (λ (held : Held). held.is_answered) helds (booked l ∷ [])
           ∙ ap (λ (bs : List Bool). bs ++ false ∷ []) (are.marks_are ∙ sym (quiet-marks H e (all_leases H) no_report))
           ∙ ap (λ (b : Bool). tests_of (is_reported longer) (all_leases H) ++ b ∷ []) fresh
           ∙ sym (map-append (λ (x : LeasedRun). is_reported longer x.run) (all_leases H) (l ∷ []))
@@ -296,22 +296,22 @@ marked-more H e helds r legal is some are =
           ∙ ap (tests_of (is_reported longer)) (sym same);
     }
 
-push-by : (H : List Entry) (e : Entry) (helds : List Held) (place : ℕ) (lease : Option LeasedRun)
+push-by : (H : List Entry) (e : Entry) (helds : List Held) (lease : Option LeasedRun)
     (report : Option ReportedRun) → IsLegal H → Stepped H e.at e.what → lease_in e.what ≡ lease → report_in e.what ≡ report →
-    AreLeases H helds → AreLeases (H ++ e ∷ []) (with_mark true (with_lease helds lease place) report)
-push-by H e helds place None None legal step no_lease no_report are = still-leases H e helds no_lease no_report are
-push-by H e helds place (Some l) None legal step is no_report are =
-    booked-leases H e helds l place legal is (leased-facts H e.at e.what l is step).number are
-push-by H e helds place None (Some r) legal step no_lease is are =
+    AreLeases H helds → AreLeases (H ++ e ∷ []) (with_mark true (with_lease helds lease) report)
+push-by H e helds None None legal step no_lease no_report are = still-leases H e helds no_lease no_report are
+push-by H e helds (Some l) None legal step is no_report are =
+    booked-leases H e helds l legal is (leased-facts H e.at e.what l is step).number are
+push-by H e helds None (Some r) legal step no_lease is are =
     let facts = reported-facts H e.at e.what r is step in
     marked-more H e helds r legal is (lease-low H r.run legal (facts.lease, facts.known)).0 are
-push-by H e helds place (Some l) (Some r) legal step is reported are =
+push-by H e helds (Some l) (Some r) legal step is reported are =
     absurd (none-some r (sym (lease-not_report e.what l is) ∙ reported))
 
-pub leases-push : (H : List Entry) (e : Entry) (helds : List Held) (place : ℕ) → IsLegal H → Stepped H e.at e.what →
-    AreLeases H helds → AreLeases (H ++ e ∷ []) (with_mark true (with_lease helds (lease_in e.what) place) (report_in e.what))
-leases-push H e helds place legal step are =
-    push-by H e helds place (lease_in e.what) (report_in e.what) legal step refl refl are
+pub leases-push : (H : List Entry) (e : Entry) (helds : List Held) → IsLegal H → Stepped H e.at e.what →
+    AreLeases H helds → AreLeases (H ++ e ∷ []) (with_mark true (with_lease helds (lease_in e.what)) (report_in e.what))
+leases-push H e helds legal step are =
+    push-by H e helds (lease_in e.what) (report_in e.what) legal step refl refl are
 
 -- And what is left without it.
 

@@ -56,11 +56,11 @@ report-known H e helds (Some r) n legal are step is long =
     let low = lease-low H r.run legal (facts.lease, facts.known) in
     (omega (arith, low.0), omega (arith, low.1, long, leases-count H helds are))
 
-pub with_lease-long : (helds : List Held) (part : Option LeasedRun) (place : ℕ) →
-    length helds ≤ length (with_lease helds part place)
-with_lease-long helds None place = omega arith
-with_lease-long helds (Some l) place =
-    let long : length (helds ++ booked l place ∷ []) ≡ length helds + 1 = length-append helds (booked l place ∷ []) in
+pub with_lease-long : (helds : List Held) (part : Option LeasedRun) →
+    length helds ≤ length (with_lease helds part)
+with_lease-long helds None = omega arith
+with_lease-long helds (Some l) =
+    let long : length (helds ++ booked l ∷ []) ≡ length helds + 1 = length-append helds (booked l ∷ []) in
     omega (arith, long)
 
 -- the books with it
@@ -68,7 +68,7 @@ pub pushed-books : (s t : Inside) (e : Entry) (place : ℕ) → AreBooks s → S
     IsLegal (s.entries.items ++ e ∷ []) → place ≡ length s.entries.items →
     t.entries.items ≡ s.entries.items ++ e ∷ [] → t.inbox.keys ≡ with_key s.inbox.keys (key_in e.what) place →
     t.inbox.runs ≡ with_report s.inbox.runs (report_in e.what) place →
-    t.leases.leases ≡ with_mark true (with_lease s.leases.leases (lease_in e.what) place) (report_in e.what) → AreBooks t
+    t.leases.leases ≡ with_mark true (with_lease s.leases.leases (lease_in e.what)) (report_in e.what) → AreBooks t
 pushed-books s t e place b step longer at entries keys runs leases =
     let H : List Entry = s.entries.items in
     let more = sym entries in
@@ -84,7 +84,7 @@ pushed-books s t e place b step longer at entries keys runs leases =
           (reports-push H e s.inbox.runs b.reports (λ r is. (reported-facts H e.at e.what r is step).first)));
       leases =
           subst (λ (X : List Entry). AreLeases X t.leases.leases) more
-          (subst (AreLeases (H ++ e ∷ [])) (sym leases) (leases-push H e s.leases.leases place b.legal step b.leases));
+          (subst (AreLeases (H ++ e ∷ [])) (sym leases) (leases-push H e s.leases.leases b.legal step b.leases));
     }
 
 -- The last entry, that is taken away.

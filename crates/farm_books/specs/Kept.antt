@@ -49,23 +49,22 @@ abbrev pub without_report : Places → Option ReportedRun → Places
 without_report runs None = runs
 without_report runs (Some r) = remove runs r.run
 
--- the lease that is booked for a run that is handed out at a place
-abbrev pub booked : LeasedRun → (place : ℕ) → Held
-booked l place = record {
+-- the lease that is booked for a run that is handed out
+abbrev pub booked : LeasedRun → Held
+booked l = record {
   lease = record {
     run = l.run;
     search = l.search;
     stage = l.stage;
     position = l.position;
     deadline = l.deadline;
-    place = place;
   };
   is_answered = false;
 }
 
-abbrev pub with_lease : List Held → Option LeasedRun → (place : ℕ) → List Held
-with_lease helds None place = helds
-with_lease helds (Some l) place = helds ++ booked l place ∷ []
+abbrev pub with_lease : List Held → Option LeasedRun → List Held
+with_lease helds None = helds
+with_lease helds (Some l) = helds ++ booked l ∷ []
 
 abbrev pub without_lease : List Held → Option LeasedRun → List Held
 without_lease helds None = helds

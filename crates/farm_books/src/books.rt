@@ -140,7 +140,7 @@ impl Books {
         self.entries.push(entry)?;
         put_key(&mut self.inbox, key, place);
         put_report(&mut self.inbox, report, place);
-        put_lease(&mut self.leases, lease, place);
+        put_lease(&mut self.leases, lease);
         put_mark(&mut self.leases, report);
         Ok(())
     }

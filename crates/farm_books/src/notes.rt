@@ -83,12 +83,12 @@ pub(crate) fn reserve_lease(leases: &mut LeaseBook, lease: Option<LeasedRun>) ->
     }
 }
 
-/// Books a lease that is handed out at a place.
-pub(crate) fn put_lease(leases: &mut LeaseBook, lease: Option<LeasedRun>, place: u32)
+/// Books a lease that is handed out.
+pub(crate) fn put_lease(leases: &mut LeaseBook, lease: Option<LeasedRun>)
     requires room { 1 ≤ leases.old.room }
     requires number { IfSome lease (λ l. l.run ≡ length leases.old.leases + 1) }
     requires search { IfSome lease (λ l. l.search < leases.old.search_bound) }
-    ensures { leases.new.leases ≡ with_lease leases.old.leases lease place }
+    ensures { leases.new.leases ≡ with_lease leases.old.leases lease }
 {
     if let Some(lease) = lease {
         leases.add(Lease {
@@ -97,7 +97,6 @@ pub(crate) fn put_lease(leases: &mut LeaseBook, lease: Option<LeasedRun>, place:
             stage: lease.stage,
             position: lease.position,
             deadline: lease.deadline,
-            place,
         });
     }
 }

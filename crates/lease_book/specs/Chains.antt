@@ -33,7 +33,7 @@ helds kept = map held_of kept
 
 -- no lease
 abbrev pub no_lease : Lease
-no_lease = record { run = 0; search = 0; stage = Search; position = 0; deadline = 0; place = 0 }
+no_lease = record { run = 0; search = 0; stage = Search; position = 0; deadline = 0 }
 
 -- no row
 abbrev pub blank : Row

@@ -45,12 +45,11 @@ put_mark-requires c =
     let b = c.self.invariant in
     let step = entry-steps H c.args.self.now c.args.entry b.legal c.self.view_is c.requires in
     let helds : List Held = c.self.inside.leases.leases in
-    let place : ℕ = c.len-place.result in
-    let now : c.put_lease.new.leases.leases ≡ with_lease helds c.lease-lease.result place =
+    let now : c.put_lease.new.leases.leases ≡ with_lease helds c.lease-lease.result =
     c.put_lease.ensures
-    ∙ ap (λ (hs : List Held). with_lease hs c.lease-lease.result place) c.in_ok-reserve_lease.ensures.leases in
+    ∙ ap (λ (hs : List Held). with_lease hs c.lease-lease.result) c.in_ok-reserve_lease.ensures.leases in
     report-known H c.args.entry helds c.report-report.result (length c.put_lease.new.leases.leases) b.legal b.leases step
-    c.report-report.ensures (omega (arith, ap length now, with_lease-long helds c.lease-lease.result place))
+    c.report-report.ensures (omega (arith, ap length now, with_lease-long helds c.lease-lease.result))
 
 pub invariant_of-self-2 : goal.invariant_of-self-2
 invariant_of-self-2 c =
@@ -74,7 +73,7 @@ invariant_of-self-2 c =
     (c.put_mark.ensures
     ∙ ap (λ (hs : List Held). with_mark true hs c.report-report.result)
     (c.put_lease.ensures
-    ∙ ap (λ (hs : List Held). with_lease hs c.lease-lease.result place) c.in_ok-reserve_lease.ensures.leases
-    ∙ ap (λ (part : Option LeasedRun). with_lease s.leases.leases part place) c.lease-lease.ensures)
-    ∙ ap (λ (part : Option ReportedRun). with_mark true (with_lease s.leases.leases (lease_in e.what) place) part)
+    ∙ ap (λ (hs : List Held). with_lease hs c.lease-lease.result) c.in_ok-reserve_lease.ensures.leases
+    ∙ ap (λ (part : Option LeasedRun). with_lease s.leases.leases part) c.lease-lease.ensures)
+    ∙ ap (λ (part : Option ReportedRun). with_mark true (with_lease s.leases.leases (lease_in e.what)) part)
     c.report-report.ensures)
