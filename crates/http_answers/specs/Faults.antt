@@ -23,6 +23,14 @@ fault_text fault.NotFound = codes "{\"refused\":\"NotFound\"}"
 fault_text (fault.MethodNotAllowed methods) = codes "{\"refused\":\"MethodNotAllowed\"}"
 fault_text (fault.BadField name) = bad_field_text name
 
+-- the body of an answer whose command's entry the store couldn't take
+unfoldable pub store_fault_text : List ℕ
+store_fault_text = codes "{\"refused\":\"StoreFault\"}"
+
+-- the body of an answer for which memory was wanting
+unfoldable pub memory_text : List ℕ
+memory_text = codes "{\"refused\":\"Memory\"}"
+
 -- its status
 abbrev pub fault_status : Fault → Status
 fault_status fault.BadRequest = status.BadRequest

@@ -1,15 +1,24 @@
 //! How the faults of requests are answered.
 ghost use Rattle.std.specs.Prelude.{◌≡◌};
 ghost use Rattle.http_answers.specs.Faults.{fault_text, fault_status, fault_allow, bad_field_text};
+ghost use Rattle.http_answers.specs.Faults.{memory_text, store_fault_text};
 
 use crate::Status;
 use http_requests::{Allow, Fault, PathField};
 
 /// The body of an answer whose command's entry the store couldn't take.
-pub const STORE_FAULT_TEXT: &[u8] = br#"{"refused":"StoreFault"}"#;
+pub fn store_fault_text() -> &'static [u8]
+    ensures { result.now ≡ store_fault_text }
+{
+    br#"{"refused":"StoreFault"}"#
+}
 
 /// The body of an answer for which memory was wanting.
-pub const MEMORY_TEXT: &[u8] = br#"{"refused":"Memory"}"#;
+pub fn memory_text() -> &'static [u8]
+    ensures { result.now ≡ memory_text }
+{
+    br#"{"refused":"Memory"}"#
+}
 
 /// The body of the answer to a fault: a JSON object whose members stand in the order of their names.
 #[tactic(auto, unfolding(crate::specs::Faults::fault_text))]

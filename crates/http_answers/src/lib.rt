@@ -12,9 +12,7 @@ mod faults;
 mod lines;
 mod pieces;
 mod status;
-#[cfg(test)]
-mod tests;
 
 pub use answer::{Answer, put_answer, put_interim};
-pub use faults::{MEMORY_TEXT, STORE_FAULT_TEXT, fault_allow, fault_status, fault_text};
+pub use faults::{fault_allow, fault_status, fault_text, memory_text, store_fault_text};
 pub use status::Status;

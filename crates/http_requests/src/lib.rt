@@ -21,8 +21,6 @@ mod named;
 mod next;
 mod request;
 mod route;
-#[cfg(test)]
-mod tests;
 mod text;
 
 pub use endpoint::Endpoint;

@@ -13,8 +13,6 @@ mod limits;
 mod numbers;
 mod progress;
 mod reading;
-#[cfg(test)]
-mod tests;
 
 pub use limits::{INTERIM_STATUS, MAX_BODY_BYTES, MAX_FIELDS, MAX_HEAD_BYTES};
 pub use progress::{Progress, Response};

@@ -21,8 +21,6 @@ mod sink;
 mod source;
 mod standard;
 mod system_clock;
-#[cfg(test)]
-mod tests;
 
 pub use clock::Clock;
 pub use memory::{MemClock, MemSink, MemSource};

@@ -10,8 +10,6 @@
 mod action;
 mod event;
 pub mod laws;
-#[cfg(test)]
-mod tests;
 mod worker;
 
 pub use action::{Action, End};

@@ -7,7 +7,5 @@
 
 mod answer;
 mod members;
-#[cfg(test)]
-mod tests;
 
 pub use answer::{AnswerFault, LeaseAnswer, is_no_run, lease_of};

@@ -67,8 +67,8 @@ pub(crate) fn print_refusals(rt: &impl Print, alloc: Global) -> io::Result<()> {
     Ok(())
 }
 
-/// Prints the texts of the faults.
-pub(crate) fn print_faults(rt: &impl Print, alloc: Global) -> io::Result<()> {
+/// Prints the texts of the faults of lines and bodies.
+pub(crate) fn print_wire_faults(rt: &impl Print, alloc: Global) -> io::Result<()> {
     println!(rt; "")?;
     for fault in FAULTS.iter() {
         print_fault(rt, alloc, fault)?;

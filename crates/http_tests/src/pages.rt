@@ -1,7 +1,7 @@
 //! The text of each reply that shows something.
 
-use crate::replies::print_reply;
-use crate::texts::{commit_of, name_of, number_at, number_of, standing_of, word_at};
+use crate::replies::{print_reply, standing_of};
+use crate::texts::{number_at, number_of, word_at};
 use farm_entry::{OrderLine, OrderPage, Reply, SearchPage, Shares, Totals};
 use farm_types::{CommitId, Memory, Name};
 use std::alloc::Global;
@@ -19,7 +19,7 @@ fn shares_of(alloc: Global, text: &str) -> Result<Shares, Memory> {
 /// commit, and its shares behind a slash.
 pub(crate) fn print_page(rt: &impl Print, alloc: Global, text: &str) -> io::Result<()> {
     let (numbers, shares) = text.split_once(" / ").unwrap_or((text, ""));
-    match (name_of(alloc, "t"), shares_of(alloc, shares)) {
+    match (Name::of(alloc, "t"), shares_of(alloc, shares)) {
         (Ok(test), Ok(shares)) => {
             let page = SearchPage {
                 search: number_at(numbers, 0),
@@ -29,7 +29,7 @@ pub(crate) fn print_page(rt: &impl Print, alloc: Global, text: &str) -> io::Resu
                 counted: number_at(numbers, 3),
                 verified: number_at(numbers, 4),
                 standing: standing_of(word_at(numbers, 5)),
-                commit: commit_of(word_at(numbers, 6)),
+                commit: CommitId::read(word_at(numbers, 6)).ok(),
                 shares,
             };
             print_reply(rt, alloc, &Reply::Search(page))
@@ -82,10 +82,10 @@ fn print_first(
 /// Prints the page of one order, the first, on day 1: its agent, commit and search.
 pub(crate) fn print_order(rt: &impl Print, alloc: Global, text: &str) -> io::Result<()> {
     match (
-        name_of(alloc, word_at(text, 0)),
-        commit_of(word_at(text, 1)),
+        Name::of(alloc, word_at(text, 0)),
+        CommitId::read(word_at(text, 1)),
     ) {
-        (Ok(agent), Some(commit)) => print_first(rt, alloc, agent, commit, number_at(text, 2)),
+        (Ok(agent), Ok(commit)) => print_first(rt, alloc, agent, commit, number_at(text, 2)),
         _ => println!(rt; "no order"),
     }
 }

@@ -1,0 +1,52 @@
+//! What lines and bodies ask for.
+
+use crate::refusals::print_fault;
+use crate::texts::{bytes_of, number_of, print_found, word};
+use farm_wire::{Route, command_of, line_of};
+use std::alloc::Global;
+use std::io;
+
+// Prints what a line asks for and when, or its fault.
+fn print_line(rt: &impl Print, alloc: Global, line: &[u8]) -> io::Result<()> {
+    match line_of(alloc, line) {
+        Ok((at, command)) => println!(rt; "at {}, {command:?}", at.ms()),
+        Err(fault) => print_fault(rt, alloc, &fault),
+    }
+}
+
+fn route_of(name: &str, number: u32) -> Route {
+    match name {
+        "open" => Route::Open,
+        "lease" => Route::Lease,
+        "report" => Route::Report(number),
+        "cancel" => Route::Cancel(number),
+        "revert" => Route::Revert,
+        "search" => Route::Search(number),
+        "farm" => Route::Farm,
+        _ => Route::Orders,
+    }
+}
+
+// Prints what a body asks for on a route with a number, or its fault.
+fn print_body(rt: &impl Print, alloc: Global, text: &str) -> io::Result<()> {
+    let (name, rest) = word(text);
+    let (number, body) = word(rest);
+    let body = bytes_of(alloc, body)?;
+    match command_of(alloc, &route_of(name, number_of(number)), &body) {
+        Ok(command) => print_found(rt, command),
+        Err(fault) => print_fault(rt, alloc, &fault),
+    }
+}
+
+/// Prints what a body asks for, or a line, which may be spelled or given by its bytes.
+pub(crate) fn play_asked(rt: &impl Print, alloc: Global, name: &str, text: &str) -> io::Result<()> {
+    match name {
+        "body" => print_body(rt, alloc, text),
+        "spelled" => print_line(rt, alloc, &bytes_of(alloc, text)?),
+        "bytes" => match hex::decode(alloc, text) {
+            Ok(bytes) => print_line(rt, alloc, &bytes),
+            Err(_) => println!(rt; "no digits"),
+        },
+        _ => print_line(rt, alloc, text.as_bytes()),
+    }
+}
