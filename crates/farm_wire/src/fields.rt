@@ -1,6 +1,6 @@
 //! The members of a command's object, each read in its form.
 
-ghost use Rattle.std.specs.Prelude.{◌≡◌, ◌≢◌, Err, IfErr, IfOk, Ok};
+ghost use Rattle.std.specs.Prelude.{◌≡◌, ◌≢◌, Err, IfErr, IfOk, IsErrOf, IsOk, Ok};
 ghost use Rattle.serde_json.specs.View.{view};
 ghost use Rattle.farm_wire.specs.Forms as form;
 ghost use Rattle.farm_wire.specs.Reading.{field_in, miss_in};
@@ -114,11 +114,13 @@ pub(crate) fn miss_in(object: &Value) -> Result<(u32, u32), WireFault>
     }
 }
 
+/// A name. Want of memory is answered only where the member is one.
 #[tactic(auto, unfolding(crate::specs::Reading::field_in))]
 pub(crate) fn name_in(alloc: Global, object: &Value, field: Field) -> Result<Name, WireFault>
     ensures read { IfOk result (λ name. field_in field form.name (view object.now) ≡ Ok name) }
     ensures refused { IfErr result (λ fault. fault ≢ WireFault.Memory
         → field_in field form.name (view object.now) ≡ Err fault) }
+    ensures short { IsErrOf result WireFault.Memory → IsOk (field_in field form.name (view object.now)) }
 {
     let Some(value) = object.get(field.name()) else {
         return Err(WireFault::BadField(field));

@@ -1,6 +1,6 @@
 //! The forms of a command's members that take memory.
 
-ghost use Rattle.std.specs.Prelude.{◌≡◌, IfOk, MatchOption, None, Some};
+ghost use Rattle.std.specs.Prelude.{◌≡◌, IfOk, IsSome, MatchOption, None, OnErr, Some};
 ghost use Rattle.serde_json.specs.View.{items_view, view};
 ghost use Rattle.farm_wire.specs.Forms as form;
 
@@ -10,10 +10,11 @@ use farm_types::{Memory, Name, NameFault};
 use serde_json::Value;
 use std::alloc::Global;
 
-/// A name, or none where the value is no text that is one.
+/// A name, or none where the value is no text that is one. Memory is wanted for a copy of the name alone.
 #[tactic(auto, unfolding(crate::specs::Forms::name))]
 pub(crate) fn name(alloc: Global, value: &Value) -> Result<Option<Name>, Memory>
-    ensures { IfOk result (λ found. found ≡ form.name (view value.now)) }
+    ensures read { IfOk result (λ found. found ≡ form.name (view value.now)) }
+    ensures short { OnErr result (IsSome (form.name (view value.now))) }
 {
     let Some(text) = value.as_str() else {
         return Ok(None);

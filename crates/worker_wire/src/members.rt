@@ -1,6 +1,6 @@
 //! The members of an answer's object, each read in its form.
 
-ghost use Rattle.std.specs.Prelude.{◌≡◌, ◌≢◌, Err, IfErr, IfOk, Ok};
+ghost use Rattle.std.specs.Prelude.{◌≡◌, ◌≢◌, Err, IfErr, IfOk, IsErrOf, IsOk, IsSome, Ok, OnErr};
 ghost use Rattle.serde_json.specs.View.{view};
 ghost use Rattle.farm_wire.specs.Forms as form;
 ghost use Rattle.farm_wire.specs.Made as made;
@@ -27,12 +27,13 @@ pub(crate) fn commit_in(object: &Value, name: &str) -> Result<CommitId, AnswerFa
     object.get(name).and_then(commit).ok_or(AnswerFault::Shape)
 }
 
-/// A name.
+/// A name. Want of memory is answered only where the member is one.
 #[tactic(auto, unfolding(crate::specs::Answers::member_in))]
 pub(crate) fn name_in(alloc: Global, object: &Value, name: &str) -> Result<Name, AnswerFault>
     ensures read { IfOk result (λ found. member_in name.now form.name (view object.now) ≡ Ok found) }
     ensures refused { IfErr result (λ fault. fault ≢ AnswerFault.Memory
         → member_in name.now form.name (view object.now) ≡ Err fault) }
+    ensures short { IsErrOf result AnswerFault.Memory → IsOk (member_in name.now form.name (view object.now)) }
 {
     let Some(value) = object.get(name) else {
         return Err(AnswerFault::Shape);
@@ -73,10 +74,11 @@ fn id_named(text: &str) -> Option<CommitId>
     CommitId::read(text).ok()
 }
 
-/// A name, or none where the value is no text that is one.
+/// A name, or none where the value is no text that is one. Memory is wanted for a copy of the name alone.
 #[tactic(auto, unfolding(farm_wire::specs::Forms::name))]
 fn text_name(alloc: Global, value: &Value) -> Result<Option<Name>, Memory>
-    ensures { IfOk result (λ found. found ≡ form.name (view value.now)) }
+    ensures read { IfOk result (λ found. found ≡ form.name (view value.now)) }
+    ensures short { OnErr result (IsSome (form.name (view value.now))) }
 {
     let Some(text) = value.as_str() else {
         return Ok(None);
