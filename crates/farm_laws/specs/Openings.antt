@@ -12,8 +12,8 @@ use Rattle.farm_entry.specs.declared.opening.Opening.{Opening}
 abbrev pub HasOpening : List Entry → (search : ℕ) → Type 0
 HasOpening H search = (o : Opening) × (opening_numbered H search ≡ Some o)
 
--- a search was opened within the limits: of its suspects and their weights, of its miss rate beside its flake rate, of its width
--- and of its reruns
+-- a search was opened within the limits: of its suspects and their weights, of its miss rate beside its flake rate, of
+-- its width and of its reruns
 pub record OpenWithin (o : Opening) : Type 0 where
   pub range : IsSuspectRange o.range.base o.range.suspects o.range.calm
   pub miss : FitsRate o.miss o.rate

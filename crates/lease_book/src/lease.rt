@@ -6,8 +6,8 @@ use farm_types::Stage;
 /// side, of which a verification asks for at most eight.
 pub const OUT_MAX: usize = 16;
 
-/// A run that was handed out: its number, counted from 1, its search and stage, the position to run, and the deadline up to
-/// which it is waited for, in milliseconds.
+/// A run that was handed out: its number, counted from 1, its search and stage, the position to run, and the deadline
+/// up to which it is waited for, in milliseconds.
 #[derive(Clone, Copy, Debug, PartialEq, Eq)]
 pub struct Lease {
     pub run: u32,
