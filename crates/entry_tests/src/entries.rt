@@ -1,99 +1,91 @@
 //! Entries: that they are copied, the command that each names, and the line of an order.
 
-use crate::samples::{ask, id, leased, opened, ordered};
-use farm_entry::{BoxedOpening, Command, Entry, OrderLine, What};
-use farm_types::{Key, Moment, Name};
+use crate::openings::{commit, name_of, open_of};
+use crate::texts::{print_found, word};
+use farm_entry::{BoxedOpening, Entry, What};
+use farm_types::{Key, Memory, Moment, Stage};
 use std::alloc::Global;
+use std::io;
 use std::mem::size_of;
-use std::process::Abort;
-use std::test::Fail;
 
-/// Copies an entry.
-fn copy(rt: &impl Abort, what: What) -> Result<(), Fail> {
-    let at = Moment::of(100_000_000)?;
-    let entry = Entry { at, what };
-    assert_eq!(rt; entry.copy()?, entry);
-    Ok(())
+/// The search that is opened.
+const OPEN: &str = "3 4 1/10 1/4 18/20 9 5,7";
+
+// What is recorded of the opening of a search.
+fn opened(alloc: Global) -> Result<What, Memory> {
+    match open_of(alloc, OPEN)?.opening(alloc, 12)? {
+        Ok(opening) => Ok(What::Opened(BoxedOpening::of(alloc, opening)?)),
+        Err(_) => Err(Memory),
+    }
 }
 
-#[test]
-fn entries_are_copied(rt: HostRuntime) -> Result<(), Fail> {
-    copy(&rt, opened(rt.alloc())?)?;
-    copy(&rt, leased(rt.alloc())?)?;
-    copy(&rt, ordered(rt.alloc())?)
+// What is recorded of a run that is handed out to this worker, of an order to this agent, or of an opening.
+fn what_of(alloc: Global, kind: &str, name: &str) -> Result<What, Memory> {
+    match kind {
+        "leased" => Ok(What::Leased {
+            key: Key(21),
+            worker: name_of(alloc, name)?,
+            run: 22,
+            search: 23,
+            stage: Stage::Verify,
+            position: 24,
+            deadline: 4_102_444_800_025,
+        }),
+        "ordered" => Ok(What::Ordered {
+            key: Key(31),
+            agent: name_of(alloc, name)?,
+            order: 32,
+            commit: commit(33),
+            search: 34,
+            day: 35,
+        }),
+        _ => opened(alloc),
+    }
 }
 
-#[test]
-fn entries_are_small(rt: HostRuntime) {
-    assert!(rt; size_of::<Entry>() <= 112);
-    assert!(rt; size_of::<BoxedOpening>() <= 8);
+// Whether an entry is as its copy.
+fn is_copied(entry: &Entry) -> Result<bool, Memory> {
+    Ok(entry.copy()? == *entry)
 }
 
-/// The open of the search.
-fn open(alloc: Global) -> Result<Command, Fail> {
-    Ok(Command::Open(ask(alloc)?))
+fn print_entry(rt: &impl Print, alloc: Global, entry: &Entry) -> io::Result<()> {
+    print!(rt;
+        "small {}, copied ",
+        size_of::<Entry>() <= 112 && size_of::<BoxedOpening>() <= 8
+    )?;
+    print_found(rt, is_copied(entry))?;
+    println!(rt; "{entry:?}")?;
+    print_found(rt, entry.what.command(alloc))?;
+    print_found(rt, entry.what.order())
 }
 
-/// The request of a worker for a run.
-fn lease(alloc: Global, worker: &str) -> Result<Command, Fail> {
-    Ok(Command::Lease {
-        key: Key(21),
-        worker: Name::of(alloc, worker)?,
-    })
+/// Prints an entry, the command that it names, and the line of the order where it is one.
+pub(crate) fn play_entry(rt: &impl Print, alloc: Global, text: &str) -> io::Result<()> {
+    let (kind, name) = word(text);
+    match (Moment::of(100_000_000), what_of(alloc, kind, name)) {
+        (Ok(at), Ok(what)) => print_entry(rt, alloc, &Entry { at, what }),
+        _ => println!(rt; "no entry"),
+    }
 }
 
-/// The request of an agent for an order.
-fn revert(alloc: Global) -> Result<Command, Fail> {
-    Ok(Command::TakeRevert {
-        key: Key(31),
-        agent: Name::of(alloc, "a1")?,
-    })
+// Whether what an entry records is asked for by the command that another one names.
+fn is_asked(alloc: Global, what: &What, other: &What) -> Result<bool, Memory> {
+    match other.command(alloc)? {
+        Some(command) => what.is_asked_by(alloc, &command),
+        None => Ok(false),
+    }
 }
 
-/// Compares the command that an entry names, and that it is asked by it.
-fn name(rt: &impl Abort, alloc: Global, what: &What, command: &Command) -> Result<(), Fail> {
-    assert!(rt; what.is_asked_by(alloc, command)?);
-    let named = what.command(alloc)?;
-    assert_eq!(rt; named.as_ref(), Some(command));
-    Ok(())
-}
-
-#[test]
-fn an_opening_names_its_open(rt: HostRuntime) -> Result<(), Fail> {
-    let command = open(rt.alloc())?;
-    name(&rt, rt.alloc(), &opened(rt.alloc())?, &command)
-}
-
-#[test]
-fn a_lease_names_its_request(rt: HostRuntime) -> Result<(), Fail> {
-    let command = lease(rt.alloc(), "w1")?;
-    name(&rt, rt.alloc(), &leased(rt.alloc())?, &command)
-}
-
-#[test]
-fn an_order_names_its_request(rt: HostRuntime) -> Result<(), Fail> {
-    let command = revert(rt.alloc())?;
-    name(&rt, rt.alloc(), &ordered(rt.alloc())?, &command)
-}
-
-#[test]
-fn a_lease_is_asked_by_its_worker_alone(rt: HostRuntime) -> Result<(), Fail> {
-    let other = lease(rt.alloc(), "w2")?;
-    let asked = leased(rt.alloc())?.is_asked_by(rt.alloc(), &other)?;
-    assert!(rt; !asked);
-    Ok(())
-}
-
-#[test]
-fn an_order_is_shown_by_its_line(rt: HostRuntime) -> Result<(), Fail> {
-    let line = OrderLine {
-        order: 32,
-        agent: Name::of(rt.alloc(), "a1")?,
-        commit: id(33),
-        search: 34,
-        day: 35,
-    };
-    let shown = ordered(rt.alloc())?.order()?;
-    assert_eq!(rt; shown, Some(line));
-    Ok(())
+/// Prints whether an entry is asked for by the command that another one names.
+pub(crate) fn play_asked(rt: &impl Print, alloc: Global, text: &str) -> io::Result<()> {
+    let (kind, rest) = word(text);
+    let (name, rest) = word(rest);
+    let (other, other_name) = word(rest);
+    match (
+        what_of(alloc, kind, name),
+        what_of(alloc, other, other_name),
+    ) {
+        (Ok(what), Ok(other)) => print_found(rt, is_asked(alloc, &what, &other)),
+        _ => println!(rt; "no entries"),
+    }
 }

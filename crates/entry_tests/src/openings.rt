@@ -1,87 +1,93 @@
-//! Openings: the open that makes one and that it names, its weights, its budget and its commits.
+//! Openings: what an open makes, the open that it names, its weights, its budget and its commits.
 
-use crate::samples::{ask, id, opening};
-use farm_entry::{OpenAsk, OpenFault, Standing, Suspects};
-use flake_rate::RateFault;
-use std::alloc::{AllocError, Global};
-use std::process::Abort;
-use std::test::Fail;
-use suspect_range::{RangeFault, Suspect};
+use crate::asked::asked_of;
+use crate::texts::{number_of, print_found, word};
+use farm_entry::{OpenAsk, Opening, Standing, Suspects};
+use farm_types::{CommitId, Key, Memory, Name};
+use std::alloc::Global;
+use std::io;
+use suspect_range::Suspect;
 
-/// Compares the opening that an open makes.
-fn make(rt: &impl Abort, alloc: Global, ask: &OpenAsk) -> Result<(), Fail> {
-    let wanted = opening(alloc)?;
-    let made = ask.opening(alloc, 12)?;
-    assert_eq!(rt; made, Ok(wanted));
-    Ok(())
-}
-
-#[test]
-fn an_open_makes_its_opening(rt: HostRuntime) -> Result<(), Fail> {
-    let mut asked = ask(rt.alloc())?;
-    make(&rt, rt.alloc(), &asked)?;
-    // The same rates, which aren't in lowest terms.
-    asked.rate = (3, 30);
-    asked.miss = (2, 8);
-    make(&rt, rt.alloc(), &asked)
-}
-
-#[test]
-fn an_opening_names_the_open_that_makes_it(rt: HostRuntime) -> Result<(), Fail> {
-    let asked = ask(rt.alloc())?;
-    let named = opening(rt.alloc())?.ask(rt.alloc())?;
-    assert_eq!(rt; named, asked);
-    Ok(())
-}
-
-/// Compares why an open is refused.
-fn refuse(rt: &impl Abort, alloc: Global, ask: &OpenAsk, fault: OpenFault) -> Result<(), Fail> {
-    let made = ask.opening(alloc, 12)?;
-    assert_eq!(rt; made.err(), Some(fault));
-    Ok(())
-}
-
-/// One suspect more than a search takes.
-fn many_suspects(alloc: Global) -> Result<Vec<Suspect>, AllocError> {
-    let suspect = Suspect {
-        commit: id(1),
-        weight: 1,
-    };
-    Ok(vec![in alloc; suspect; 1_001]?)
-}
-
-#[test]
-fn an_open_is_refused_with_its_first_fault(rt: HostRuntime) -> Result<(), Fail> {
-    let mut asked = ask(rt.alloc())?;
-    asked.rate = (10, 10);
-    asked.width = 0;
-    let fault = OpenFault::Rate(RateFault { a: 10, b: 10 });
-    refuse(&rt, rt.alloc(), &asked, fault)?;
-    asked.suspects = Suspects::of(many_suspects(rt.alloc())?);
-    let fault = OpenFault::Range(RangeFault::TooManySuspects(1_001));
-    refuse(&rt, rt.alloc(), &asked, fault)
-}
-
-#[test]
-fn an_opening_has_its_weights_and_its_budget(rt: HostRuntime) -> Result<(), Fail> {
-    let opening = opening(rt.alloc())?;
-    let weights = opening.weights(rt.alloc())?;
-    assert_eq!(rt; weights.as_slice(), [5, 7].as_slice());
-    // The priors sum to 21, and the greatest of the four numbers is 18: 21 * 18^26 * 10,000 is below 2^128, and 18 times
-    // that is not.
-    let fits = opening.miss.fits(&opening.rate);
-    assert!(rt; fits);
-    if fits {
-        assert_eq!(rt; opening.budget(), 26);
+/// The name with a text.
+pub(crate) fn name_of(alloc: Global, text: &str) -> Result<Name, Memory> {
+    match Name::of(alloc, text) {
+        Ok(name) => Ok(name),
+        Err(_) => Err(Memory),
     }
-    Ok(())
 }
 
-#[test]
-fn an_opening_tells_its_commits(rt: HostRuntime) -> Result<(), Fail> {
-    let opening = opening(rt.alloc())?;
-    assert_eq!(rt; [opening.commit(0), opening.commit(2)], [id(0), id(2)]);
-    assert_eq!(rt; opening.named_commit(Standing::Confirmed(2)), Some(id(2)));
-    assert_eq!(rt; opening.named_commit(Standing::NoCulprit), None);
-    Ok(())
+/// The commit with a number below 256.
+pub(crate) fn commit(number: usize) -> CommitId {
+    let mut bytes = [0; 20];
+    bytes[19] = (number & 0xff) as u8;
+    CommitId::of(bytes)
+}
+
+// The suspects with these weights.
+fn suspects_of(alloc: Global, weights: &[u32]) -> Result<Suspects, Memory> {
+    let mut suspects = Vec::new(alloc);
+    for (before, &weight) in weights.iter().enumerate() {
+        suspects.push(Suspect {
+            commit: commit(before.saturating_add(1)),
+            weight,
+        })?;
+    }
+    Ok(Suspects::of(suspects))
+}
+
+/// The open of a search with key 11 for the test `net::dns`: the text has its width, its reruns and its numbers.
+pub(crate) fn open_of(alloc: Global, text: &str) -> Result<OpenAsk, Memory> {
+    let (width, rest) = word(text);
+    let (reruns, numbers) = word(rest);
+    let asked = asked_of(alloc, numbers)?;
+    let suspects = suspects_of(alloc, &asked.weights)?;
+    Ok(OpenAsk {
+        key: Key(11),
+        test: name_of(alloc, "net::dns")?,
+        base: commit(0),
+        suspects,
+        calm: asked.calm,
+        rate: asked.rate,
+        miss: asked.miss,
+        bar: asked.bar,
+        width: number_of(width),
+        reruns: number_of(reruns),
+    })
+}
+
+// Prints the budget of an opening, and commits: those at positions 0 and 2, and those that two standings name.
+fn print_parts(rt: &impl Print, opening: &Opening) -> io::Result<()> {
+    if opening.miss.fits(&opening.rate) {
+        println!(rt; "budget {}", opening.budget())?;
+    }
+    println!(rt; "{:?} {:?}", opening.commit(0), opening.commit(2))?;
+    println!(rt;
+        "{:?} {:?}",
+        opening.named_commit(Standing::Confirmed(2)),
+        opening.named_commit(Standing::NoCulprit)
+    )
+}
+
+fn print_opening(rt: &impl Print, alloc: Global, opening: &Opening) -> io::Result<()> {
+    println!(rt; "{opening:?}")?;
+    print_found(rt, opening.ask(alloc))?;
+    print_found(rt, opening.weights(alloc))?;
+    print_parts(rt, opening)
+}
+
+/// Prints the opening of search 12 that an open makes, and what it tells of itself, or why it makes none.
+pub(crate) fn print_made(rt: &impl Print, alloc: Global, ask: &OpenAsk) -> io::Result<()> {
+    match ask.opening(alloc, 12) {
+        Ok(Ok(opening)) => print_opening(rt, alloc, &opening),
+        Ok(Err(fault)) => println!(rt; "{fault}"),
+        Err(fault) => println!(rt; "{fault}"),
+    }
+}
+
+/// Prints what an open comes to.
+pub(crate) fn play_open(rt: &impl Print, alloc: Global, text: &str) -> io::Result<()> {
+    match open_of(alloc, text) {
+        Ok(ask) => print_made(rt, alloc, &ask),
+        Err(fault) => println!(rt; "{fault}"),
+    }
 }
