@@ -1,3 +1,4 @@
 pub mod Legal
 pub mod Repeats
 pub mod SameContents
+pub mod Marked

@@ -46,7 +46,7 @@ list_any-map p h [] = refl
 list_any-map p h (y ∷ ys) = ap (λ b. p (h y) || b) (list_any-map p h ys)
 
 -- different ids, as the test says
-differs : (a b : CommitId) → (a ≡ b → ⊥) → same_id a b ≡ false
+pub differs : (a b : CommitId) → (a ≡ b → ⊥) → same_id a b ≡ false
 differs a b apart =
     elim (cases_Bool (same_id a b)) [
       | inl same ↦ absurd (apart ((same_id-Decides a b).0 same))

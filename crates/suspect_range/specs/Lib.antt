@@ -1,3 +1,4 @@
 pub mod Faults
 pub mod Range
 pub mod SameRange
+pub mod Marks

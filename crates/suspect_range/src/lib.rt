@@ -11,6 +11,7 @@
 
 mod fault;
 pub mod laws;
+mod marks;
 mod range;
 mod suspect;
 

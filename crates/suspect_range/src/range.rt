@@ -1,6 +1,9 @@
-ghost use Rattle.std.specs.Prelude.{◌≡◌, ◌≤◌, ◌<◌, ◌+◌, length, map, position, Some, None, IfSome, OnOk, IfOk, IfErr};
+ghost use Rattle.std.specs.Prelude.{◌≡◌, ◌≤◌, ◌<◌, ◌+◌, length, map, position, take, Some, None, IfSome, OnOk, IfOk, IfErr};
 ghost use Rattle.suspect_range.specs.Faults.{first_bad_weight, first_repeat, has_bad_weight, is_among, is_repeat, range_fault};
+ghost use Rattle.suspect_range.specs.Marks.{AreMarked};
+ghost use Rattle.suspect_range.specs.Range.{commits_of};
 
+use crate::marks::Marks;
 use crate::{RangeFault, Suspect};
 use farm_types::{CommitId, Memory};
 use std::alloc::Global;
@@ -165,17 +168,33 @@ fn bad_weight_index(suspects: &[Suspect]) -> Option<usize>
         .position(|suspect| !(1..=MAX_WEIGHT).contains(&suspect.weight))
 }
 
-/// The position of the first suspect whose commit stands below it too. Each is compared with all below it: at most
-/// half a million comparisons, and no memory.
+/// The position of the first suspect whose commit stands below it too. It takes no memory. A commit is compared with all
+/// below it only where one of them has its mark, as few have.
 fn first_repeat(base: CommitId, suspects: &[Suspect]) -> Option<usize>
     ensures { result ≡ first_repeat base suspects.now }
 {
+    let mut below = Marks::new();
+    below.put(base);
     for index in 0..suspects.len() {
-        if is_repeat(base, suspects, index) {
+        if repeats(&below, base, suspects, index) {
             return Some(index + 1);
         }
+        below.put(suspects[index].commit);
     }
     None
+}
+
+/// Whether the commit of the suspect at this index is the base or an earlier suspect's, by the marks of those.
+fn repeats(below: &Marks, base: CommitId, suspects: &[Suspect], index: usize) -> bool
+    requires within { index < length suspects.now }
+    requires marked { AreMarked below.now.marks (take (index + 1) (commits_of base suspects.now)) }
+    ensures { result ≡ is_repeat base suspects.now (index + 1) }
+{
+    if below.has(suspects[index].commit) {
+        is_repeat(base, suspects, index)
+    } else {
+        false
+    }
 }
 
 /// Whether the commit of the suspect at this index is the base or an earlier suspect's.

@@ -1,4 +1,5 @@
 use Rattle.std.proofs.Common.{◌∙◌, sym}
+use Rattle.suspect_range.proofs.Marked.{marked-kept, marked-more}
 use Rattle.suspect_range.proofs.Repeats.{find-next}
 use Rattle.suspect_range.specs.Faults.{is_repeat}
 use Rattle.suspect_range.proofs.range.first_repeat.Goals as goal
@@ -6,4 +7,10 @@ use Rattle.suspect_range.proofs.range.first_repeat.Goals as goal
 pub loop-index-preserved : goal.loop-index-preserved
 loop-index-preserved c =
     let left = find-next (is_repeat c.args.base c.args.suspects.now) c.loop-index.index _ c.loop-index-test.true in
-    c.loop-index.invariant ∙ (rw (sym c.is_repeat.ensures ∙ c.if-is_repeat.false) at left)
+    let suspect = c.index-suspects-index.result in (
+      c.loop-index.invariant.0 ∙ (rw (sym c.repeats.ensures ∙ c.if-repeats.false) at left),
+      marked-more c.args.base c.args.suspects.now c.put-in-loop-index.new.self.marks c.loop-index.index suspect c.loop-index-test.true
+          (marked-kept c.loop-index.below.marks c.put-in-loop-index.new.self.marks _ c.put-in-loop-index.ensures.kept
+          c.loop-index.invariant.1)
+          c.put-in-loop-index.ensures.put,
+    )
