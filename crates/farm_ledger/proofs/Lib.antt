@@ -1,6 +1,7 @@
 pub mod Counts
 pub mod Places
 pub mod Found
+pub mod Lows
 pub mod Bookings
 pub mod Earliest
 pub mod Changed

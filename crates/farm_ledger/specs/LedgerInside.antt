@@ -1,9 +1,9 @@
 -- How a ledger is kept.
 use Rattle.farm_entry.specs.Legal.{IsLegal}
-use Rattle.farm_ledger.specs.Waiting.{IsServed}
+use Rattle.farm_ledger.specs.Waiting.{AreLowest}
 use Rattle.farm_ledger.specs.declared.ledger.Ledger.TheInside.{Inside}
 
--- the history is legal, and no search up to a number waits for an order
+-- the history is legal, and beside each entry it is kept how many searches stood before the first that waited for an order
 pub record IsLedger (s : Inside) : Type 0 where
   pub legal : IsLegal s.register
-  pub served : IsServed s.register s.low
+  pub lows : AreLowest s.register s.lows.items

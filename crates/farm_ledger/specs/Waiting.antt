@@ -1,10 +1,10 @@
 -- The searches that wait for an order: confirmed ones whose commit has none.
-use Rattle.std.specs.Prelude.{◌≡◌, ℕ, ◌-◌, ◌≤◌, min, List, length, if◌then◌else◌, Option, Some, None}
+use Rattle.std.specs.Prelude.{◌≡◌, ℕ, ◌+◌, ◌-◌, ◌<◌, ◌≤◌, min, List, length, take, get_or, if◌then◌else◌, Option, Some, None}
 use Rattle.std.specs.Option.{option_and_then}
-use Rattle.farm_rules.specs.Orders.{Ordered, has_order}
+use Rattle.farm_rules.specs.Orders.{Ordered, candidates, earliest, has_order}
 use Rattle.farm_rules.specs.declared.orders.Candidate.{Candidate}
 use Rattle.farm_entry.specs.History.{lease_of, opening_numbered, openings}
-use Rattle.farm_entry.specs.Orders.{confirmed_at, orders}
+use Rattle.farm_entry.specs.Orders.{confirmed_at, confirmed_searches, orders}
 use Rattle.farm_entry.specs.Standing.{standing}
 use Rattle.farm_entry.specs.declared.entry.Entry.{Entry}
 use Rattle.farm_entry.specs.declared.lease.LeasedRun.{LeasedRun}
@@ -28,6 +28,16 @@ waiting_numbered H number = option_and_then (waiting H) (opening_numbered H numb
 pub record IsServed (H : List Entry) (low : ℕ) : Type 0 where
   pub within : low ≤ length (openings H)
   pub none : (number : ℕ) → number ≤ low → waiting_numbered H number ≡ None
+
+-- so many searches stand before the first one that waits for an order, or all where none does
+pub record IsLowest (H : List Entry) (low : ℕ) : Type 0 where
+  pub served : IsServed H low
+  pub first : waiting_numbered H (low + 1) ≡ earliest (candidates (confirmed_searches H) (orders H))
+
+-- beside each entry stands how many those are of the history up to it and with it
+pub record AreLowest (H : List Entry) (lows : List ℕ) : Type 0 where
+  pub as_many : length lows ≡ length H
+  pub each : (k : ℕ) → k < length H → IsLowest (take (k + 1) H) (get_or lows k 0)
 
 -- What a report makes of the number up to which none waits: where its search does now, one less than that search's.
 

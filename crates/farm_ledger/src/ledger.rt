@@ -3,11 +3,10 @@
 ghost use Rattle.std.specs.Prelude.{◌≡◌, ◌<◌, ◌+◌, ◌-◌, ◌++◌, ◌∷◌, [], length, take, Contains, IfSome, IfOk, OnOk, OnErr};
 ghost use Rattle.std.specs.Option.{option_copied};
 ghost use Rattle.farm_types.specs.Moment.{moment_ms};
-ghost use Rattle.farm_rules.specs.Orders.{candidates, earliest};
 ghost use Rattle.farm_entry.specs.History.{leases, opening_numbered, openings};
 ghost use Rattle.farm_entry.specs.Legal.{IsLegal};
-ghost use Rattle.farm_entry.specs.Orders.{confirmed_searches, next_order_at, orders};
-ghost use Rattle.farm_ledger.specs.Waiting.{IsServed, low_after, waiting_numbered};
+ghost use Rattle.farm_entry.specs.Orders.{next_order_at};
+ghost use Rattle.farm_ledger.specs.Waiting.{IsLowest, IsServed, low_after};
 
 use crate::register::Register;
 use farm_entry::{Entry, Opening, ReportedRun, Settings, What};
@@ -21,8 +20,8 @@ use std::marker::Model;
 #[derive(Drop)]
 pub struct Ledger {
     register: Register,
-    /// None of the searches up to this number waits for an order.
-    low: u32,
+    /// Beside each entry, how many searches stood then before the first one that waited for an order; all, where none did.
+    lows: Vec<u32>,
 }
 
 impl Model for Ledger {
@@ -47,9 +46,11 @@ impl Ledger {
     pub fn found(alloc: Global, settings: Settings, at: Moment) -> Result<Ledger, Memory>
         ensures { IfOk result (λ ledger. ledger ≡ record { at = at; what = What.Founded settings } ∷ []) }
     {
+        let mut lows = Vec::new(alloc);
+        lows.push(0)?;
         Ok(Ledger {
             register: Register::found(alloc, settings, at)?,
-            low: 0,
+            lows,
         })
     }
 
@@ -75,14 +76,12 @@ impl Ledger {
         self.register.leases_of(number)
     }
 
-    /// What the next request for an order comes to at a moment: the next order, or why there is none. Searches that were
-    /// passed over are not looked at again until they change.
-    pub fn next_order(&mut self, moment: Moment) -> Result<Draft, NoOrder>
-        ensures next { result ≡ next_order_at self.old (moment_ms moment) }
-        ensures kept { self.new ≡ self.old }
+    /// What the next request for an order comes to at a moment: the next order, or why there is none.
+    pub fn next_order(&self, moment: Moment) -> Result<Draft, NoOrder>
+        ensures { result ≡ next_order_at self.now (moment_ms moment) }
     {
-        self.low = passed(&self.register, self.low);
-        let first = self.register.waiting(self.low + 1);
+        let low = self.lows[self.lows.len() - 1];
+        let first = self.register.waiting(low + 1);
         self.register.next_order(first, moment)
     }
 
@@ -99,8 +98,11 @@ impl Ledger {
         ensures kept { OnErr result (self.new ≡ self.old) }
     {
         let report = entry.what.report();
+        let before = self.lows[self.lows.len() - 1];
+        self.lows.reserve(1)?;
         self.register.push(alloc, entry)?;
-        self.low = low_after(&self.register, self.low, report);
+        let low = low_after(&self.register, before, report);
+        self.lows.push_reserved(passed(&self.register, low));
         Ok(())
     }
 
@@ -110,17 +112,15 @@ impl Ledger {
         ensures { self.new ≡ take (length self.old - 1) self.old }
     {
         self.register.pop();
-        self.low = 0;
+        let _low = self.lows.pop();
     }
 }
 
-/// How many searches at the beginning don't wait for an order, where so many are known not to.
+/// How many searches stand before the first one that waits for an order, where so many are known not to wait.
 fn passed(register: &Register, low: u32) -> u32
     requires legal { IsLegal register.now }
     requires served { IsServed register.now low }
-    ensures served { IsServed register.now result }
-    ensures first { waiting_numbered register.now (result + 1)
-        ≡ earliest (candidates (confirmed_searches register.now) (orders register.now)) }
+    ensures { IsLowest register.now result }
 {
     let count = register.state().searches_count() as u32;
     let mut at = low;

@@ -172,11 +172,9 @@ impl KeptFarm {
         self.ledger.turns().next_run(moment)
     }
 
-    /// What the next request for an order comes to at a moment: the next order, or why there is none. Searches that were
-    /// passed over are not looked at again until they change.
-    pub fn next_order(&mut self, moment: Moment) -> Result<Draft, NoOrder>
-        ensures next { result ≡ next_order_at self.old (moment_ms moment) }
-        ensures kept { self.new ≡ self.old }
+    /// What the next request for an order comes to at a moment: the next order, or why there is none.
+    pub fn next_order(&self, moment: Moment) -> Result<Draft, NoOrder>
+        ensures { result ≡ next_order_at self.now (moment_ms moment) }
     {
         self.ledger.next_order(moment)
     }

@@ -22,17 +22,21 @@ pub overflow_add-at-in-loop-at : goal.overflow_add-at-in-loop-at
 overflow_add-at-in-loop-at c =
     omega (arith, c.loop-at.invariant.within, openings-bounded c.args.register.now c.requires.legal)
 
-pub returns-then-is_some-clause-first : goal.returns-then-is_some-clause-first
-returns-then-is_some-clause-first c =
-    served-some c.args.register.now c.loop-at.at c.waiting.result c.requires.legal c.loop-at.invariant
-    (sym c.waiting.ensures) (sym c.is_some.ensures ∙ c.if-is_some.true)
+pub returns-then-is_some : goal.returns-then-is_some
+returns-then-is_some c = record {
+  served = c.loop-at.invariant;
+  first = served-some c.args.register.now c.loop-at.at c.waiting.result c.requires.legal c.loop-at.invariant
+      (sym c.waiting.ensures) (sym c.is_some.ensures ∙ c.if-is_some.true);
+}
 
-pub returns-clause-first : goal.returns-clause-first
-returns-clause-first c =
-    served-all c.args.register.now c.loop-at.at c.requires.legal c.loop-at.invariant
-    (omega (
-      arith,
-      c.loop-at-test.false,
-      c.searches_count-count.ensures,
-      ap (λ (X : List Entry). length (openings X)) c.state.ensures,
-    ))
+pub returns : goal.returns
+returns c = record {
+  served = c.loop-at.invariant;
+  first = served-all c.args.register.now c.loop-at.at c.requires.legal c.loop-at.invariant
+      (omega (
+        arith,
+        c.loop-at-test.false,
+        c.searches_count-count.ensures,
+        ap (λ (X : List Entry). length (openings X)) c.state.ensures,
+      ));
+}
