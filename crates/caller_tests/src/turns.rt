@@ -24,6 +24,8 @@ impl Stands for Counter {
     ghost entries = { λ _. [] };
 
     ghost count = { λ _. 0 };
+
+    ghost pending = { λ _. [] };
 }
 
 /// One more.

@@ -1,9 +1,10 @@
 -- What a caller knows after a turn, from what the lock and the store say.
-use Rattle.std.proofs.Common.{◌≡◌, ◌++◌, List, ℕ, true, ◌+◌, ◌-◌, ◌≤◌, length, arith, sym, refl, ap, ◌∙◌, subst}
+use Rattle.std.proofs.Common.{◌≡◌, ◌++◌, List, ℕ, true, ◌+◌, ◌-◌, ◌≤◌, ◌⊎◌, [], Some, ⊎_elim, length, arith, sym, refl, ap, ◌∙◌, subst, append-nil, length-append, zero, suc}
 use Rattle.std.specs.Prelude.{Result}
 use Rattle.std.specs.List.{range_with_len}
 use Rattle.atomic_table.specs.Seated.{TableId}
 use Rattle.farm_entry.specs.declared.entry.Entry.{Entry}
+use Rattle.farm_entry.specs.Legal.{IsLegal}
 use Rattle.farm_store.specs.Answering.{BatchSays}
 use Rattle.farm_store.specs.Faults.{HasCallCause}
 use Rattle.farm_store.specs.State.{StoreState}
@@ -11,12 +12,13 @@ use Rattle.farm_store.specs.declared.asking.Answer.{Answer}
 use Rattle.farm_store.specs.declared.asking.Ask.{Ask}
 use Rattle.farm_store.specs.declared.asking.CallFault.{CallFault}
 use Rattle.list_prefix.specs.Prefix.{IsPrefix}
-use Rattle.list_prefix.proofs.Prefixes.{IsPrefix-length, IsPrefix-trans}
-use Rattle.turn_lock.specs.Known.{Known}
+use Rattle.list_prefix.proofs.Prefixes.{IsPrefix-length, IsPrefix-same, IsPrefix-trans}
+use Rattle.turn_lock.specs.Known.{Before, IsSettled, Known, MayRise}
 use Rattle.turn_lock.specs.Places.{ArePlaces}
+use Rattle.turn_lock.specs.declared.view.Taken.{Taken}
 use Rattle.turn_lock.proofs.PlaceLists.{ArePlaces-append, ArePlaces-widen}
-use Rattle.shared_farm.specs.Turns.{IsTurn, own_places}
-use Rattle.shared_farm.proofs.Recorded.{ArePlaces-own_places}
+use Rattle.shared_farm.specs.Turns.{AreOwn, IsTurn, StaysSettled, own_places}
+use Rattle.shared_farm.proofs.Recorded.{ArePlaces-own_places, IsOwnFrom}
 
 -- the places that a turn tells, from the history and the number of entries that it looked at
 pub own_places-told : {D : Type 0} (left : StoreState D) (history : List Entry) (recorded : ℕ) → history ≡ left.history
@@ -26,25 +28,34 @@ own_places-told left history recorded same as_many =
     (subst (λ (n : ℕ). range_with_len (length left.history - n) n ≡ own_places left) (sym as_many) refl)
 
 -- a turn of a caller, in which a store answered
-pub record IsServed {D : Type 0} (count : D → ℕ) (old new held : Known) (found left : StoreState D)
+pub record IsServed {D : Type 0} (count : D → ℕ) (old new : Known) (held : Before) (found left : StoreState D)
     (own : List ℕ) : Type 0 where
-  pub held_is : held ≡ old
+  pub held_is : held.pass ≡ old
+  pub took : held.taken ≡ record { entries = found.history; count = count found.disk; pending = found.pending }
+  pub settled : IsSettled old.pending old.faults (count found.disk) found.pending
+  pub answered : count found.disk ≡ count left.disk → MayRise (count left.disk) → left.pending ≡ []
+  pub at_least : count found.disk ≤ count left.disk
+  pub legal : IsLegal found.history
   pub begins : IsPrefix old.seen found.history
   pub faults : old.faults ≤ count found.disk
   pub places : ArePlaces 0 (length old.seen) old.mine
   pub longer : IsPrefix found.history left.history
   pub room : length found.history + left.recorded ≤ length left.history
   pub own_is : own ≡ own_places left
+  pub recorded : IsOwnFrom found left
   pub lock : TableId
   pub new_is : new ≡ record {
     lock = lock;
     ready = true;
     seen = left.history;
-    mine = held.mine ++ own;
+    mine = held.pass.mine ++ own;
     faults = count left.disk;
+    uses = held.pass.uses + 1;
+    last = held.taken;
+    pending = Some left.pending;
   }
 
-module _ {D : Type 0} {count : D → ℕ} {old new held : Known} {found left : StoreState D} {own : List ℕ}
+module _ {D : Type 0} {count : D → ℕ} {old new : Known} {held : Before} {found left : StoreState D} {own : List ℕ}
     (s : IsServed count old new held found left own) where
   abbrev seen_is : new.seen ≡ left.history
   seen_is = ap (λ (k : Known). k.seen) s.new_is
@@ -54,16 +65,50 @@ module _ {D : Type 0} {count : D → ℕ} {old new held : Known} {found left : S
       ap (λ (k : Known). k.mine) s.new_is
       ∙ (ap (λ (k : Known). k.mine ++ own) s.held_is ∙ ap (λ (l : List ℕ). old.mine ++ l) s.own_is)
 
+  abbrev took_is : new.last ≡ record { entries = found.history; count = count found.disk; pending = found.pending }
+  took_is = ap (λ (k : Known). k.last) s.new_is ∙ s.took
+
+  -- all that is new is the caller's own
+  pub served-own : AreOwn old new
+  served-own =
+      let own = s.recorded in
+      record {
+        repaired = own.repaired;
+        found = subst (λ (t : Taken). (own.repaired ≡ t.entries) ⊎ (own.repaired ≡ t.entries ++ t.pending))
+            (sym took_is) own.found;
+        begins = subst (λ (l : List Entry). IsPrefix own.repaired l) (sym seen_is) own.begins;
+        mine = subst (λ (l : List Entry). new.mine ≡ old.mine
+            ++ range_with_len (length own.repaired) (length l - length own.repaired)) (sym seen_is)
+            (mine_is ∙ ap (λ (l : List ℕ). old.mine ++ l) own.own);
+      }
+
+  pub served-settled : StaysSettled old new
+  served-settled nothing same rises =
+      let low = s.faults in
+      let high = s.at_least in
+      let last : new.faults ≡ count left.disk = ap (λ (k : Known). k.faults) s.new_is in
+      let then_is : old.faults ≡ count found.disk = omega (arith, low, high, last, same) in
+      let now_is : count found.disk ≡ count left.disk = omega (arith, low, high, last, same) in (
+        ap (λ (t : Taken). t.pending) took_is ∙ s.settled nothing then_is (omega (arith, then_is, same, rises)),
+        ap (λ (k : Known). k.pending) s.new_is
+            ∙ ap (λ (l : List Entry). Some l) (s.answered now_is (omega (arith, last, rises))),
+      )
+
   pub served-turn : (asks : List Ask) (result : Result (List Answer) CallFault) → BatchSays asks result found left
       → HasCallCause result (count found.disk) (count left.disk) → IsTurn count asks result old new
   served-turn asks result says cause = record {
     found = found;
     left = left;
+    used = ap (λ (k : Known). k.uses) s.new_is ∙ ap (λ (k : Known). k.uses + 1) s.held_is;
+    took = took_is;
+    settled = s.settled;
+    legal = s.legal;
     begins = s.begins;
     faults = s.faults;
     says = says;
     cause = cause;
     seen = seen_is;
+    pending = ap (λ (k : Known). k.pending) s.new_is;
     faults_seen = ap (λ (k : Known). k.faults) s.new_is;
     mine = mine_is;
   }
@@ -82,3 +127,27 @@ module _ {D : Type 0} {count : D → ℕ} {old new held : Known} {found left : S
       (IsPrefix-length found.history left.history s.longer)
       (ArePlaces-widen 0 (length old.seen) 0 (length found.history) old.mine (omega arith) le s.places)
       (ArePlaces-own_places found left s.room)))
+
+length-run : (first count : ℕ) → length (range_with_len first count) ≡ count
+length-run first zero = refl
+length-run first (suc count) = ap suc (length-run (first + 1) count)
+
+no_more : (ps qs : List ℕ) → ps ≡ ps ++ qs → length qs ≡ 0
+no_more ps qs same =
+    let n : length ps ≡ length (ps ++ qs) = ap (λ (l : List ℕ). length l) same in
+    omega (arith, n, length-append ps qs)
+
+-- where nothing was pending, a call that told no place left the history as its turn took it
+pub own-unchanged : (old new : Known) → AreOwn old new → new.last.pending ≡ [] → old.mine ≡ new.mine
+    → new.seen ≡ new.last.entries
+own-unchanged old new w none same =
+    let start : w.repaired ≡ new.last.entries = ⊎_elim
+    (λ (e : w.repaired ≡ new.last.entries). e)
+    (λ (e : w.repaired ≡ new.last.entries ++ new.last.pending).
+    e ∙ (ap (λ (l : List Entry). new.last.entries ++ l) none ∙ append-nil new.last.entries))
+    w.found in
+    let first : ℕ = length w.repaired in
+    let count : ℕ = length new.seen - first in
+    let few : length (range_with_len first count) ≡ 0 = no_more old.mine (range_with_len first count) (same ∙ w.mine) in
+    let none_new : count ≡ 0 = sym (length-run first count) ∙ few in
+    IsPrefix-same w.repaired new.seen w.begins (omega (arith, none_new)) ∙ start

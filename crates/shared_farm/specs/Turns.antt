@@ -1,6 +1,8 @@
 -- What one turn at a shared farm came to.
-use Rattle.std.specs.Prelude.{◌≡◌, ◌≤◌, ◌-◌, ◌++◌, ℕ, List, length, Result}
+use Rattle.std.specs.Prelude.{◌≡◌, ◌≤◌, ◌+◌, ◌-◌, ◌⊎◌, ◌++◌, ℕ, List, [], length, Some, Result}
 use Rattle.std.specs.List.{range_with_len}
+use Rattle.farm_entry.specs.Legal.{IsLegal}
+use Rattle.farm_entry.specs.declared.entry.Entry.{Entry}
 use Rattle.farm_store.specs.Answering.{BatchSays}
 use Rattle.farm_store.specs.Faults.{HasCallCause}
 use Rattle.farm_store.specs.State.{StoreState}
@@ -8,24 +10,51 @@ use Rattle.farm_store.specs.declared.asking.Answer.{Answer}
 use Rattle.farm_store.specs.declared.asking.Ask.{Ask}
 use Rattle.farm_store.specs.declared.asking.CallFault.{CallFault}
 use Rattle.list_prefix.specs.Prefix.{IsPrefix}
-use Rattle.turn_lock.specs.Known.{Known}
+use Rattle.turn_lock.specs.Known.{Known, IsSettled, MayRise}
 
 -- the places of the entries that the last call of a store recorded for its asks
 abbrev pub own_places : {D : Type 0} → StoreState D → List ℕ
 own_places store = range_with_len (length store.history - store.recorded) store.recorded
 
--- The asks were answered by a store whose history begins with all that the caller had seen, and the caller has then
--- seen the history of the store after them. Its places are those that it had and those of the entries that this turn
--- recorded. A fault of the disk has counts between those that the caller saw before and after, which are counts of a
--- disk.
+-- The pass was used once, and the store that its turn took had a legal history that begins with all that the caller
+-- had seen. That store answered the asks, and the pass has then seen the store as it was given back. The places of the
+-- pass are those that it had and those of the entries that this turn recorded. A fault of the disk has counts between
+-- those that the caller saw before and after, which are counts of a disk.
 pub record IsTurn {D : Type 0} (count : D → ℕ) (asks : List Ask) (result : Result (List Answer) CallFault)
     (old new : Known) : Type 0 where
   pub found : StoreState D
   pub left : StoreState D
+  pub used : new.uses ≡ old.uses + 1
+  pub took : new.last ≡ record { entries = found.history; count = count found.disk; pending = found.pending }
+  pub settled : IsSettled old.pending old.faults (count found.disk) found.pending
+  pub legal : IsLegal found.history
   pub begins : IsPrefix old.seen found.history
   pub faults : old.faults ≤ count found.disk
   pub says : BatchSays asks result found left
   pub cause : HasCallCause result (count found.disk) (count left.disk)
   pub seen : new.seen ≡ left.history
+  pub pending : new.pending ≡ Some left.pending
   pub faults_seen : new.faults ≡ count left.disk
   pub mine : new.mine ≡ old.mine ++ own_places left
+
+-- All entries that are new since the turn took the store are the caller's own, past what the store's repair found in
+-- the history: none or all of what was pending then.
+pub record AreOwn (old new : Known) : Type 0 where
+  pub repaired : List Entry
+  pub found : (repaired ≡ new.last.entries) ⊎ (repaired ≡ new.last.entries ++ new.last.pending)
+  pub begins : IsPrefix repaired new.seen
+  pub mine : new.mine ≡ old.mine ++ range_with_len (length repaired) (length new.seen - length repaired)
+
+-- the pass was used once, for a turn that gave the store back as it was, and has seen it
+pub record IsLook (old new : Known) : Type 0 where
+  pub used : new.uses ≡ old.uses + 1
+  pub seen : new.seen ≡ new.last.entries
+  pub faults : new.faults ≡ new.last.count
+  pub pending : new.pending ≡ Some new.last.pending
+
+-- where the caller saw that nothing was pending, and the disk has not failed since then, nothing was pending when the
+-- turn began, and nothing is after it
+abbrev pub StaysSettled : (old new : Known) → Type 0
+StaysSettled old new =
+    old.pending ≡ Some [] → old.faults ≡ new.faults → MayRise new.faults
+    → (new.last.pending ≡ []) × (new.pending ≡ Some [])

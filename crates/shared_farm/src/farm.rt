@@ -1,13 +1,13 @@
 //! The shared farm.
-ghost use Rattle.std.specs.Prelude.{◌≡◌, ◌≤◌, [], ◌∷◌, true, IfOk, IfErr, length, max};
+ghost use Rattle.std.specs.Prelude.{◌≡◌, ◌≤◌, ◌+◌, [], ◌∷◌, true, Some, IfOk, IfErr, length, max};
 ghost use Rattle.farm_entry.specs.Legal.{IsLegal};
 ghost use Rattle.farm_entry.specs.Pages.{totals as totals_of};
 ghost use Rattle.farm_store.specs.Answering.{as_batch};
 ghost use Rattle.farm_store.specs.declared.asking.TheConstants.{MAX_BATCH};
 ghost use Rattle.list_prefix.specs.Prefix.{IsPrefix, longer};
-ghost use Rattle.turn_lock.specs.Known.{IsReady};
+ghost use Rattle.turn_lock.specs.Known.{IsReady, both_pending, no_turn};
 ghost use Rattle.turn_lock.specs.Places.{ArePlaces, both_places};
-ghost use Rattle.shared_farm.specs.Turns.{IsTurn};
+ghost use Rattle.shared_farm.specs.Turns.{AreOwn, IsLook, IsTurn, StaysSettled};
 
 use crate::locked::Locked;
 use crate::reader::TotalsReader;
@@ -45,6 +45,9 @@ impl<D: Disk> SharedFarm<D> {
           seen = store.history;
           mine = [];
           faults = D.count store.disk;
+          uses = 0;
+          last = no_turn;
+          pending = Some store.pending;
         }) }
         ensures back { IfErr result (λ same. same ≡ store) }
     {
@@ -75,13 +78,16 @@ impl<D: Disk> SharedFarm<D> {
     /// Another pass, which has seen as much and has no calls of its own. It takes no memory.
     pub fn split(&self, pass: &mut Pass) -> Pass
         requires ready { IsReady self.now pass.old }
-        ensures same { pass.new ≡ pass.old }
+        ensures same { pass.new ≡ record pass.old { uses = pass.old.uses + 1; last = no_turn } }
         ensures other { result ≡ record {
           lock = self.now;
           ready = true;
           seen = pass.old.seen;
           mine = [];
           faults = pass.old.faults;
+          uses = 0;
+          last = no_turn;
+          pending = pass.old.pending;
         } }
     {
         self.lock.split(pass)
@@ -99,6 +105,9 @@ impl<D: Disk> SharedFarm<D> {
         ensures faults { pass.new.faults ≡ max pass.old.faults other.faults }
         ensures mine { pass.new.mine ≡ both_places pass.old.mine other.mine }
         ensures places { ArePlaces 0 (length pass.new.seen) pass.new.mine }
+        ensures uses { pass.new.uses ≡ pass.old.uses + 1 }
+        ensures last { pass.new.last ≡ no_turn }
+        ensures pending { pass.new.pending ≡ both_pending pass.old.pending other.pending }
     {
         self.lock.join(pass, other);
     }
@@ -122,6 +131,8 @@ impl<D: Disk> SharedFarm<D> {
         ensures ready { IsReady self.now pass.new }
         ensures turn { IsTurn D.count (record { command = command.now; at = at } ∷ []) (as_batch result) pass.old
             pass.new }
+        ensures own { AreOwn pass.old pass.new }
+        ensures settled { StaysSettled pass.old pass.new }
         ensures longer { IsPrefix pass.old.seen pass.new.seen }
         ensures legal { IsLegal pass.new.seen }
         ensures places { ArePlaces 0 (length pass.new.seen) pass.new.mine }
@@ -153,6 +164,8 @@ impl<D: Disk> SharedFarm<D> {
         requires few { length asks.now ≤ MAX_BATCH }
         ensures ready { IsReady self.now pass.new }
         ensures turn { IsTurn D.count asks.now result pass.old pass.new }
+        ensures own { AreOwn pass.old pass.new }
+        ensures settled { StaysSettled pass.old pass.new }
         ensures longer { IsPrefix pass.old.seen pass.new.seen }
         ensures legal { IsLegal pass.new.seen }
         ensures places { ArePlaces 0 (length pass.new.seen) pass.new.mine }
@@ -172,6 +185,8 @@ impl<D: Disk> SharedFarm<D> {
         ensures ready { IsReady self.now pass.new }
         ensures longer { IsPrefix pass.old.seen pass.new.seen }
         ensures legal { IsLegal pass.new.seen }
+        ensures look { IsLook pass.old pass.new }
+        ensures settled { StaysSettled pass.old pass.new }
         ensures mine { pass.new.mine ≡ pass.old.mine }
         ensures faults { pass.old.faults ≤ pass.new.faults }
         ensures seen { IfOk result (λ reader. reader ≡ pass.new.seen) }

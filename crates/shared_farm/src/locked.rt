@@ -1,5 +1,5 @@
 //! What the lock of a shared farm holds.
-ghost use Rattle.std.specs.Prelude.{◌≡◌, ◌≤◌, ◌+◌, true, List, ℕ, IfOk};
+ghost use Rattle.std.specs.Prelude.{◌≡◌, ◌≤◌, ◌+◌, [], true, List, ℕ, IfOk, length};
 ghost use Rattle.std.specs.Arc.{arc_value};
 ghost use Rattle.farm_entry.specs.Legal.{IsLegal};
 ghost use Rattle.farm_entry.specs.declared.entry.Entry.{Entry};
@@ -7,7 +7,7 @@ ghost use Rattle.farm_store.specs.Answering.{BatchSays, CallSays};
 ghost use Rattle.farm_store.specs.Faults.{HasCallCause};
 ghost use Rattle.farm_store.specs.declared.asking.TheConstants.{MAX_BATCH};
 ghost use Rattle.list_prefix.specs.Prefix.{IsPrefix};
-ghost use Rattle.std.specs.Prelude.{length};
+ghost use Rattle.turn_lock.specs.Known.{MayRise};
 
 use crate::reader::TotalsReader;
 use farm_board::{Board, BoardPass};
@@ -34,18 +34,24 @@ impl<D: Disk> Stands for Locked<D> {
     ghost entries = { λ v. v.store.history };
 
     ghost count = { λ v. D.count v.store.disk };
+
+    ghost pending = { λ v. v.store.pending };
 }
 
 impl<D: Disk> Locked<D> {
     /// Answers a command, and posts the totals.
     pub fn call(&mut self, alloc: Global, command: &Command, at: Moment) -> Result<Reply, CallFault>
+        ensures found { IsLegal self.old.store.history }
         ensures says { CallSays command.now at result self.old.store self.new.store }
         ensures longer { IsPrefix self.old.store.history self.new.store.history }
         ensures recorded { length self.old.store.history + self.new.store.recorded ≤ length self.new.store.history }
         ensures legal { IsLegal self.new.store.history }
         ensures cause { HasCallCause result (D.count self.old.store.disk) (D.count self.new.store.disk) }
+        ensures settled { D.count self.old.store.disk ≡ D.count self.new.store.disk
+            → MayRise (D.count self.new.store.disk) → self.new.store.pending ≡ [] }
         ensures never_falls { D.count self.old.store.disk ≤ D.count self.new.store.disk }
     {
+        let _ = self.store.history();
         let result = self.store.call(alloc, command, at);
         let totals = self.store.totals();
         self.board
@@ -57,13 +63,17 @@ impl<D: Disk> Locked<D> {
     pub fn call_batch(&mut self, alloc: Global, asks: &[Ask]) -> Result<Answers, CallFault>
         requires some { 1 ≤ length asks.now }
         requires few { length asks.now ≤ MAX_BATCH }
+        ensures found { IsLegal self.old.store.history }
         ensures says { BatchSays asks.now result self.old.store self.new.store }
         ensures longer { IsPrefix self.old.store.history self.new.store.history }
         ensures recorded { length self.old.store.history + self.new.store.recorded ≤ length self.new.store.history }
         ensures legal { IsLegal self.new.store.history }
         ensures cause { HasCallCause result (D.count self.old.store.disk) (D.count self.new.store.disk) }
+        ensures settled { D.count self.old.store.disk ≡ D.count self.new.store.disk
+            → MayRise (D.count self.new.store.disk) → self.new.store.pending ≡ [] }
         ensures never_falls { D.count self.old.store.disk ≤ D.count self.new.store.disk }
     {
+        let _ = self.store.history();
         let result = self.store.call_batch(alloc, asks);
         let totals = self.store.totals();
         self.board

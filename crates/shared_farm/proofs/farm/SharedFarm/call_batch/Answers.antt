@@ -1,9 +1,9 @@
-use Rattle.std.proofs.Common.{subst, sym, ◌∙◌, ◌≡◌, List, ℕ, length}
-use Rattle.farm_entry.specs.declared.entry.Entry.{Entry}
+use Rattle.std.proofs.Common.{ap, subst, sym, ◌∙◌, ◌≡◌, List, ℕ, length}
 use Rattle.turn_lock.specs.Places.{ArePlaces}
+use Rattle.turn_lock.specs.declared.view.Taken.{Taken}
 use Rattle.shared_farm.specs.Turns.{own_places}
-use Rattle.shared_farm.proofs.Recorded.{ArePlaces-own_places}
-use Rattle.shared_farm.proofs.Turning.{IsServed, own_places-told, served-longer, served-places, served-turn}
+use Rattle.shared_farm.proofs.Recorded.{ArePlaces-own_places, recorded-own}
+use Rattle.shared_farm.proofs.Turning.{IsServed, own_places-told, served-longer, served-own, served-places, served-settled, served-turn}
 use Rattle.shared_farm.proofs.farm.SharedFarm.call_batch.Goals as goal
 
 pub back-requires-clause-places : goal.back-requires-clause-places
@@ -15,18 +15,30 @@ back-requires-clause-places g c =
     c.run-turn.ensures
     ∙ own_places-told left c.history.result.now c.recorded-recorded.result c.history.ensures.value
     c.recorded-recorded.ensures in
-    subst (λ (l : List ℕ). ArePlaces (length turn.result.before.entries) (length left.history) l) (sym own)
-    (subst (λ (l : List Entry). ArePlaces (length l) (length left.history) (own_places left)) (sym turn.ensures.entries)
+    subst (λ (l : List ℕ). ArePlaces (length turn.result.before.taken.entries) (length left.history) l) (sym own)
+    (subst (λ (t : Taken). ArePlaces (length t.entries) (length left.history) (own_places left))
+    (sym turn.ensures.taken)
     (ArePlaces-own_places turn.result.value.store left answer.ensures.recorded))
+
+pub back-requires-clause-settled : goal.back-requires-clause-settled
+back-requires-clause-settled g c nothing same rises =
+    c.call_batch-result.ensures.settled (sym (ap (λ (t : Taken). t.count) c.turn-turn.ensures.taken) ∙ same) rises
 
 -- the turn that the caller had
 served : (g : _) (c : goal.After-back g) → IsServed g.D.Disk.count c.args.pass.now c.back.new.pass
-    c.turn-turn.result.before.pass c.turn-turn.result.value.store c.call_batch-result.new.self.store c.run-turn.result
+    c.turn-turn.result.before c.turn-turn.result.value.store c.call_batch-result.new.self.store c.run-turn.result
 served g c =
     let turn = c.turn-turn in
     let answer = c.call_batch-result in
     record {
       held_is = turn.ensures.pass;
+      took = turn.ensures.taken;
+      settled = turn.ensures.settled;
+      answered = answer.ensures.settled;
+      at_least = answer.ensures.never_falls;
+      legal = answer.ensures.found;
+      recorded = recorded-own c.args.asks.now answer.result turn.result.value.store answer.new.self.store
+          answer.ensures.says answer.ensures.longer;
       begins = turn.ensures.seen;
       faults = turn.ensures.faults;
       places = turn.ensures.places;
@@ -45,6 +57,12 @@ returns-clause-turn g c =
     let count = g.D.Disk.count in
     served-turn (served g c) c.args.asks.now answer.result answer.ensures.says
     answer.ensures.cause
+
+pub returns-clause-own : goal.returns-clause-own
+returns-clause-own g c = served-own (served g c)
+
+pub returns-clause-settled : goal.returns-clause-settled
+returns-clause-settled g c = served-settled (served g c)
 
 pub returns-clause-longer : goal.returns-clause-longer
 returns-clause-longer g c = served-longer (served g c)
