@@ -1,7 +1,6 @@
 //! The shared farm.
 ghost use Rattle.std.specs.Prelude.{◌≡◌, ◌≤◌, ◌+◌, [], ◌∷◌, true, Some, IfOk, IfErr, length, max};
 ghost use Rattle.farm_entry.specs.Legal.{IsLegal};
-ghost use Rattle.farm_entry.specs.Pages.{totals as totals_of};
 ghost use Rattle.farm_store.specs.Answering.{as_batch};
 ghost use Rattle.farm_store.specs.declared.asking.TheConstants.{MAX_BATCH};
 ghost use Rattle.list_prefix.specs.Prefix.{IsPrefix, longer};
@@ -13,7 +12,7 @@ use crate::locked::Locked;
 use crate::reader::TotalsReader;
 use farm_board::Board;
 use farm_disk::Disk;
-use farm_entry::{Command, Reply, Totals};
+use farm_entry::{Command, Reply};
 use farm_store::{Answers, Ask, CallFault, Store};
 use farm_types::{Memory, Moment};
 use std::alloc::Global;
@@ -195,16 +194,6 @@ impl<D: Disk> SharedFarm<D> {
         let reader = turn.value.reader();
         self.lock.back(turn, pass);
         reader
-    }
-
-    /// The totals of a legal history that begins with all that the reader has seen, and which it has then seen. It
-    /// takes no turn, waits for nobody, and takes no memory.
-    pub fn totals(&self, reader: &mut TotalsReader) -> Totals
-        ensures longer { IsPrefix reader.old reader.new }
-        ensures legal { IsLegal reader.new }
-        ensures totals { result ≡ totals_of reader.new }
-    {
-        reader.board.read(&mut reader.pass)
     }
 
     /// The store. Where a turn is out that was never given back, it waits and doesn't return.

@@ -149,7 +149,7 @@ fn play<R: Wait>(
     let mut reader = reader;
     let mut good = true;
     for number in 1..=LEASES {
-        let entries = farm.totals(&mut reader).entries;
+        let entries = reader.totals().entries;
         good = step(rt, alloc, farm, &mut pass, entries, caller, number) && good;
     }
     (pass, good)
@@ -199,7 +199,7 @@ fn seen<R: Wait>(rt: &R, farm: &Shared, pass: &mut Pass) -> Option<(TotalsReader
 {
     match farm.reader(rt, pass) {
         Ok(mut reader) => {
-            let entries = farm.totals(&mut reader).entries;
+            let entries = reader.totals().entries;
             Some((reader, entries))
         }
         Err(_) => None,
@@ -277,12 +277,12 @@ fn call_by_four<R: Threads + Wait + Sync>(
 }
 
 /// Whether no count that a reader sees falls.
-fn read_often(farm: &Shared, reader: TotalsReader) -> bool {
+fn read_often(reader: TotalsReader) -> bool {
     let mut reader = reader;
     let mut good = true;
-    let mut last = farm.totals(&mut reader);
+    let mut last = reader.totals();
     for _ in 0..READS {
-        let now = farm.totals(&mut reader);
+        let now = reader.totals();
         good = good && last.entries <= now.entries && last.counted <= now.counted;
         last = now;
     }
@@ -306,7 +306,7 @@ fn call_and_read<R: Threads + Wait + Sync>(
             requires { IsSync R.row × IsReady farm.now pass }
             ensures { IsReady farm.entry.now result.0 }
         { call_by_four(rt, alloc, farm, pass) },
-        move || read_often(farm, reader),
+        move || read_often(reader),
     );
     (pass, good && also)
 }

@@ -135,11 +135,11 @@ fn play<R: Wait>(rt: &R, alloc: Global, farm: &Shared, pass: &mut Pass) -> Resul
 {
     open_search(rt, alloc, farm, pass)?;
     let mut first = reader(rt, farm, pass)?;
-    let before = farm.totals(&mut first).entries;
+    let before = first.totals().entries;
     let (run, position) = lease_apart(rt, alloc, farm, pass)?;
-    let after = farm.totals(&mut first).entries;
+    let after = first.totals().entries;
     let mut second = reader(rt, farm, pass)?;
-    let anew = farm.totals(&mut second).entries;
+    let anew = second.totals().entries;
     Ok(Seen {
         run,
         position,
