@@ -11,6 +11,10 @@ use Rattle.farm_journal.specs.Gates.{header, IsRecord, Chain, Front, Holds}
 pub length-framed : (p : List ℕ) → length (framed p) ≡ 4 + length p
 length-framed p = grind (arith, length-append)
 
+-- how long a record is with the closed gate behind it
+pub length-closed : (p bytes : List ℕ) → bytes ≡ framed p ++ 0 ∷ [] → length bytes ≡ 5 + length p
+length-closed p bytes is = omega (arith, ap length is, length-append (framed p) (0 ∷ []), length-framed p)
+
 -- what is written for a payload is a record of it
 pub framed-record : (p : List ℕ) → IsPayload p → IsRecord p (framed p)
 framed-record p fits = record {

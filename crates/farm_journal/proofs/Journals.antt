@@ -1,14 +1,15 @@
 -- What holds of a journal after a call.
-use Rattle.std.proofs.Common.{◌≡◌, ◌≢◌, inl, ℕ, ◌+◌, Bool, true, List, [], ◌∷◌, ◌++◌, length, get_or, Option, Some, None, refl, sym, ◌∙◌, ap, subst, arith}
+use Rattle.std.proofs.Common.{◌≡◌, ◌≢◌, ◌⊎◌, ⊎_elim, ◌≤◌, inl, ℕ, ◌+◌, Bool, true, List, [], ◌∷◌, ◌++◌, length, get_or, Option, Some, None, refl, sym, ◌∙◌, ap, subst, arith}
 use Rattle.std.specs.Prelude.{Result, Ok, Err, IsErrOf, IsSome, if◌then◌else◌, ◌==◌}
 use Rattle.std.proofs.lemmas.Bool.Decides.{nat_tests}
 use Rattle.farm_disk.specs.Images.{DiskState, LeavesOnly, IsSettled}
+use Rattle.farm_disk.proofs.Moments.{leaves_only-weaker}
 use Rattle.farm_journal.specs.declared.disk_calls.DiskFault.{DiskFault}
 use Rattle.farm_journal.specs.Layout.{holds, opens, version_of, gate_of}
 use Rattle.farm_journal.specs.Found.{in_order}
 use Rattle.farm_journal.specs.Gates.{Holds, IsEither, Stands, Waits, Rests}
 use Rattle.farm_journal.specs.State.{IsBeforeOrAfter, IsHeld, IsPending, IsKept}
-use Rattle.farm_journal.proofs.Public.{leaves-public, leaves-undone, rests-public, stands-public, waits-public}
+use Rattle.farm_journal.proofs.Public.{leaves-public, leaves-undone, rests-public, stands-public, version-either, version-stands, waits-public}
 use Rattle.farm_journal.proofs.Run.{started}
 use Rattle.farm_journal.specs.declared.layout.TheConstants.{VERSION_1}
 use Rattle.farm_journal.proofs.Openings.{holds-opens}
@@ -77,6 +78,42 @@ module _ {D : Type 0} (tells : D → Bool) (told : D → DiskState) (d e : D) (s
   held-more gate' now rests = subst (λ (x : D). tells x ≡ true → IsHeld (qs ++ p ∷ []) now) same
       (λ t. subst (λ (l : List (List ℕ)). IsHeld (l ++ p ∷ []) now) is
       (rests-public 2 (ps ++ p ∷ []) gate' now (rests t)))
+
+  -- the version that is read with the new payload
+  pub reads-new : (gate' : ℕ) (now : DiskState) → (tells d ≡ true → Rests 2 (ps ++ p ∷ []) gate' now) → tells e ≡ true
+      → version_of now.bytes ≡ 2
+  reads-new gate' now rests = subst (λ (x : D). tells x ≡ true → version_of now.bytes ≡ 2) same
+      (λ t. version-stands (ps ++ p ∷ []) gate' now.bytes (rests t).stands)
+
+  -- a file of version 2 stays one
+  pub stays-new : (y : ℕ) (now : DiskState) → v ≡ y → (tells d ≡ true → Rests v ps gate (told d))
+      → (v ≡ 2 → tells d ≡ true → (rs : List (List ℕ)) → Rests 2 rs gate (told d)
+      → LeavesOnly (told d) now (IsEither 2 rs gate p)) → y ≡ 2 → tells e ≡ true
+      → LeavesOnly (told e) now (λ c. version_of c ≡ 2)
+  stays-new y now kept rests leaves two =
+      let new : v ≡ 2 = kept ∙ two in
+      subst (λ (x : D). tells x ≡ true → LeavesOnly (told x) now (λ c. version_of c ≡ 2)) same
+      (λ t. leaves_only-weaker (told d) now (IsEither 2 ps gate p) (λ c. version_of c ≡ 2) (version-either ps gate p)
+      (leaves new t ps (subst (λ (k : ℕ). Rests k ps gate (told d)) new (rests t))))
+
+  -- the same before the first call
+  pub stays-idle : (y : ℕ) → v ≡ y → (tells d ≡ true → Rests v ps gate (told d)) → y ≡ 2 → tells e ≡ true
+      → LeavesOnly (told e) (told e) (λ c. version_of c ≡ 2)
+  stays-idle y kept rests two =
+      subst (λ (x : D). tells x ≡ true → LeavesOnly (told x) (told x) (λ c. version_of c ≡ 2)) same
+      (λ t. leaves_only-weaker (told d) (told d) (IsEither 2 ps gate p) (λ c. version_of c ≡ 2) (version-either ps gate p)
+      (started 2 ps gate p (told d) (subst (λ (k : ℕ). Rests k ps gate (told d)) (kept ∙ two) (rests t))).images)
+
+  -- what an upgrade leaves behind the closed gate
+  pub cut-behind : (w y : ℕ) (now : DiskState) → gate ≡ gate_of ps → v ≡ y
+      → (w ≡ v) ⊎ (tells d ≡ true → length now.bytes ≤ gate + 6 + length p) → w ≢ y → tells e ≡ true
+      → length now.bytes ≤ gate_of (qs ++ p ∷ []) + 1
+  cut-behind w y now at kept one other t = ⊎_elim
+      (λ (still : w ≡ v). absurd (other (still ∙ kept)))
+      (λ (cut : tells d ≡ true → length now.bytes ≤ gate + 6 + length p).
+      subst (λ (l : List (List ℕ)). length now.bytes ≤ gate_of (l ++ p ∷ []) + 1) is
+      (omega (arith, at, gate_of-push ps p, cut (subst (λ (x : D). tells x ≡ true) (sym same) t))))
+      one
 
   -- what is pending
   pub now-pending : (w : ℕ) (now : DiskState) → (tells d ≡ true → Waits w ps gate p now) → tells e ≡ true
@@ -206,3 +243,9 @@ pub created-held : (new : DiskState) (fresh : Bool) (p q : List ℕ) → fresh �
 created-held new fresh p q is same rests =
     subst (λ (l : List ℕ). IsHeld (l ∷ []) new) same
     (rests-public 2 (p ∷ []) (gate_of (p ∷ [])) new (rests (ap answered is)))
+
+-- the version that is read of it
+pub created-new : (new : DiskState) (fresh : Bool) (p : List ℕ) → fresh ≡ true
+    → (answered fresh ≡ answered true → Rests 2 (p ∷ []) (gate_of (p ∷ [])) new) → version_of new.bytes ≡ 2
+created-new new fresh p is rests =
+    version-stands (p ∷ []) (gate_of (p ∷ [])) new.bytes (rests (ap answered is)).stands

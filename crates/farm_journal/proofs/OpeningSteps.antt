@@ -1,8 +1,8 @@
 -- What each step of opening leaves.
-use Rattle.std.proofs.Common.{◌≡◌, ℕ, List, ◌∷◌, Result, Ok, Err, sym, ◌∙◌, ap, subst}
+use Rattle.std.proofs.Common.{◌≡◌, ℕ, List, ◌∷◌, Result, Ok, Err, refl, sym, ◌∙◌, ap, subst, arith}
 use Rattle.farm_disk.specs.Images.{DiskState, sync, LeavesSinceSync, IsSettled}
 use Rattle.farm_disk.specs.Answers.{rested}
-use Rattle.farm_disk.proofs.Moments.{leaves-now, leaves_only-start, leaves_only-step, leaves_only-rested, since_sync-rested, since_sync-run, settled-sync}
+use Rattle.farm_disk.proofs.Moments.{leaves-now, leaves_only-start, leaves_only-step, leaves_only-rested, since_sync-rested, since_sync-run, settled-sync, synced-le}
 use Rattle.farm_journal.specs.ReadsOnly.{ReadsOnly}
 use Rattle.farm_journal.specs.Outcome.{SyncEnds}
 use Rattle.farm_journal.specs.declared.disk_calls.DiskFault.{DiskFault}
@@ -15,6 +15,14 @@ since_sync-still old mid new P leaves is = subst (λ (d : DiskState). LeavesSinc
     more : LeavesSinceSync old (rested mid) P
     more t later held =
         let before = leaves t later held in (λ c image. leaves-now t mid.steps P before c image, λ le. before)
+
+-- no call was made. For the crate above too.
+pub reads-none : (disk : DiskState) → ReadsOnly disk disk
+reads-none disk = record {
+  bytes = refl;
+  since_sync = λ t later held. absurd (omega (arith, later, synced-le disk.steps t held));
+  any_moment = λ settled. leaves_only-start disk (λ c. c ≡ disk.bytes) settled;
+}
 
 pub reads-rested : (old mid new : DiskState) → ReadsOnly old mid → new ≡ rested mid → ReadsOnly old new
 reads-rested old mid new reads is = record {

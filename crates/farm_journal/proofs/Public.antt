@@ -36,6 +36,14 @@ either-public known ps g p c one = ⊎_elim
     ))
     one
 
+-- either of the two, of a file of version 2
+pub version-either : (ps : List (List ℕ)) (g : ℕ) (p c : List ℕ) → IsEither 2 ps g p c → version_of c ≡ 2
+version-either ps g p c one = ⊎_elim
+    (λ (before : Stands 2 ps g c). version-stands ps g c before)
+    (λ (after : Stands 2 (ps ++ p ∷ []) (g + 5 + length p) c).
+    version-stands (ps ++ p ∷ []) (g + 5 + length p) c after)
+    one
+
 pub leaves-public : (known : ℕ) (ps : List (List ℕ)) (g : ℕ) (p : List ℕ) (old new : DiskState)
     → LeavesOnly old new (IsEither known ps g p) → LeavesOnly old new (IsBeforeOrAfter ps p)
 leaves-public known ps g p old new leaves =

@@ -16,6 +16,12 @@ pub on_ok : (r : Result (Unit {0}) DiskFault) (P : Type 0) → ((u : Unit {0}) �
 on_ok (Ok u) P holds = holds u refl
 on_ok (Err e) P holds = tt
 
+-- a sync leaves the size
+pub length-synced : (mid now : DiskState) (r : Result (Unit {0}) DiskFault) → SyncEnds r mid now
+    → length now.bytes ≡ length mid.bytes
+length-synced mid now (Ok u) is = ap (λ (d : DiskState). length d.bytes) is
+length-synced mid now (Err e) is = ap (λ (d : DiskState). length d.bytes) is
+
 -- each image since the first state, and what a read gives, holds the payloads before or these and the new one
 pub record Went (known : ℕ) (ps : List (List ℕ)) (g : ℕ) (p : List ℕ) (first now : DiskState) : Type 0 where
   pub images : LeavesOnly first now (IsEither known ps g p)

@@ -1,5 +1,5 @@
 -- What each step of an upgrade leaves.
-use Rattle.std.proofs.Common.{◌≡◌, ◌<◌, ◌≤◌, arith, append_assoc, length-append, take-append-drop, get_or, take, drop, ℕ, ◌+◌, List, [], ◌∷◌, ◌++◌, length, Result, Ok, Err, refl, sym, ◌∙◌, ap, subst}
+use Rattle.std.proofs.Common.{◌≡◌, ◌<◌, ◌≤◌, arith, append_assoc, length-append, take-append-drop, get_or, take, drop, max, ℕ, ◌+◌, List, [], ◌∷◌, ◌++◌, length, Result, Ok, Err, refl, sym, ◌∙◌, ap, subst}
 use Rattle.std.proofs.lemmas.List.{take_at, take-take, drop_at, drop_more, length-take, length-take-le}
 use Rattle.farm_disk.specs.Images.{DiskState, EachImage, write, cut, sync, LeavesOnly, IsSettled, Torn, Shortened, overwritten}
 use Rattle.farm_disk.specs.Answers.{rested, after_write, after_cut, after_sync, FailedCut}
@@ -188,13 +188,13 @@ module _ (ps : List (List ℕ)) (g : ℕ) (first : DiskState) (rests : Rests 1 p
     settled = settled-sync wrote now synced;
   }
 
--- the gate is within the file afterwards
-pub still-within : (g : ℕ) (old short synced wrote now : DiskState) → g < length old.bytes
+-- nothing stands behind the gate afterwards
+pub length-upgraded : (g : ℕ) (old short synced wrote now : DiskState) → g < length old.bytes → 16 ≤ g
     → short ≡ after_cut (g + 1) old → synced ≡ after_sync short → length synced.bytes ≤ length wrote.bytes
-    → now ≡ after_sync wrote → g < length now.bytes
-still-within g old short synced wrote now within is_short is_synced longer is_now =
+    → length wrote.bytes ≤ max (length synced.bytes) 16 → now ≡ after_sync wrote → length now.bytes ≡ g + 1
+length-upgraded g old short synced wrote now within first is_short is_synced longer most is_now =
     let one : length short.bytes ≡ g + 1 =
     ap (λ (d : DiskState). length d.bytes) is_short ∙ length-take-le (g + 1) old.bytes (omega (arith, within)) in
     let two : length synced.bytes ≡ length short.bytes = ap (λ (d : DiskState). length d.bytes) is_synced in
     let last : length now.bytes ≡ length wrote.bytes = ap (λ (d : DiskState). length d.bytes) is_now in
-    omega (arith, one, two, longer, last)
+    omega (arith, first, one, two, longer, most, last)

@@ -1,5 +1,5 @@
 //! Appending a record at the closed gate of a file of version 2.
-ghost use Rattle.std.specs.Prelude.{◌≡◌, ◌≤◌, ◌<◌, ◌+◌, ◌++◌, ◌∷◌, [], ◌^◌, ℕ, List, true, length, OnOk, IsErrOf};
+ghost use Rattle.std.specs.Prelude.{◌≡◌, ◌≤◌, ◌<◌, ◌+◌, ◌++◌, ◌∷◌, [], ◌^◌, ℕ, List, true, length, max, OnOk, IsErrOf};
 ghost use Rattle.told_list.specs.Counts.{Rose};
 ghost use Rattle.farm_disk.specs.Images.{LeavesOnly, moment};
 ghost use Rattle.farm_journal.specs.Layout.{IsPayload};
@@ -38,6 +38,9 @@ pub(super) fn append_record<D: Disk>(
         → Rests 2 ps gate (D.told disk.old) → Rests 2 ps gate (D.told disk.new) }
     ensures undone { IsErrOf result DiskFault.Memory → D.tells disk.old ≡ true
         → IsUndone (D.told disk.old) (D.told disk.new) }
+    // Nothing is written past the new closed gate.
+    ensures no_longer { D.tells disk.old ≡ true → length (D.told disk.new).bytes
+        ≤ max (length (D.told disk.old).bytes) (gate + 6 + length payload.now) }
 
     ensures cause { IsErrOf result DiskFault.Failed → Rose (D.count disk.old) (D.count disk.new) }
     ensures never_falls { D.count disk.old ≤ D.count disk.new }

@@ -1,5 +1,5 @@
 //! The calls of a disk with a `Result`, so that they can be carried by `?`.
-ghost use Rattle.std.specs.Prelude.{◌≡◌, ◌≤◌, ◌+◌, true, length, take, drop, IfOk, OnOk, IsErrOf};
+ghost use Rattle.std.specs.Prelude.{◌≡◌, ◌≤◌, ◌+◌, true, length, max, take, drop, IfOk, OnOk, IsErrOf};
 ghost use Rattle.farm_journal.specs.declared.disk_calls.DiskFault.TheVariants.{Memory};
 ghost use Rattle.told_list.specs.Counts.{Rose};
 ghost use Rattle.farm_journal.specs.Outcome.{WriteEnds, CutEnds, SyncEnds};
@@ -52,6 +52,8 @@ pub(super) fn write<D: Disk>(disk: &mut D, at: u64, bytes: &[u8]) -> Result<(), 
     ensures same { D.tells disk.new ≡ D.tells disk.old }
     ensures ends { D.tells disk.old ≡ true → WriteEnds at bytes.now result (D.told disk.old) (D.told disk.new) }
     ensures no_shorter { D.tells disk.old ≡ true → length (D.told disk.old).bytes ≤ length (D.told disk.new).bytes }
+    ensures no_longer { D.tells disk.old ≡ true
+        → length (D.told disk.new).bytes ≤ max (length (D.told disk.old).bytes) (at + length bytes.now) }
     ensures within { D.tells disk.old ≡ true → at + length bytes.now ≤ length (D.told disk.old).bytes
         → IsErrOf result DiskFault.Memory → ⊥ }
     ensures cause { IsErrOf result DiskFault.Failed → Rose (D.count disk.old) (D.count disk.new) }

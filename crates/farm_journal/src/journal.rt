@@ -97,6 +97,8 @@ impl<D: Disk> Journal<D> {
         ensures version { IfOk result (λ journal. journal.version ≡ 2) }
         ensures held { IfOk result (λ journal. D.tells disk ≡ true
             → IsHeld (payload.items ∷ []) (D.told journal.disk)) }
+        ensures new_version { IfOk result (λ journal. D.tells disk ≡ true
+            → version_of (D.told journal.disk).bytes ≡ 2) }
 
         ensures born { D.tells disk ≡ true → is_unborn (D.told disk).bytes ≡ false
             → (D.told (disk_created result)).bytes ≡ (D.told disk).bytes }
@@ -209,6 +211,8 @@ impl<D: Disk> Journal<D> {
         ensures version { OnOk result (self.new.version ≡ 2) }
         ensures acknowledged { OnOk result (D.tells self.old.disk ≡ true
             → IsHeld (self.old.payloads ++ payload.now ∷ []) (D.told self.new.disk)) }
+        ensures new_version { OnOk result (D.tells self.old.disk ≡ true
+            → version_of (D.told self.new.disk).bytes ≡ 2) }
         ensures four_calls { self.old.version ≡ 2 → OnOk result (D.tells self.old.disk ≡ true
             → moment (D.told self.new.disk) ≡ moment (D.told self.old.disk) + 4) }
 
@@ -225,6 +229,12 @@ impl<D: Disk> Journal<D> {
             → LeavesOnly (D.told self.old.disk) (D.told self.new.disk) (λ c. opens c ≡ holds self.old.payloads)) }
 
         ensures upgrades { (self.new.version ≡ self.old.version) ⊎ (self.new.version ≡ 2) }
+        // A crash at any moment of an append to a journal of version 2 leaves a file of version 2.
+        ensures stays { self.old.version ≡ 2 → D.tells self.old.disk ≡ true
+            → LeavesOnly (D.told self.old.disk) (D.told self.new.disk) (λ c. version_of c ≡ 2) }
+        // An upgrade cuts off what stood behind the closed gate: nothing of it is left behind the next one.
+        ensures cuts { self.new.version ≢ self.old.version → D.tells self.old.disk ≡ true
+            → length (D.told self.new.disk).bytes ≤ gate_of (self.old.payloads ++ payload.now ∷ []) + 1 }
 
         ensures cause { HasCause result (D.count self.old.disk) (D.count self.new.disk) }
         ensures never_falls { D.count self.old.disk ≤ D.count self.new.disk }
@@ -248,8 +258,9 @@ impl<D: Disk> Journal<D> {
         }
     }
 
-    /// Finds out whether the pending payload was kept: after a sync it was where the gate reads other than 0. Nothing
-    /// is cut. After a `StoreFault` the payload is still pending, and the repair may be tried again. It takes no memory.
+    /// Finds out whether the pending payload was kept: after a sync it was where the gate reads other than 0. That takes
+    /// one sync and one read, and the bytes stay as they are, whatever it answers. After a `StoreFault` the payload is
+    /// still pending, and the repair may be tried again. It takes no memory.
     pub fn repair(&mut self) -> Result<Repaired, JournalFault>
         requires { IsSome self.old.pending }
 
@@ -266,6 +277,11 @@ impl<D: Disk> Journal<D> {
         ensures held { OnOk result (D.tells self.old.disk ≡ true → IsHeld self.new.payloads (D.told self.new.disk)) }
         ensures by_the_gate { IfOk result (λ found. D.tells self.old.disk ≡ true
             → Reads found (slice_index (D.told self.new.disk).bytes (gate_of self.old.payloads))) }
+        ensures new_version { IfOk result (λ found. found ≡ Repaired.Kept → D.tells self.old.disk ≡ true
+            → version_of (D.told self.new.disk).bytes ≡ 2) }
+        ensures only { D.tells self.old.disk ≡ true → ReadsOnly (D.told self.old.disk) (D.told self.new.disk) }
+        ensures two_calls { OnOk result (D.tells self.old.disk ≡ true
+            → moment (D.told self.new.disk) ≡ moment (D.told self.old.disk) + 2) }
 
         ensures unchanged { OnStoreFault result (self.new ≡ record self.old { disk = self.new.disk }) }
         ensures waits { OnStoreFault result (D.tells self.old.disk ≡ true → (p : List ℕ) → self.old.pending ≡ Some p

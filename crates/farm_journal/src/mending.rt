@@ -1,9 +1,10 @@
 //! What became of a record whose append failed.
-ghost use Rattle.std.specs.Prelude.{◌≡◌, ◌≤◌, ◌<◌, ◌+◌, ℕ, List, true, length, IfOk, OnErr};
+ghost use Rattle.std.specs.Prelude.{◌≡◌, ◌≤◌, ◌<◌, ◌+◌, ℕ, List, true, length, IfOk, OnErr, OnOk};
 ghost use Rattle.told_list.specs.Counts.{Rose};
-ghost use Rattle.farm_disk.specs.Images.{LeavesOnly};
+ghost use Rattle.farm_disk.specs.Images.{LeavesOnly, moment};
 ghost use Rattle.farm_journal.specs.Gates.{Waits, IsEither};
 ghost use Rattle.farm_journal.specs.Mended.{Mends};
+ghost use Rattle.farm_journal.specs.ReadsOnly.{ReadsOnly};
 
 use crate::disk_calls::{DiskFault, read, sync};
 use farm_disk::Disk;
@@ -17,7 +18,8 @@ pub enum Repaired {
     Dropped,
 }
 
-/// Finds out by the gate whether a record was kept whose append failed there. It cuts nothing.
+/// Finds out by the gate whether a record was kept whose append failed there. It syncs and reads the gate, and writes
+/// and cuts nothing.
 pub(super) fn mend<D: Disk>(disk: &mut D, gate: u64) -> Result<Repaired, DiskFault>
     requires { D.tells disk.old ≡ true → gate < length (D.told disk.old).bytes }
 
@@ -30,6 +32,9 @@ pub(super) fn mend<D: Disk>(disk: &mut D, gate: u64) -> Result<Repaired, DiskFau
         → IfOk result (λ found. Mends known ps gate p found (D.told disk.new)) }
     ensures waits { D.tells disk.old ≡ true → (known : ℕ) (ps : List (List ℕ)) (p : List ℕ)
         → Waits known ps gate p (D.told disk.old) → Waits known ps gate p (D.told disk.new) }
+    ensures only { D.tells disk.old ≡ true → ReadsOnly (D.told disk.old) (D.told disk.new) }
+    ensures two_calls { OnOk result (D.tells disk.old ≡ true
+        → moment (D.told disk.new) ≡ moment (D.told disk.old) + 2) }
 
     ensures cause { OnErr result (Rose (D.count disk.old) (D.count disk.new)) }
     ensures never_falls { D.count disk.old ≤ D.count disk.new }

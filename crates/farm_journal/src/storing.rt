@@ -29,8 +29,16 @@ pub(super) fn store<D: Disk>(
     ensures any_moment { D.tells disk.old ≡ true → (ps : List (List ℕ)) → Rests version.old ps gate (D.told disk.old)
         → LeavesOnly (D.told disk.old) (D.told disk.new) (IsEither 1 ps gate payload.now) }
 
+    // A file of version 2 is one at each moment of the call.
+    ensures stays { version.old ≡ 2 → D.tells disk.old ≡ true → (ps : List (List ℕ))
+        → Rests 2 ps gate (D.told disk.old)
+        → LeavesOnly (D.told disk.old) (D.told disk.new) (IsEither 2 ps gate payload.now) }
+
     ensures new_version { OnOk result (version.new ≡ 2) }
     ensures upgrades { (version.new ≡ version.old) ⊎ (version.new ≡ 2) }
+    // An upgrade leaves nothing of what stood behind the closed gate.
+    ensures cuts { (version.new ≡ version.old)
+        ⊎ (D.tells disk.old ≡ true → length (D.told disk.new).bytes ≤ gate + 6 + length payload.now) }
     ensures done { OnOk result (D.tells disk.old ≡ true → (ps : List (List ℕ))
         → Rests version.old ps gate (D.told disk.old)
         → Rests 2 (ps ++ payload.now ∷ []) (gate + 5 + length payload.now) (D.told disk.new)) }

@@ -24,7 +24,8 @@ pub(super) fn upgrade<D: Disk>(disk: &mut D, gate: u64) -> Result<(), DiskFault>
 
     ensures done { OnOk result (D.tells disk.old ≡ true → (ps : List (List ℕ)) → Rests 1 ps gate (D.told disk.old)
         → Rests 2 ps gate (D.told disk.new)) }
-    ensures gate { OnOk result (D.tells disk.old ≡ true → gate < length (D.told disk.new).bytes) }
+    // Nothing of what stood behind the closed gate is left.
+    ensures cuts { OnOk result (D.tells disk.old ≡ true → length (D.told disk.new).bytes ≡ gate + 1) }
     ensures reads { D.tells disk.old ≡ true → (ps : List (List ℕ)) → Rests 1 ps gate (D.told disk.old)
         → Stands 1 ps gate (D.told disk.new).bytes }
 

@@ -1,9 +1,10 @@
 -- What each exit leaves, by the lemmas of `Run`.
-use Rattle.std.proofs.Common.{Result, ◌∙◌, subst}
+use Rattle.std.proofs.Common.{Result, ◌∙◌, arith, subst}
 use Rattle.farm_disk.proofs.Moments.{settled-sync}
 use Rattle.farm_journal.specs.Outcome.{SyncEnds}
 use Rattle.farm_journal.specs.declared.disk_calls.DiskFault.{DiskFault}
-use Rattle.farm_journal.proofs.Run.{on_ok, started, waits, went-record, went-sync, went-gate, staged-sync, acknowledged}
+use Rattle.farm_journal.proofs.Bytes.{length-closed}
+use Rattle.farm_journal.proofs.Run.{length-synced, on_ok, started, waits, went-record, went-sync, went-gate, staged-sync, acknowledged}
 use Rattle.farm_journal.proofs.appending.append_record.Goals as goal
 
 pub returns-in_err-record-clause-any_moment : goal.returns-in_err-record-clause-any_moment
@@ -114,3 +115,44 @@ returns-clause-failed g c failed tells ps rests =
     waits 2 ps c.args.gate c.args.payload.now _ _
     (went-sync 2 ps c.args.gate c.args.payload.now _ _ _ c.sync-2.result gate
     (c.sync-2.ensures.ends (c.write-2.ensures.same ∙ tells_2)))
+
+pub returns-in_err-write-clause-no_longer : goal.returns-in_err-write-clause-no_longer
+returns-in_err-write-clause-no_longer g c tells =
+    let bytes = length-closed c.args.payload.now _ (c.deref.ensures.value ∙ c.in_ok-record.ensures) in
+    omega
+    (arith, bytes, c.write.ensures.no_longer tells)
+
+pub returns-in_err-sync-clause-no_longer : goal.returns-in_err-sync-clause-no_longer
+returns-in_err-sync-clause-no_longer g c tells =
+    let bytes = length-closed c.args.payload.now _ (c.deref.ensures.value ∙ c.in_ok-record.ensures) in
+    let tells_1 = c.write.ensures.same ∙ tells in
+    omega
+    (arith, bytes, c.write.ensures.no_longer tells, length-synced _ _ _ (c.sync.ensures.ends tells_1))
+
+pub returns-in_err-write-2-clause-no_longer : goal.returns-in_err-write-2-clause-no_longer
+returns-in_err-write-2-clause-no_longer g c tells =
+    let bytes = length-closed c.args.payload.now _ (c.deref.ensures.value ∙ c.in_ok-record.ensures) in
+    let tells_1 = c.write.ensures.same ∙ tells in
+    let tells_2 = c.sync.ensures.same ∙ tells_1 in
+    omega (
+      arith,
+      bytes,
+      c.write.ensures.no_longer tells,
+      length-synced _ _ _ (c.sync.ensures.ends tells_1),
+      c.write-2.ensures.no_longer tells_2,
+    )
+
+pub returns-clause-no_longer : goal.returns-clause-no_longer
+returns-clause-no_longer g c tells =
+    let bytes = length-closed c.args.payload.now _ (c.deref.ensures.value ∙ c.in_ok-record.ensures) in
+    let tells_1 = c.write.ensures.same ∙ tells in
+    let tells_2 = c.sync.ensures.same ∙ tells_1 in
+    let tells_3 = c.write-2.ensures.same ∙ tells_2 in
+    omega (
+      arith,
+      bytes,
+      c.write.ensures.no_longer tells,
+      length-synced _ _ _ (c.sync.ensures.ends tells_1),
+      c.write-2.ensures.no_longer tells_2,
+      length-synced _ _ _ (c.sync-2.ensures.ends tells_3),
+    )

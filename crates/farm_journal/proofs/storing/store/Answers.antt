@@ -1,5 +1,5 @@
 -- What a store leaves, from what the upgrade and the append leave.
-use Rattle.std.proofs.Common.{ℕ, ◌∙◌, sym, subst}
+use Rattle.std.proofs.Common.{ℕ, ◌∙◌, inr, sym, subst, arith}
 use Rattle.farm_journal.specs.Gates.{Rests, Stands}
 use Rattle.farm_disk.proofs.Moments.{leaves_only-trans}
 use Rattle.farm_journal.proofs.Public.{rests-any, leaves-any, leaves-same, leaves-both, leaves-undone, waits-upgrade, stands-other}
@@ -29,7 +29,12 @@ returns-in_err-upgrade-clause-failed g c failed tells ps rests =
     (λ image stands. stands-other c.args.version.now ps c.args.gate image c.if-version-eq2.false stands)
 
 pub append_record-requires-2-clause-gate : goal.append_record-requires-2-clause-gate
-append_record-requires-2-clause-gate g c tells = c.in_ok-upgrade.ensures.gate (sym c.upgrade.ensures.same ∙ tells)
+append_record-requires-2-clause-gate g c tells =
+    omega (arith, c.in_ok-upgrade.ensures.cuts (sym c.upgrade.ensures.same ∙ tells))
+
+pub returns-clause-cuts : goal.returns-clause-cuts
+returns-clause-cuts g c = inr (λ tells. omega
+    (arith, c.in_ok-upgrade.ensures.cuts tells, c.append_record-2.ensures.no_longer (c.upgrade.ensures.same ∙ tells)))
 
 pub returns-clause-any_moment : goal.returns-clause-any_moment
 returns-clause-any_moment g c tells ps rests =
@@ -58,3 +63,12 @@ returns-clause-leaves_before g c wanting tells ps rests =
     leaves_only-trans _ _ _ (Stands 1 ps c.args.gate) (c.upgrade.ensures.any_moment tells ps old)
     (leaves-undone 2 ps c.args.gate _ _ (c.in_ok-upgrade.ensures.done tells ps old)
     (c.append_record-2.ensures.undone wanting (c.upgrade.ensures.same ∙ tells)))
+
+pub returns-then-version-eq2-clause-stays : goal.returns-then-version-eq2-clause-stays
+returns-then-version-eq2-clause-stays g c two tells ps rests = c.append_record.ensures.any_moment tells ps rests
+
+pub returns-in_err-upgrade-clause-stays : goal.returns-in_err-upgrade-clause-stays
+returns-in_err-upgrade-clause-stays g c two = absurd (c.if-version-eq2.false two)
+
+pub returns-clause-stays : goal.returns-clause-stays
+returns-clause-stays g c two = absurd (c.if-version-eq2.false two)

@@ -4,7 +4,7 @@ use Rattle.farm_disk.proofs.Moments.{settled-sync}
 use Rattle.farm_journal.specs.Outcome.{SyncEnds}
 use Rattle.farm_journal.specs.declared.disk_calls.DiskFault.{DiskFault}
 use Rattle.farm_journal.proofs.Run.{on_ok}
-use Rattle.farm_journal.proofs.Upgrade.{same-cut, same-sync, same-version, upgraded, still-within}
+use Rattle.farm_journal.proofs.Upgrade.{same-cut, same-sync, same-version, upgraded, length-upgraded}
 use Rattle.farm_journal.proofs.upgrading.upgrade.Goals as goal
 
 pub returns-in_err-cut-clause-any_moment : goal.returns-in_err-cut-clause-any_moment
@@ -76,14 +76,14 @@ returns-clause-done g c = on_ok c.sync-2.result _ (λ u is tells ps rests.
     is (c.sync-2.ensures.ends (c.write.ensures.same ∙ tells_2)) in
     upgraded ps c.args.gate (g.D.Disk.told c.args.disk.now) rests _ _ _ two (c.in_ok-write.ensures.ends tells_2) synced)
 
-pub returns-clause-gate : goal.returns-clause-gate
-returns-clause-gate g c = on_ok c.sync-2.result _ (λ u is tells.
+pub returns-clause-cuts : goal.returns-clause-cuts
+returns-clause-cuts g c = on_ok c.sync-2.result _ (λ u is tells.
     let tells_1 = c.cut.ensures.same ∙ tells in
     let tells_2 = c.sync.ensures.same ∙ tells_1 in
     let synced = subst
     (λ (r : Result (Unit {0}) DiskFault). SyncEnds r (g.D.Disk.told c.write.new.disk) (g.D.Disk.told c.sync-2.new.disk))
     is (c.sync-2.ensures.ends (c.write.ensures.same ∙ tells_2)) in
-    still-within c.args.gate (g.D.Disk.told c.args.disk.now) (g.D.Disk.told c.cut.new.disk)
+    length-upgraded c.args.gate (g.D.Disk.told c.args.disk.now) (g.D.Disk.told c.cut.new.disk)
     (g.D.Disk.told c.sync.new.disk) (g.D.Disk.told c.write.new.disk) (g.D.Disk.told c.sync-2.new.disk)
-    (c.requires.gate tells) (c.in_ok-cut.ensures.ends tells) (c.in_ok-sync.ensures.ends tells_1)
-    (c.write.ensures.no_shorter tells_2) synced)
+    (c.requires.gate tells) c.requires.first (c.in_ok-cut.ensures.ends tells) (c.in_ok-sync.ensures.ends tells_1)
+    (c.write.ensures.no_shorter tells_2) (c.write.ensures.no_longer tells_2) synced)

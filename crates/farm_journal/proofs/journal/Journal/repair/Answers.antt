@@ -6,7 +6,7 @@ use Rattle.farm_journal.specs.Layout.{gate_of}
 use Rattle.farm_journal.specs.Mended.{Mends}
 use Rattle.farm_journal.specs.State.{JournalState, IsHeld, IsKept}
 use Rattle.farm_journal.specs.declared.mending.Repaired.{Repaired}
-use Rattle.farm_journal.proofs.Public.{rests-public, waits-within}
+use Rattle.farm_journal.proofs.Public.{rests-public, version-stands, waits-within}
 use Rattle.farm_journal.proofs.Journals.{kept-kept, kept-same, kept-waiting, some-value, mend-moment, still-waits}
 use Rattle.farm_journal.proofs.journal.Journal.repair.Goals as goal
 
@@ -140,3 +140,15 @@ returns-in-Err-clause-waits g c tells p held =
     still-waits g.D.Disk.tells g.D.Disk.told _ _ disk _ _ payloads c.self.inside.version c.self.inside.gate p
     (c.self.invariant.waits p (pending ∙ held)) _
     (λ t waits. c.mend.ensures.waits t _ _ p waits) tells
+
+pub returns-in-Some-clause-new_version : goal.returns-in-Some-clause-new_version
+returns-in-Some-clause-new_version g c kept tells =
+    let disk = ap (λ (j : JournalState g.row.D.Denot). j.disk) c.self.view_is in
+    let t = subst (λ (x : g.row.D.Denot). g.D.Disk.tells x ≡ true) (sym disk) tells in
+    let there = sym c.in-Some.ensures.value in
+    let mends = subst
+    (λ (r : Repaired). Mends c.self.inside.version (in_order c.self.inside.past) c.self.inside.gate c.in-Some.payload r
+    (g.D.Disk.told c.mend.new.disk)) c.in-Ok-Kept.field-0-is
+    (c.in-Ok-Kept.ensures.named t c.self.inside.version (in_order c.self.inside.past) c.in-Some.payload
+    (c.self.invariant.waits c.in-Some.payload there t)) in
+    version-stands _ _ _ mends.0.stands
