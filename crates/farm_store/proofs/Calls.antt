@@ -1,6 +1,7 @@
 -- What a call came to, from what its repair and its decisions came to.
-use Rattle.std.proofs.Common.{◌≡◌, ◌≢◌, inl, inr, ⊎_elim, ℕ, ◌+◌, ◌≤◌, Bool, true, List, [], ◌∷◌, ◌++◌, length, Option, Some, None, refl, sym, ◌∙◌, ap, subst, arith}
-use Rattle.std.specs.Prelude.{Result, Ok, Err}
+use Rattle.std.proofs.Common.{◌≡◌, ◌≢◌, inl, inr, ⊎_elim, ℕ, ◌+◌, ◌≤◌, ◌<◌, Bool, true, List, [], ◌∷◌, ◌++◌, length, Option, Some, None, refl, sym, ◌∙◌, ap, subst, arith}
+use Rattle.std.specs.Prelude.{Result, Ok, Err, OnOk}
+use Rattle.std.proofs.lemmas.Bool.{cases_lt}
 use Rattle.std.proofs.lemmas.List.{append-nil, append_assoc, length-append}
 use Rattle.farm_disk.specs.Images.{DiskState, LeavesOnly}
 use Rattle.farm_disk.proofs.Moments.{leaves_only-trans, leaves_only-weaker}
@@ -11,6 +12,7 @@ use Rattle.farm_entry.specs.Playing.{after}
 use Rattle.farm_entry.specs.declared.decision.Decision.{Decision}
 use Rattle.farm_entry.specs.declared.decision.Decision.TheVariants as decision
 use Rattle.farm_entry.specs.declared.entry.Entry.{Entry}
+use Rattle.farm_journal.specs.Layout.{version_of}
 use Rattle.farm_journal.specs.State.{JournalState}
 use Rattle.farm_store.specs.Answering.{BatchSays, IsUndecided, IsUnrepaired, IsUnrepairedBy, history_after}
 use Rattle.farm_store.specs.Bytes.{StandsFor}
@@ -66,6 +68,40 @@ repaired-idle mid H none found = ⊎_elim (λ (same : H ≡ mid.history). same)
     more ∙ ap (λ (l : List Entry). mid.history ++ l) none ∙ append-nil mid.history)
     found
 
+-- the history never gets shorter
+longer-repaired : {D : Type 0} (old : StoreState D) (H : List Entry) → IsRepaired old H
+    → (more : List Entry) × (H ≡ old.history ++ more)
+longer-repaired old H found = ⊎_elim
+    (λ (same : H ≡ old.history). ([], same ∙ sym (append-nil old.history)))
+    (λ (more : H ≡ old.history ++ old.pending). (old.pending, more))
+    found
+
+pub says-longer : {D : Type 0} (asks : List Ask) (result : Result (List Answer) CallFault) (old new : StoreState D)
+    → BatchSays asks result old new → (more : List Entry) × (new.history ≡ old.history ++ more)
+says-longer asks (Ok answers) old new says =
+    let first = longer-repaired old says.repaired says.found in
+    let then = history_after-grows says.repaired asks in (
+      first.0 ++ then.more,
+      says.history ∙ then.longer ∙ ap (λ (l : List Entry). l ++ then.more) first.1
+          ∙ append_assoc old.history first.0 then.more,
+    )
+says-longer asks (Err (fault.Refused cause)) old new says = absurd says
+says-longer asks (Err (fault.StoreFault before after)) old new says = ⊎_elim
+    (λ (failed : IsUnrepaired old new). ([], failed.history ∙ sym (append-nil old.history)))
+    (λ (torn : IsUndecided asks old new). longer-repaired old new.history torn.found)
+    says
+says-longer asks (Err fault.Memory) old new says = longer-repaired old new.history says.found
+
+-- what an answer comes to
+on_ok-weaker : {T E : Type 0} (r : Result T E) (P Q : Type 0) → (P → Q) → OnOk r P → OnOk r Q
+on_ok-weaker (Ok x) P Q weaker held = weaker held
+on_ok-weaker (Err e) P Q weaker held = tt
+
+-- nothing was added
+more-none : (H more : List Entry) → length (H ++ more) ≤ length H → H ++ more ≡ H
+more-none H [] few = append-nil H
+more-none H (e ∷ more) few = absurd (omega (arith, few, length-append H (e ∷ more)))
+
 module _ {D : Type 0} (old mid new : StoreState D) (none : mid.pending ≡ [])
     (repaired : IsRepaired old mid.history) where
   repaired-on : (H : List Entry) → IsRepaired mid H → IsRepaired old H
@@ -98,6 +134,42 @@ module _ {D : Type 0} (old mid new : StoreState D) (none : mid.pending ≡ [])
     none = says.none;
   }
 
+  -- a call that recorded nothing leaves the disk as its repair left it
+  pub disk-repaired : (asks : List Ask) (result : Result (List Answer) CallFault) → BatchSays asks result mid new
+      → (new.history ≡ mid.history → OnOk result (new.disk ≡ mid.disk)) → (P : D → Type 0) → P mid.disk
+      → new.recorded ≡ 0 → OnOk result (P new.disk)
+  disk-repaired asks (Ok answers) says untouched P held zero =
+      let H : says.repaired ≡ mid.history = repaired-idle mid says.repaired none says.found in
+      let grows = history_after-grows says.repaired asks in
+      let whole : new.history ≡ mid.history ++ grows.more =
+      says.history ∙ grows.longer ∙ ap (λ (l : List Entry). l ++ grows.more) H in
+      let counted = says.recorded in
+      let few : length (mid.history ++ grows.more) ≤ length mid.history =
+      omega (arith, ap length (sym whole), ap length H, counted, zero) in
+      subst P (sym (untouched (whole ∙ more-none mid.history grows.more few))) held
+  disk-repaired asks (Err (fault.Refused cause)) says untouched P held zero = tt
+  disk-repaired asks (Err (fault.StoreFault before after)) says untouched P held zero = tt
+  disk-repaired asks (Err fault.Memory) says untouched P held zero = tt
+
+  -- the version that is read after a call by which the history has grown
+  pub newer-on : (told : D → DiskState) (asks : List Ask) (result : Result (List Answer) CallFault)
+      → BatchSays asks result mid new → (new.history ≡ mid.history → OnOk result (new.disk ≡ mid.disk))
+      → (length old.history < length mid.history → version_of (told mid.disk).bytes ≡ 2)
+      → (length mid.history < length new.history → OnOk result (version_of (told new.disk).bytes ≡ 2))
+      → length old.history < length new.history → OnOk result (version_of (told new.disk).bytes ≡ 2)
+  newer-on told asks result says untouched before after more = ⊎_elim
+      (λ (grown : length mid.history < length new.history). after grown)
+      (λ (still : length new.history ≤ length mid.history).
+      let longer = says-longer asks result mid new says in
+      let few : length (mid.history ++ longer.0) ≤ length mid.history =
+      omega (arith, ap length (sym longer.1), still) in
+      let same : new.history ≡ mid.history = longer.1 ∙ more-none mid.history longer.0 few in
+      on_ok-weaker result (new.disk ≡ mid.disk) (version_of (told new.disk).bytes ≡ 2)
+      (λ is. subst (λ (d : D). version_of (told d).bytes ≡ 2) (sym is)
+      (before (omega (arith, more, still))))
+      (untouched same))
+      (cases_lt (length mid.history) (length new.history))
+
   left-repaired : (c : List ℕ) → StandsFor mid.history c → IsLeft old new c
   left-repaired c stands = ⊎_elim
       (λ (same : mid.history ≡ old.history). inl (inl (subst (λ (l : List Entry). StandsFor l c) same stands)))
@@ -129,30 +201,6 @@ pub says-unrepaired : {D : Type 0} (old new : StoreState D) (asks : List Ask) (f
 says-unrepaired old new asks (fault.Refused cause) failed = failed
 says-unrepaired old new asks (fault.StoreFault before after) failed = inl failed
 says-unrepaired old new asks fault.Memory failed = absurd failed
-
--- the history never gets shorter
-longer-repaired : {D : Type 0} (old : StoreState D) (H : List Entry) → IsRepaired old H
-    → (more : List Entry) × (H ≡ old.history ++ more)
-longer-repaired old H found = ⊎_elim
-    (λ (same : H ≡ old.history). ([], same ∙ sym (append-nil old.history)))
-    (λ (more : H ≡ old.history ++ old.pending). (old.pending, more))
-    found
-
-pub says-longer : {D : Type 0} (asks : List Ask) (result : Result (List Answer) CallFault) (old new : StoreState D)
-    → BatchSays asks result old new → (more : List Entry) × (new.history ≡ old.history ++ more)
-says-longer asks (Ok answers) old new says =
-    let first = longer-repaired old says.repaired says.found in
-    let then = history_after-grows says.repaired asks in (
-      first.0 ++ then.more,
-      says.history ∙ then.longer ∙ ap (λ (l : List Entry). l ++ then.more) first.1
-          ∙ append_assoc old.history first.0 then.more,
-    )
-says-longer asks (Err (fault.Refused cause)) old new says = absurd says
-says-longer asks (Err (fault.StoreFault before after)) old new says = ⊎_elim
-    (λ (failed : IsUnrepaired old new). ([], failed.history ∙ sym (append-nil old.history)))
-    (λ (torn : IsUndecided asks old new). longer-repaired old new.history torn.found)
-    says
-says-longer asks (Err fault.Memory) old new says = longer-repaired old new.history says.found
 
 -- the view of a store, by whether something is pending
 pub undecided-none : (pending : Option (List ℕ)) (ready : List Entry) → pending ≡ None → undecided pending ready ≡ []

@@ -1,5 +1,5 @@
 -- What deciding asks came to, from what storing their new entries came to.
-use Rattle.std.proofs.Common.{◌≡◌, ◌≢◌, ◌⊎◌, inl, inr, ⊎_elim, ℕ, ◌+◌, ◌-◌, ◌≤◌, Bool, true, List, [], ◌∷◌, ◌++◌, length, take, drop, Option, Some, None, refl, sym, ◌∙◌, ap, subst, arith}
+use Rattle.std.proofs.Common.{◌≡◌, ◌≢◌, ◌⊎◌, inl, inr, ⊎_elim, ℕ, ◌+◌, ◌-◌, ◌≤◌, ◌<◌, Bool, true, List, [], ◌∷◌, ◌++◌, length, take, drop, Option, Some, None, refl, sym, ◌∙◌, ap, subst, arith}
 use Rattle.std.specs.Prelude.{Ok, Err, OnOk}
 use Rattle.std.proofs.lemmas.List.{append-nil, length-append, take_at, drop_at}
 use Rattle.std.proofs.lemmas.Option.{none-some}
@@ -15,6 +15,7 @@ use Rattle.farm_entry.specs.declared.decision.Decision.{Decision}
 use Rattle.farm_entry.specs.declared.decision.Decision.TheVariants as decision
 use Rattle.farm_entry.specs.declared.entry.Entry.{Entry}
 use Rattle.farm_entry.specs.declared.refusal.Refusal.{Refusal}
+use Rattle.farm_journal.specs.Layout.{version_of}
 use Rattle.farm_journal.specs.State.{JournalState}
 use Rattle.farm_laws.proofs.Induct.{IsLegal-push}
 use Rattle.farm_laws.proofs.Recorded.{recorded}
@@ -87,6 +88,10 @@ module _ {D : Type 0} (tells : D → Bool) (told : D → DiskState) (farm : Farm
     rests = store.rests;
     waits = λ p waits t. absurd (none-some p (sym idle ∙ waits));
   }
+
+  -- nothing was added
+  pub not-grown : (farm' : FarmView) → farm'.history ≡ farm.history → length s.history < length farm'.history → ⊥
+  not-grown farm' same more = omega (arith, ap length same, ap length same-history, more)
 
   -- nothing was done on the disk
   pub leaves-still : (new : StoreState D) → tells s.disk ≡ true
@@ -207,6 +212,20 @@ module _ {D : Type 0} (tells : D → Bool) (told : D → DiskState) (farm : Farm
           none-more : (xs : List Entry) → length xs ≡ 0 → xs ≡ []
           none-more [] zero = refl
           none-more (x ∷ xs) zero = absurd (omega (arith, zero))
+
+      -- something was added
+      grown : farm''.history ≡ farm'.history → length s.history < length farm''.history → drop start farm'.history ≢ []
+      grown same more none =
+          let added = ap length (sym (rest-at start is) ∙ none) in
+          absurd (omega (arith, added, long, ap length same, ap length same-history, more))
+
+      -- and the file is of version 2
+      pub newer : farm''.history ≡ farm'.history
+          → (drop start farm'.history ≢ [] → tells journal.disk ≡ true → version_of (told journal''.disk).bytes ≡ 2)
+          → tells s.disk ≡ true → length s.history < length farm''.history
+          → version_of (told journal''.disk).bytes ≡ 2
+      newer same version t more = version (grown same more)
+          (subst (λ (d : D). tells d ≡ true) (sym (ap (λ (x : StoreState D). x.disk) view)) t)
 
       -- it was not
       pub says-missed : (asks : List Ask) (f : CallFault) → IsOfStore f → count ≡ 0

@@ -6,6 +6,7 @@ use Rattle.farm_disk.specs.Images.{DiskState, LeavesOnly}
 use Rattle.farm_disk.proofs.Moments.{leaves_only-weaker}
 use Rattle.farm_core.specs.FarmView.{FarmView}
 use Rattle.farm_entry.specs.declared.entry.Entry.{Entry}
+use Rattle.farm_journal.specs.ReadsOnly.{ReadsOnly}
 use Rattle.farm_journal.specs.State.{JournalState, IsBeforeOrAfter, IsHeld}
 use Rattle.farm_store.specs.State.{StoreState, IsWithOrWithout}
 use Rattle.farm_store.specs.StoreInside.{IsStore, Keeps, store_view, undecided}
@@ -21,6 +22,13 @@ pub record SomePayload (pending : Option (List ℕ)) : Type 0 where
 pub some-is : (pending : Option (List ℕ)) → IsSome pending → SomePayload pending
 some-is None some = absurd (true≢false (sym some))
 some-is (Some p) some = record { payload = p; is = refl }
+
+-- what a call on the journal did to the disk, in the words of the store
+pub reads-view : {D : Type 0} (tells : D → Bool) (told : D → DiskState) (farm : FarmView) (journal : JournalState D)
+    (recorded : ℕ) (s : StoreState D) → store_view farm journal recorded ≡ s → (b : DiskState)
+    → (tells journal.disk ≡ true → ReadsOnly (told journal.disk) b) → tells s.disk ≡ true → ReadsOnly (told s.disk) b
+reads-view {D = D} tells told farm journal recorded s view b reads =
+    subst (λ (x : StoreState D). tells x.disk ≡ true → ReadsOnly (told x.disk) b) view reads
 
 module _ {D : Type 0} (tells : D → Bool) (told : D → DiskState) (farm : FarmView) (journal : JournalState D)
     (store : IsStore tells told farm journal) where

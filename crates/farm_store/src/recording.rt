@@ -2,6 +2,7 @@
 
 ghost use Rattle.std.specs.Prelude.{◌≡◌, ◌≢◌, ◌≤◌, [], true, length, take, drop, None, IfErr, OnOk, OnErr, All};
 ghost use Rattle.farm_disk.specs.Images.{LeavesOnly};
+ghost use Rattle.farm_journal.specs.Layout.{version_of};
 ghost use Rattle.entry_codec.specs.Grammar.{IsWithinLimits};
 ghost use Rattle.farm_store.specs.Faults.{HasCountFrom, IsOfStore, OnCallFault, OnCallMemory};
 ghost use Rattle.farm_store.specs.Recorded.{IsOpen, LeavesNew, Wrote};
@@ -41,6 +42,8 @@ pub fn record_from<D: Disk>(
     ensures memory { OnCallMemory result (journal.new.pending ≡ None) }
     ensures of_the_store { IfErr result IsOfStore }
     ensures nothing { drop start farm.old.history ≡ [] → OnOk result (journal.new ≡ journal.old) }
+    ensures new_version { drop start farm.old.history ≢ [] → D.tells journal.old.disk ≡ true
+        → OnOk result (version_of (D.told journal.new.disk).bytes ≡ 2) }
 
     ensures cause { HasCountFrom before result (D.count journal.old.disk) (D.count journal.new.disk) }
     ensures never_falls { D.count journal.old.disk ≤ D.count journal.new.disk }
@@ -67,6 +70,8 @@ fn write_new<D: Disk>(
 
     ensures same { D.tells journal.new.disk ≡ D.tells journal.old.disk }
     ensures wrote { Wrote D.tells D.told entries.now result journal.old journal.new }
+    ensures new_version { entries.now ≢ [] → D.tells journal.old.disk ≡ true
+        → OnOk result (version_of (D.told journal.new.disk).bytes ≡ 2) }
     ensures cause { HasCountFrom before result (D.count journal.old.disk) (D.count journal.new.disk) }
     ensures never_falls { D.count journal.old.disk ≤ D.count journal.new.disk }
 {

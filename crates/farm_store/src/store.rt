@@ -1,13 +1,29 @@
 //! A store: a farm whose history stands on a disk.
 
-ghost use Rattle.std.specs.Prelude.{◌≡◌, ◌≤◌, ◌++◌, [], true, false, List, length, IfOk, IfErr, OnOk, OnErr};
+ghost use Rattle.std.specs.Prelude.{
+  ◌≡◌,
+  ◌≢◌,
+  ◌≤◌,
+  ◌<◌,
+  ◌+◌,
+  ◌++◌,
+  [],
+  true,
+  false,
+  List,
+  length,
+  IfOk,
+  IfErr,
+  OnOk,
+  OnErr,
+};
 ghost use Rattle.std.specs.Option.{option_map};
-ghost use Rattle.farm_disk.specs.Images.{EachImage, LeavesOnly, LeavesSinceSync};
+ghost use Rattle.farm_disk.specs.Images.{EachImage, LeavesOnly, LeavesSinceSync, moment};
 ghost use Rattle.farm_entry.specs.History.{opening_numbered};
 ghost use Rattle.farm_entry.specs.Legal.{IsLegal};
 ghost use Rattle.farm_entry.specs.Pages.{page_of, totals};
 ghost use Rattle.farm_journal.specs.Created.{CreatingCause, IsUnborn, OnCreatingMemory};
-ghost use Rattle.farm_journal.specs.Layout.{is_unborn};
+ghost use Rattle.farm_journal.specs.Layout.{is_unborn, version_of};
 ghost use Rattle.farm_journal.specs.Opened.{OpeningCause};
 ghost use Rattle.farm_journal.specs.ReadsOnly.{ReadsOnly};
 ghost use Rattle.farm_store.specs.Answering.{BatchSays, CallSays, IsUnrepairedBy, as_batch};
@@ -71,6 +87,8 @@ impl<D: Disk> Store<D> {
         ensures legal { OnOk result (IsLegal (founding settings at)) }
         ensures stored { IfOk result (λ store. D.tells disk ≡ true
             → IsStored (founding settings at) [] (D.told store.disk)) }
+        ensures new_version { IfOk result (λ store. D.tells disk ≡ true
+            → version_of (D.told store.disk).bytes ≡ 2) }
 
         ensures born { D.tells disk ≡ true → is_unborn (D.told disk).bytes ≡ false
             → (D.told (disk_founded result)).bytes ≡ (D.told disk).bytes }
@@ -152,9 +170,17 @@ impl<D: Disk> Store<D> {
             → LeavesOnly (D.told self.old.disk) (D.told self.new.disk) (IsLeft self.old self.new) }
         ensures stored { D.tells self.old.disk ≡ true
             → IsStored self.new.history self.new.pending (D.told self.new.disk) }
-        // What records nothing writes nothing.
+        // What records nothing writes nothing: it asks the disk for nothing, or for one sync and one read where it
+        // repairs.
         ensures untouched { self.old.pending ≡ [] → self.new.history ≡ self.old.history
             → OnOk (as_batch result) (self.new.disk ≡ self.old.disk) }
+        ensures only { D.tells self.old.disk ≡ true → self.new.recorded ≡ 0
+            → OnOk (as_batch result) (ReadsOnly (D.told self.old.disk) (D.told self.new.disk)) }
+        ensures two_calls { D.tells self.old.disk ≡ true → self.old.pending ≢ [] → self.new.recorded ≡ 0
+            → OnOk (as_batch result) (moment (D.told self.new.disk) ≡ moment (D.told self.old.disk) + 2) }
+        // Once the history has grown, the file is of version 2.
+        ensures new_version { D.tells self.old.disk ≡ true → length self.old.history < length self.new.history
+            → OnOk (as_batch result) (version_of (D.told self.new.disk).bytes ≡ 2) }
 
         ensures cause { HasCallCause result (D.count self.old.disk) (D.count self.new.disk) }
         ensures never_falls { D.count self.old.disk ≤ D.count self.new.disk }
@@ -171,7 +197,7 @@ impl<D: Disk> Store<D> {
 
     /// Answers 1 to `MAX_BATCH` asks as single calls one after the other would, but for this: their new entries are
     /// stored in one record, before any of the answers is given. So a crash leaves all of them or none. Where they
-    /// record nothing, nothing is written.
+    /// record nothing, nothing is written, behind a repair neither.
     ///
     /// # Errors
     ///
@@ -192,6 +218,12 @@ impl<D: Disk> Store<D> {
             → IsStored self.new.history self.new.pending (D.told self.new.disk) }
         ensures untouched { self.old.pending ≡ [] → self.new.history ≡ self.old.history
             → OnOk result (self.new.disk ≡ self.old.disk) }
+        ensures only { D.tells self.old.disk ≡ true → self.new.recorded ≡ 0
+            → OnOk result (ReadsOnly (D.told self.old.disk) (D.told self.new.disk)) }
+        ensures two_calls { D.tells self.old.disk ≡ true → self.old.pending ≢ [] → self.new.recorded ≡ 0
+            → OnOk result (moment (D.told self.new.disk) ≡ moment (D.told self.old.disk) + 2) }
+        ensures new_version { D.tells self.old.disk ≡ true → length self.old.history < length self.new.history
+            → OnOk result (version_of (D.told self.new.disk).bytes ≡ 2) }
 
         ensures cause { HasCallCause result (D.count self.old.disk) (D.count self.new.disk) }
         ensures never_falls { D.count self.old.disk ≤ D.count self.new.disk }
@@ -273,6 +305,11 @@ impl<D: Disk> Store<D> {
         ensures repaired { OnOk result (IsRepaired self.old self.new.history) }
         ensures decided { OnOk result (self.new.pending ≡ []) }
         ensures idle { self.old.pending ≡ [] → self.new.disk ≡ self.old.disk }
+        ensures only { D.tells self.old.disk ≡ true → ReadsOnly (D.told self.old.disk) (D.told self.new.disk) }
+        ensures two_calls { D.tells self.old.disk ≡ true → self.old.pending ≢ []
+            → OnOk result (moment (D.told self.new.disk) ≡ moment (D.told self.old.disk) + 2) }
+        ensures new_version { D.tells self.old.disk ≡ true → length self.old.history < length self.new.history
+            → OnOk result (version_of (D.told self.new.disk).bytes ≡ 2) }
         ensures none_recorded { self.new.recorded ≡ 0 }
         ensures unrepaired { IfErr result (λ fault. IsUnrepairedBy fault self.old self.new) }
 
@@ -317,6 +354,8 @@ impl<D: Disk> Store<D> {
             → LeavesOnly (D.told self.old.disk) (D.told self.new.disk) (IsLeft self.old self.new) }
         ensures untouched { self.new.history ≡ self.old.history
             → OnOk (as_batch result) (self.new.disk ≡ self.old.disk) }
+        ensures new_version { D.tells self.old.disk ≡ true → length self.old.history < length self.new.history
+            → OnOk (as_batch result) (version_of (D.told self.new.disk).bytes ≡ 2) }
         ensures cause { HasCountFrom before result (D.count self.old.disk) (D.count self.new.disk) }
         ensures never_falls { D.count self.old.disk ≤ D.count self.new.disk }
     {
@@ -342,6 +381,8 @@ impl<D: Disk> Store<D> {
         ensures any_moment { D.tells self.old.disk ≡ true
             → LeavesOnly (D.told self.old.disk) (D.told self.new.disk) (IsLeft self.old self.new) }
         ensures untouched { self.new.history ≡ self.old.history → OnOk result (self.new.disk ≡ self.old.disk) }
+        ensures new_version { D.tells self.old.disk ≡ true → length self.old.history < length self.new.history
+            → OnOk result (version_of (D.told self.new.disk).bytes ≡ 2) }
         ensures cause { HasCountFrom before result (D.count self.old.disk) (D.count self.new.disk) }
         ensures never_falls { D.count self.old.disk ≤ D.count self.new.disk }
     {

@@ -74,3 +74,11 @@ pub returns-in-Err-clause-of_the_store : goal.returns-in-Err-clause-of_the_store
 returns-in-Err-clause-of_the_store g c =
     wrote-of_store g.D.Disk.tells g.D.Disk.told _ c.args.journal.now c.write_new.new.journal c.in-Err.fault
     c.in-Err.ensures.wrote
+
+pub returns-in-Ok-clause-new_version : goal.returns-in-Ok-clause-new_version
+returns-in-Ok-clause-new_version g c some t =
+    let start = c.args.start in
+    let H = c.args.farm.now.history in
+    let same = ap (λ (l : List Entry). take (length l - start) (drop start l)) c.history.ensures.value
+    ∙ take_rest H start in
+    c.in-Ok.ensures.new_version (λ none. some (sym same ∙ none)) t

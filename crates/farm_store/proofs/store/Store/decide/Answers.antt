@@ -12,7 +12,7 @@ use Rattle.farm_store.specs.StoreInside.{store_view}
 use Rattle.farm_store.specs.declared.asking.Answer.{Answer}
 use Rattle.farm_store.specs.declared.asking.CallFault.{CallFault}
 use Rattle.farm_store.proofs.Calls.{Grows, after-grows}
-use Rattle.farm_store.proofs.Decided.{after-legal, ahead, counted, kept-same, leaves-missed, leaves-still, leaves-stored, one-missed, refused-after, says-missed, says-refused, says-stored}
+use Rattle.farm_store.proofs.Decided.{after-legal, ahead, counted, kept-same, leaves-missed, leaves-still, leaves-stored, newer, not-grown, one-missed, refused-after, says-missed, says-refused, says-stored}
 use Rattle.farm_store.proofs.store.Store.decide.Goals as goal
 
 pub record_from-requires : goal.record_from-requires
@@ -208,3 +208,37 @@ returns-in-Err-clause-any_moment g c =
     let m = c.args.at in
     leaves-still t d farm journal c.self.invariant c.self.inside.recorded s c.self.view_is c.requires.decided
     (store_view farm' journal c.self.inside.recorded)
+
+pub returns-in_ok-record_from-in-Ok-Done-clause-new_version :
+    goal.returns-in_ok-record_from-in-Ok-Done-clause-new_version
+returns-in_ok-record_from-in-Ok-Done-clause-new_version g c =
+    let t = g.D.Disk.tells in
+    let d = g.D.Disk.told in
+    let farm = c.self.inside.farm in
+    let journal = c.self.inside.journal in
+    let s = c.args.self.now in
+    let farm' = c.answer.new.farm in
+    let q = c.args.command.now in
+    let m = c.args.at in
+    let grows : Grows farm.history farm'.history 1 = subst (λ (l : List Entry). Grows farm.history l 1)
+    (sym c.in-Ok-Done.ensures.history) (after-grows farm.history (decide farm.history q m)) in
+    let start = length c.history-start.result.now in
+    let is : start ≡ length farm.history = ap length c.history-start.ensures.value in
+    newer t d farm journal c.self.invariant c.self.inside.recorded s c.self.view_is c.requires.decided
+    farm' 1 grows start is c.record_from.new.farm c.record_from.new.journal
+    c.in_ok-record_from-in-Ok-Done.ensures.stored c.in_ok-record_from-in-Ok-Done.ensures.new_version
+
+pub returns-in-Ok-Refused-clause-new_version : goal.returns-in-Ok-Refused-clause-new_version
+returns-in-Ok-Refused-clause-new_version g c told more =
+    let t = g.D.Disk.tells in
+    let d = g.D.Disk.told in
+    let farm = c.self.inside.farm in
+    let journal = c.self.inside.journal in
+    let s = c.args.self.now in
+    let farm' = c.answer.new.farm in
+    let q = c.args.command.now in
+    let m = c.args.at in
+    let answered = subst (λ (a : Answer). IsAnswer farm.history (decide farm.history q m) a)
+    c.in-Ok-Refused.field-0-is c.in-Ok-Refused.ensures.answer in
+    absurd (not-grown t d farm journal c.self.invariant c.self.inside.recorded s c.self.view_is c.requires.decided farm'
+    (c.in-Ok-Refused.ensures.history ∙ refused-after farm.history (decide farm.history q m) _ answered) more)

@@ -4,7 +4,7 @@ use Rattle.farm_entry.specs.Legal.{IsLegal}
 use Rattle.farm_entry.specs.declared.entry.Entry.{Entry}
 use Rattle.farm_store.specs.StoreInside.{store_view}
 use Rattle.farm_store.proofs.Calls.{Grows, history_after-grows}
-use Rattle.farm_store.proofs.Decided.{ahead, history_after-legal, leaves-missed, leaves-still, leaves-stored}
+use Rattle.farm_store.proofs.Decided.{ahead, history_after-legal, leaves-missed, leaves-still, leaves-stored, newer}
 use Rattle.farm_store.proofs.store.Store.decide_all.Goals as goal
 
 pub record_from-requires : goal.record_from-requires
@@ -77,3 +77,21 @@ returns-in-Err-clause-any_moment g c =
     let s = c.args.self.now in
     leaves-still t d farm journal c.self.invariant c.self.inside.recorded s c.self.view_is c.requires.decided
     (store_view c.retract.new.self journal c.self.inside.recorded)
+
+pub returns-in_ok-record_from-in-Ok-clause-new_version : goal.returns-in_ok-record_from-in-Ok-clause-new_version
+returns-in_ok-record_from-in-Ok-clause-new_version g c =
+    let t = g.D.Disk.tells in
+    let d = g.D.Disk.told in
+    let farm = c.self.inside.farm in
+    let journal = c.self.inside.journal in
+    let s = c.args.self.now in
+    let farm' = c.answer_all.new.farm in
+    let asks = c.args.asks.now in
+    let most = length asks in
+    let grows : Grows farm.history farm'.history most = subst (λ (l : List Entry). Grows farm.history l most)
+    (sym c.in-Ok.ensures.history) (history_after-grows farm.history asks) in
+    let start = length c.history-start.result.now in
+    let is : start ≡ length farm.history = ap length c.history-start.ensures.value in
+    newer t d farm journal c.self.invariant c.self.inside.recorded s c.self.view_is c.requires.decided
+    farm' most grows start is c.record_from.new.farm c.record_from.new.journal
+    c.in_ok-record_from-in-Ok.ensures.stored c.in_ok-record_from-in-Ok.ensures.new_version

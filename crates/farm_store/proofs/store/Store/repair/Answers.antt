@@ -1,9 +1,10 @@
 -- What each end of a repair leaves, by the lemmas of `Repairs`.
 use Rattle.std.proofs.Common.{rules, ◌∙◌, ap, refl}
 use Rattle.std.specs.Prelude.{IsSome}
+use Rattle.farm_journal.proofs.OpeningSteps.{reads-none}
 use Rattle.farm_journal.specs.Mended.{payloads_after}
 use Rattle.farm_journal.specs.declared.mending.Repaired.{Repaired}
-use Rattle.farm_store.proofs.Repairs.{kept-dropped, kept-found, leaves-idle-view, leaves-repair-view, some-is}
+use Rattle.farm_store.proofs.Repairs.{kept-dropped, kept-found, leaves-idle-view, leaves-repair-view, reads-view, some-is}
 use Rattle.farm_store.proofs.store.Store.repair.Goals as goal
 
 pub returns-then-not-pending-clause-any_moment : goal.returns-then-not-pending-clause-any_moment
@@ -51,3 +52,8 @@ returns-in-Err-StoreFault-clause-any_moment g c =
     let one = some-is c.self.inside.journal.pending some in
     leaves-repair-view g.D.Disk.tells g.D.Disk.told c.self.inside.farm c.self.inside.journal c.self.invariant one
     c.self.inside.recorded c.args.self.now c.self.view_is _ (λ t. c.repair.ensures.any_moment t one.payload one.is)
+
+pub returns-then-not-pending-clause-only : goal.returns-then-not-pending-clause-only
+returns-then-not-pending-clause-only g c =
+    reads-view g.D.Disk.tells g.D.Disk.told c.self.inside.farm c.self.inside.journal c.self.inside.recorded
+    c.args.self.now c.self.view_is _ (λ t. reads-none (g.D.Disk.told c.self.inside.journal.disk))
