@@ -49,13 +49,12 @@ fn all_totals(farm: &KeptFarm) -> Totals
 /// Then what each command is for, at the moment used.
 fn own_decision(
     alloc: Global,
-    farm: &mut KeptFarm,
+    farm: &KeptFarm,
     command: &Command,
     at: Moment,
 ) -> Result<Decision, Memory>
-    requires { IsNotBefore farm.old (moment_ms at) }
-    ensures decided { IfOk result (λ found. found ≡ own_decision farm.old command.now at) }
-    ensures kept { farm.new ≡ farm.old }
+    requires { IsNotBefore farm.now (moment_ms at) }
+    ensures { IfOk result (λ found. found ≡ own_decision farm.now command.now at) }
 {
     match command {
         Command::Open(ask) => open_decision(alloc, farm, ask, at),
@@ -75,19 +74,18 @@ fn own_decision(
     }
 }
 
-/// The decision on a command at a farm's history and a moment: the first that is there. The farm stays.
+/// The decision on a command at a farm's history and a moment: the first that is there.
 ///
 /// # Errors
 ///
 /// [`Memory`].
 pub fn decide(
     alloc: Global,
-    farm: &mut KeptFarm,
+    farm: &KeptFarm,
     command: &Command,
     at: Moment,
 ) -> Result<Decision, Memory>
-    ensures decided { IfOk result (λ found. found ≡ decide farm.old command.now at) }
-    ensures kept { farm.new ≡ farm.old }
+    ensures { IfOk result (λ found. found ≡ decide farm.now command.now at) }
 {
     if let Some(found) = shape_decision(alloc, command)? {
         return Ok(found);

@@ -9,14 +9,13 @@ use farm_types::Memory;
 use kept_farm::KeptFarm;
 use std::alloc::Global;
 
-/// Whether an entry may come next: it is what the command that it names adds. The farm stays.
+/// Whether an entry may come next: it is what the command that it names adds.
 ///
 /// # Errors
 ///
 /// [`Memory`].
-pub fn is_next(alloc: Global, farm: &mut KeptFarm, entry: &Entry) -> Result<bool, Memory>
-    ensures next { IfOk result (λ next. IsTrue next ↔ IsNext farm.old entry.now) }
-    ensures kept { farm.new ≡ farm.old }
+pub fn is_next(alloc: Global, farm: &KeptFarm, entry: &Entry) -> Result<bool, Memory>
+    ensures { IfOk result (λ next. IsTrue next ↔ IsNext farm.now entry.now) }
 {
     let Some(command) = entry.what.command(alloc)? else {
         return Ok(false);

@@ -2,8 +2,7 @@
 //!
 //! [`decide`] and [`is_next`] promise over a kept farm what the plain program promises over a list of entries: what was
 //! done before, what is due, where a search stands and what is counted is asked of the farm, which keeps it. The list of
-//! all orders alone goes through the history. The farm stays what contracts see. It is borrowed for change, since the
-//! question for the next order may put what the farm keeps of its orders in order.
+//! all orders alone goes through the history.
 //!
 //! It stands on `kept_farm` for all that it asks, on `search_state` and `state_laws` for what the state of a search says
 //! of a history, on the laws of `farm_laws` for what these calls ask for, on `plain_history` for what the farm was

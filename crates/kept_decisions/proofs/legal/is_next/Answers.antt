@@ -5,10 +5,10 @@ use Rattle.farm_laws.proofs.SameEntries.{same_entry-Decides}
 use Rattle.kept_decisions.proofs.Next.{next-tells}
 use Rattle.kept_decisions.proofs.legal.is_next.Goals as goal
 
-pub returns-in-New-clause-next : goal.returns-in-New-clause-next
-returns-in-New-clause-next c =
+pub returns-in-New : goal.returns-in-New
+returns-in-New c =
     let e : Entry = c.args.entry.now in
     let made : Entry = c.in-New.made in
     next-tells c.args.farm.now e made c.in-Some.command (command_of e.what) c.eq.result
-    (sym c.in_ok-command.ensures ∙ c.in-Some.is) (sym c.in_ok-made.ensures.decided ∙ c.in-New.is)
+    (sym c.in_ok-command.ensures ∙ c.in-Some.is) (sym c.in_ok-made.ensures ∙ c.in-New.is)
     (subst (λ (b : Bool). Decides b (made ≡ e)) (sym c.eq.ensures) (same_entry-Decides made e))
