@@ -1,0 +1,22 @@
+//! Which command a request asks for.
+
+/// Which command a request asks for by its method and path, with the number that stands in the path.
+#[derive(Clone, Copy, Debug, PartialEq, Eq, Hash)]
+pub enum Route {
+    /// To open a search.
+    Open,
+    /// To hand out the run that is due next.
+    Lease,
+    /// To take the verdict of this run.
+    Report(u32),
+    /// To end this search without a result.
+    Cancel(u32),
+    /// To hand out the next order to revert.
+    Revert,
+    /// To show this search.
+    Search(u32),
+    /// To show the totals of the farm.
+    Farm,
+    /// To show all orders.
+    Orders,
+}
