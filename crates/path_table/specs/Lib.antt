@@ -1,0 +1,4 @@
+pub mod Segments
+pub mod Walk
+pub mod Apart
+pub mod Filled
