@@ -1,0 +1,2 @@
+pub mod PathNumbers
+pub mod TextCuts

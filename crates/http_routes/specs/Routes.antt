@@ -1,0 +1,101 @@
+-- What a request asks for by its method and path.
+use Rattle.std.specs.Prelude.{ℕ, ◌^◌, ◌-◌, Bool, ◌&&◌, ◌||◌, List, [], ◌∷◌, Option, Some, None, Result, Ok, Err, nat_le, nat_lt, codes, bytes_eq, if◌then◌else◌}
+use Rattle.std.specs.List.{slice_index_or}
+use Rattle.decimal_text.specs.Decimals.{number}
+use Rattle.http_routes.specs.Paths.{path_of}
+use Rattle.http_routes.specs.declared.page.Page.{Page}
+use Rattle.http_routes.specs.declared.page.Page.TheVariants as page
+use Rattle.http_words.specs.declared.endpoint.Endpoint.{Endpoint}
+use Rattle.http_words.specs.declared.endpoint.Endpoint.TheVariants as endpoint
+use Rattle.http_words.specs.declared.fault.Allow.{Allow}
+use Rattle.http_words.specs.declared.fault.Allow.TheVariants as allow
+use Rattle.http_words.specs.declared.fault.Fault.{Fault}
+use Rattle.http_words.specs.declared.fault.Fault.TheVariants as fault
+use Rattle.http_words.specs.declared.fault.PathField.{PathField}
+use Rattle.http_words.specs.declared.fault.PathField.TheVariants as field
+use Rattle.http_words.specs.declared.route.Route.{Route}
+use Rattle.http_words.specs.declared.route.Route.TheVariants as route
+use Rattle.path_table.specs.Segments.{Segment, literal, parameter, parts, row_in}
+
+-- a pattern below `/v1/`
+abbrev pub below : List Segment → List Segment
+below segments = literal [] ∷ literal (codes "v1") ∷ segments
+
+-- the path table
+abbrev pub path_table : List (List Segment × Page)
+path_table =
+    (below (literal (codes "searches") ∷ []), page.Searches)
+    ∷ (below (literal (codes "leases") ∷ []), page.Leases)
+    ∷ (below (literal (codes "runs") ∷ parameter ∷ literal (codes "report") ∷ []), page.Report)
+    ∷ (below (literal (codes "searches") ∷ parameter ∷ literal (codes "cancel") ∷ []), page.Cancel)
+    ∷ (below (literal (codes "reverts") ∷ []), page.Reverts)
+    ∷ (below (literal (codes "searches") ∷ parameter ∷ []), page.Search)
+    ∷ (below (literal (codes "farm") ∷ []), page.Farm)
+    ∷ (below (literal (codes "orders") ∷ []), page.Orders)
+    ∷ (below (literal (codes "totals") ∷ []), page.Totals)
+    ∷ []
+
+-- the row in which a path stands
+unfoldable pub page_of : List ℕ → Option Page
+page_of path = row_in path_table (parts path)
+
+-- the number in a path that stands in a row with one
+unfoldable pub number_in : List ℕ → List ℕ
+number_in path = slice_index_or (parts path) 3 []
+
+-- the methods that a row allows
+abbrev pub allow_of : Page → Allow
+allow_of page.Searches = allow.Post
+allow_of page.Leases = allow.Post
+allow_of page.Report = allow.Post
+allow_of page.Cancel = allow.Post
+allow_of page.Reverts = allow.Post
+allow_of page.Search = allow.GetAndHead
+allow_of page.Farm = allow.GetAndHead
+allow_of page.Orders = allow.GetAndHead
+allow_of page.Totals = allow.GetAndHead
+
+-- a method is among those allowed
+abbrev pub allows : Allow → List ℕ → Bool
+allows allow.Post method = bytes_eq method (codes "POST")
+allows allow.GetAndHead method = bytes_eq method (codes "GET") || bytes_eq method (codes "HEAD")
+
+-- the greatest number of a run or a search
+abbrev pub last_number : ℕ
+last_number = 2 ^ 32 - 1
+
+-- the same number, where it is one of a run or a search
+abbrev pub from_one : Option ℕ → Option ℕ
+from_one None = None
+from_one (Some n) = if nat_lt 0 n && nat_le n last_number then Some n else None
+
+-- the number of a run or a search that a text writes, without zeros in front
+unfoldable pub path_number : List ℕ → Option ℕ
+path_number text = from_one (number text)
+
+-- the route of a number, or the fault that names it
+abbrev pub numbered : PathField → (ℕ → Route) → Option ℕ → Result Endpoint Fault
+numbered name route None = Err (fault.BadField name)
+numbered name route (Some n) = Ok (endpoint.Command (route n))
+
+-- what a row with the text of its number asks for
+abbrev pub endpoint_at : Page → List ℕ → Result Endpoint Fault
+endpoint_at page.Searches text = Ok (endpoint.Command route.Open)
+endpoint_at page.Leases text = Ok (endpoint.Command route.Lease)
+endpoint_at page.Report text = numbered field.Run route.Report (path_number text)
+endpoint_at page.Cancel text = numbered field.Search route.Cancel (path_number text)
+endpoint_at page.Reverts text = Ok (endpoint.Command route.Revert)
+endpoint_at page.Search text = numbered field.Search route.Search (path_number text)
+endpoint_at page.Farm text = Ok (endpoint.Command route.Farm)
+endpoint_at page.Orders text = Ok (endpoint.Command route.Orders)
+endpoint_at page.Totals text = Ok endpoint.Totals
+
+-- first the path has to stand in the table, then the method has to be one of its row, then the number has to be one
+abbrev pub endpoint_by : Option Page → List ℕ → List ℕ → Result Endpoint Fault
+endpoint_by None text method = Err fault.NotFound
+endpoint_by (Some row) text method =
+    if allows (allow_of row) method then endpoint_at row text else Err (fault.MethodNotAllowed (allow_of row))
+
+-- what a request asks for by its method and target
+unfoldable pub endpoint_of : List ℕ → List ℕ → Result Endpoint Fault
+endpoint_of method target = endpoint_by (page_of (path_of target)) (number_in (path_of target)) method
