@@ -4,7 +4,7 @@
 //! that, and [`read_places`] gives the path of the journal. A word that begins with a dash names nothing, and neither do words
 //! of which one is missing or one too many.
 //!
-//! The crate stands on `judge` for numbers in text, on `farm_entry` for the settings of a farm and their limits, and on
+//! The crate stands on `decimal_text` for numbers, on `farm_entry` for the settings of a farm and their limits, and on
 //! `farm_types`. The layer above may use every name below.
 #![tactic(auto)]
 

@@ -3,7 +3,7 @@
 ghost use Rattle.std.specs.Prelude.{◌≡◌, ◌≤◌, ◌^◌, ℕ, ℤ, pos, Some, IfSome, IfNone, map, string_bytes};
 ghost use Rattle.std.specs.Option.{option_map};
 ghost use Rattle.farm_entry.specs.Limits.{IsZone};
-ghost use Rattle.judge.specs.Text.{number};
+ghost use Rattle.decimal_text.specs.Decimals.{number};
 ghost use Rattle.finder_words.specs.Words.{
   asked,
   asked_alone,
@@ -14,8 +14,8 @@ ghost use Rattle.finder_words.specs.Words.{
   zone_named,
 };
 
+use decimal_text::number;
 use farm_entry::Settings;
-use judge::number;
 
 /// A subcommand of the program.
 #[derive(Clone, Copy, Debug, PartialEq, Eq)]

@@ -1,7 +1,6 @@
 -- Lines, words and numbers of a text.
-use Rattle.std.specs.Prelude.{ℕ, List, [], ◌∷◌, ◌++◌, ◌&&◌, ◌||◌, not, ◌==◌, length, if◌then◌else◌, Option, Some, None, option_map}
-use Rattle.std.specs.Str.{all_ascii_digits}
-use Rattle.std.specs.Str.Parse.{digits_value}
+use Rattle.std.specs.Prelude.{ℕ, List, [], ◌∷◌, ◌++◌, ◌==◌, if◌then◌else◌, Option, Some, None, option_map}
+use Rattle.decimal_text.specs.Decimals.{number}
 
 -- the pieces of a text between the bytes `mark`, `piece` being what was read of the first
 abbrev pub pieces_after : ℕ → List ℕ → List ℕ → List (List ℕ)
@@ -27,12 +26,6 @@ lines bs = lines_after [] bs
 abbrev pub text_of : List (List ℕ) → List ℕ
 text_of [] = []
 text_of (line ∷ others) = line ++ 10 ∷ text_of others
-
--- the number that a word writes: 0, or a digit from 1 to 9 and further digits
-abbrev pub number : List ℕ → Option ℕ
-number [] = None
-number (b ∷ bs) =
-    if all_ascii_digits (b ∷ bs) && (not (b == 48) || length bs == 0) then Some (digits_value 10 (b ∷ bs)) else None
 
 -- a number before a list of numbers, where both are there
 abbrev pub with_first : Option ℕ → Option (List ℕ) → Option (List ℕ)

@@ -1,11 +1,11 @@
 //! The judge: it answers the lines of one search, what becomes of each run, the shares of the hypotheses, and where the
 //! search stands.
 //!
-//! `specs/` says it whole, from bytes to bytes: lines, words and numbers (`Text`), the form of an input (`Form`), the
+//! `specs/` says it whole, from bytes to bytes: lines and words (`Text`), the form of an input (`Form`), the
 //! fate of each run line (`Fates`) and the text of the answer (`Answer`), over the definitions of the inference in
 //! `weight_exact`. The code reads the input once and keeps a `posterior::Belief` in place of the runs; limits are those
-//! of `flake_rate` and `weight_exact`, and line feeds are found by `memchr`. The layer above may use [`judge`], whose
-//! contract is that definition, [`number`], which reads a number in text, and cite the laws over the definition ([`laws`]).
+//! of `flake_rate` and `weight_exact`, numbers in text are read by `decimal_text`, and line feeds are found by `memchr`. The
+//! layer above may use [`judge`], whose contract is that definition, and cite the laws over the definition ([`laws`]).
 #![tactic(auto)]
 
 mod answer;
@@ -14,7 +14,6 @@ mod fault;
 pub mod laws;
 mod lines;
 mod miss;
-mod numeral;
 mod opening;
 mod report;
 mod run_line;
@@ -26,6 +25,5 @@ mod words;
 pub use answer::judge;
 pub use fate::Fate;
 pub use fault::JudgeFault;
-pub use numeral::number;
 pub use run_line::RunLine;
 pub use standing::Standing;
