@@ -186,23 +186,21 @@ impl Farm {
     }
 
     /// What a command comes to, where nothing may be committed.
-    fn decide(&mut self, command: &Command, at: Moment) -> Result<Decision, Memory>
-        requires { self.old.ready ≡ [] }
-        ensures decided { IfOk result (λ found. found ≡ decide self.old.history command.now at) }
-        ensures legal { IsLegal self.old.history }
-        ensures kept { self.new ≡ self.old }
+    fn decide(&self, command: &Command, at: Moment) -> Result<Decision, Memory>
+        requires { self.now.ready ≡ [] }
+        ensures decided { IfOk result (λ found. found ≡ decide self.now.history command.now at) }
+        ensures legal { IsLegal self.now.history }
     {
-        decide(self.alloc, &mut self.kept, command, at)
+        decide(self.alloc, &self.kept, command, at)
     }
 
     /// Whether an entry may come next, where nothing may be committed.
-    fn is_next(&mut self, entry: &Entry) -> Result<bool, Memory>
-        requires { self.old.ready ≡ [] }
-        ensures next { IfOk result (λ next. IsTrue next ↔ IsNext self.old.history entry.now) }
-        ensures legal { IsLegal self.old.history }
-        ensures kept { self.new ≡ self.old }
+    fn is_next(&self, entry: &Entry) -> Result<bool, Memory>
+        requires { self.now.ready ≡ [] }
+        ensures next { IfOk result (λ next. IsTrue next ↔ IsNext self.now.history entry.now) }
+        ensures legal { IsLegal self.now.history }
     {
-        is_next(self.alloc, &mut self.kept, entry)
+        is_next(self.alloc, &self.kept, entry)
     }
 
     /// The reply of an entry past the founding, where nothing may be committed.

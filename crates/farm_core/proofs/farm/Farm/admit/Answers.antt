@@ -17,8 +17,7 @@ pub make_ready-requires-clause-next : goal.make_ready-requires-clause-next
 make_ready-requires-clause-next c =
     let H = c.forget_ready.new.self.history in
     let said = c.in_ok-is_next.ensures in
-    subst (λ (v : FarmView). IsLegal (v.history ++ c.args.entry ∷ [])) (sym said.kept)
-    (IsLegal-push H c.args.entry said.legal (said.next.0 c.if-not-branch.false))
+    IsLegal-push H c.args.entry said.legal (said.next.0 c.if-not-branch.false)
 
 pub returns-clause-legal : goal.returns-clause-legal
 returns-clause-legal c =

@@ -10,7 +10,7 @@ pub returns-clause-decided : goal.returns-clause-decided
 returns-clause-decided c =
     subst
     (λ (L : List Entry). IfOk c.decide.result (λ (found : Decision). found ≡ decide L c.args.command.now c.args.at))
-    (all-history c.self.inside c.args.self.now c.self.view_is c.requires) c.decide.ensures.decided
+    (all-history c.self.inside c.args.self.now c.self.view_is c.requires) c.decide.ensures
 
 pub returns-clause-legal : goal.returns-clause-legal
 returns-clause-legal c = legal-history c.self.inside c.args.self.now c.self.invariant c.self.view_is

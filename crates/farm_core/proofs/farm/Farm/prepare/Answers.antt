@@ -1,8 +1,6 @@
-use Rattle.std.proofs.Common.{◌++◌, ◌∷◌, [], sym, subst, ◌∙◌}
-use Rattle.farm_entry.specs.Legal.{IsLegal}
+use Rattle.std.proofs.Common.{sym, ◌∙◌}
 use Rattle.farm_laws.proofs.Induct.{IsLegal-push}
 use Rattle.farm_laws.proofs.Recorded.{recorded}
-use Rattle.farm_core.specs.FarmView.{FarmView}
 use Rattle.farm_core.proofs.farm.Farm.prepare.Goals as goal
 
 pub prepare_new-requires-clause-next : goal.prepare_new-requires-clause-next
@@ -10,5 +8,4 @@ prepare_new-requires-clause-next c =
     let H = c.forget_ready.new.self.history in
     let e = c.in-New.entry in
     let said = c.in_ok-refusal.ensures in
-    subst (λ (v : FarmView). IsLegal (v.history ++ e ∷ [])) (sym said.kept)
-    (IsLegal-push H e said.legal (recorded H c.args.command.now c.args.at e (sym said.decided ∙ c.in-New.is)))
+    IsLegal-push H e said.legal (recorded H c.args.command.now c.args.at e (sym said.decided ∙ c.in-New.is))
