@@ -1,10 +1,11 @@
-//! What an open, a lease, a cancellation and a request for an order come to.
+//! What an open of a search, a lease, a cancellation and a request for an order come to.
 
 ghost use Rattle.std.specs.Prelude.{◌≡◌, IfOk};
-ghost use Rattle.farm_entry.specs.Decision.{cancel_decision, lease_decision, open_decision, revert_decision};
+ghost use Rattle.farm_entry.specs.Decision.{cancel_decision, lease_decision, revert_decision};
 ghost use Rattle.farm_entry.specs.History.{opening_numbered};
+ghost use Rattle.kept_decisions.specs.Opens.{opened_decision};
 
-use farm_entry::{BoxedOpening, Decision, DueRun, Entry, MAX_SEARCHES, OpenAsk, Refusal, What};
+use farm_entry::{BoxedOpening, Decision, DueRun, Entry, MAX_SEARCHES, Opening, Refusal, What};
 use farm_rules::{Draft, NoOrder};
 use farm_types::{Key, Memory, Moment, Name};
 use kept_farm::KeptFarm;
@@ -15,22 +16,16 @@ use std::alloc::Global;
 pub(crate) fn open_decision(
     alloc: Global,
     farm: &KeptFarm,
-    ask: &OpenAsk,
+    opening: Opening,
     at: Moment,
 ) -> Result<Decision, Memory>
-    ensures { IfOk result (λ found. found ≡ open_decision farm.now ask.now at) }
+    ensures { IfOk result (λ found. found ≡ opened_decision farm.now opening at) }
 {
-    let count = farm.searches_count();
-    if MAX_SEARCHES as usize <= count {
+    if MAX_SEARCHES as usize <= farm.searches_count() {
         return Ok(Decision::Refuse(Refusal::TooManySearches));
     }
-    match ask.opening(alloc, count as u32 + 1)? {
-        Ok(opening) => Ok(Decision::New(Entry {
-            at,
-            what: What::Opened(BoxedOpening::of(alloc, opening)?),
-        })),
-        Err(fault) => Ok(Decision::Refuse(Refusal::BadOpen(fault))),
-    }
+    let what = What::Opened(BoxedOpening::of(alloc, opening)?);
+    Ok(Decision::New(Entry { at, what }))
 }
 
 /// The due run, handed out until one lease time later.

@@ -2,33 +2,40 @@
 
 ghost use Rattle.std.specs.Prelude.{◌≡◌, IfOk};
 ghost use Rattle.farm_types.specs.Moment.{moment_ms};
-ghost use Rattle.farm_entry.specs.Decision.{decide, full_decision, own_decision, shape_decision};
+ghost use Rattle.farm_entry.specs.Decision.{decide, full_decision, own_decision};
 ghost use Rattle.farm_entry.specs.Pages.{totals};
 ghost use Rattle.farm_laws.specs.Laws.{IsNotBefore};
+ghost use Rattle.kept_decisions.specs.Opens.{IsNoOpen, opening_asked};
 
 use crate::decision_known::known_decision;
 use crate::decision_new::{cancel_decision, lease_decision, open_decision, revert_decision};
 use crate::decision_report::report_decision;
 use crate::search_page::page_decision;
-use farm_entry::{Command, Decision, MAX_ENTRIES, Refusal, Reply, Totals, moment_used};
+use farm_entry::{
+    Command, Decision, MAX_ENTRIES, OpenFault, Opening, Refusal, Reply, Totals, moment_used,
+};
 use farm_types::{Memory, Moment};
 use kept_farm::KeptFarm;
 use std::alloc::Global;
 
-/// First the shape of an open, which needs no history.
-fn shape_decision(alloc: Global, command: &Command) -> Result<Option<Decision>, Memory>
-    ensures { IfOk result (λ found. found ≡ shape_decision command.now) }
+/// The search that an open asks for, under a number, or why it can't be opened; the other commands ask for none.
+fn opening_asked(
+    alloc: Global,
+    command: &Command,
+    number: u32,
+) -> Result<Result<Option<Opening>, OpenFault>, Memory>
+    ensures { IfOk result (λ asked. asked ≡ opening_asked command.now number) }
 {
     match command {
-        Command::Open(ask) => match ask.opening(alloc, 0)? {
-            Ok(_) => Ok(None),
-            Err(fault) => Ok(Some(Decision::Refuse(Refusal::BadOpen(fault)))),
+        Command::Open(ask) => match ask.opening(alloc, number)? {
+            Ok(opening) => Ok(Ok(Some(opening))),
+            Err(fault) => Ok(Err(fault)),
         },
-        _ => Ok(None),
+        _ => Ok(Ok(None)),
     }
 }
 
-/// Then a full history, which still shows.
+/// A full history still shows.
 fn full_decision(farm: &KeptFarm, command: &Command) -> Option<Decision>
     ensures { result ≡ full_decision farm.now command.now }
 {
@@ -46,18 +53,19 @@ fn all_totals(farm: &KeptFarm) -> Totals
     farm.totals_at(farm.history().len())
 }
 
-/// Then what each command is for, at the moment used.
+/// What each command is for that opens no search, at the moment used.
 fn own_decision(
     alloc: Global,
     farm: &KeptFarm,
     command: &Command,
     at: Moment,
 ) -> Result<Decision, Memory>
-    requires { IsNotBefore farm.now (moment_ms at) }
+    requires not_before { IsNotBefore farm.now (moment_ms at) }
+    requires no_open { IsNoOpen command.now }
     ensures { IfOk result (λ found. found ≡ own_decision farm.now command.now at) }
 {
     match command {
-        Command::Open(ask) => open_decision(alloc, farm, ask, at),
+        Command::Open(_) => unreachable!(),
         Command::Lease { key, worker } => {
             let due = farm.next_run(at);
             lease_decision(farm, *key, worker, at, due)
@@ -74,7 +82,8 @@ fn own_decision(
     }
 }
 
-/// The decision on a command at a farm's history and a moment: the first that is there.
+/// The decision on a command at a farm's history and a moment: the first that is there. First stands the shape of an open,
+/// which needs no history; its search is made once, under the number that it would have.
 ///
 /// # Errors
 ///
@@ -87,15 +96,21 @@ pub fn decide(
 ) -> Result<Decision, Memory>
     ensures { IfOk result (λ found. found ≡ decide farm.now command.now at) }
 {
-    if let Some(found) = shape_decision(alloc, command)? {
-        return Ok(found);
-    }
+    let history = farm.history();
+    let number = farm.searches_count() as u32 + 1;
+    let asked = match opening_asked(alloc, command, number)? {
+        Ok(asked) => asked,
+        Err(fault) => return Ok(Decision::Refuse(Refusal::BadOpen(fault))),
+    };
     if let Some(found) = known_decision(alloc, farm, command)? {
         return Ok(found);
     }
     if let Some(found) = full_decision(farm, command) {
         return Ok(found);
     }
-    let used = moment_used(farm.history(), at);
-    own_decision(alloc, farm, command, used)
+    let used = moment_used(history, at);
+    match asked {
+        Some(opening) => open_decision(alloc, farm, opening, used),
+        None => own_decision(alloc, farm, command, used),
+    }
 }

@@ -1,15 +1,25 @@
-use Rattle.std.proofs.Common.{◌≡◌, List, sym, ap, subst, ◌∙◌}
+use Rattle.std.proofs.Common.{◌≡◌, List, sym, ap, subst, ◌∙◌, arith}
 use Rattle.farm_types.specs.Moment.{moment_ms}
 use Rattle.farm_types.specs.declared.moment.Moment.{Moment}
 use Rattle.farm_entry.specs.Decision.{moment_used}
 use Rattle.farm_entry.specs.declared.entry.Entry.{Entry}
 use Rattle.farm_laws.specs.Laws.{IsNotBefore}
+use Rattle.farm_laws.proofs.Bounds.{openings-bounded}
 use Rattle.kept_decisions.proofs.Moments.{used-not_before}
 use Rattle.kept_decisions.proofs.decisions.decide.Goals as goal
 
-pub own_decision-requires : goal.own_decision-requires
-own_decision-requires c =
+pub overflow_cast-number : goal.overflow_cast-number
+overflow_cast-number c =
+    omega (arith, c.searches_count.ensures, openings-bounded c.args.farm.now c.history-history.ensures.legal)
+
+pub overflow_add-number : goal.overflow_add-number
+overflow_add-number c =
+    omega (arith, c.searches_count.ensures, openings-bounded c.args.farm.now c.history-history.ensures.legal)
+
+pub own_decision-requires-clause-not_before : goal.own_decision-requires-clause-not_before
+own_decision-requires-clause-not_before c =
     let H : List Entry = c.args.farm.now in
     let used : c.moment_used-used.result ≡ moment_used H c.args.at =
-    c.moment_used-used.ensures ∙ ap (λ (X : List Entry). moment_used X c.args.at) c.history.ensures.history in
-    subst (λ (m : Moment). IsNotBefore H (moment_ms m)) (sym used) (used-not_before H c.args.at c.history.ensures.legal)
+    c.moment_used-used.ensures ∙ ap (λ (X : List Entry). moment_used X c.args.at) c.history-history.ensures.history in
+    subst (λ (m : Moment). IsNotBefore H (moment_ms m)) (sym used)
+    (used-not_before H c.args.at c.history-history.ensures.legal)
