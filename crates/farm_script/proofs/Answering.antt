@@ -2,8 +2,10 @@
 use Rattle.std.proofs.Common.{◌≡◌, ℕ, List, [], ◌∷◌, ◌++◌, Option, refl, sym, ap, ◌∙◌, subst, inl, inr, append_assoc, arith}
 use Rattle.std.proofs.lemmas.List.{append-nil, length-append}
 use Rattle.std.specs.Io.KnownBytes.{append_known}
+use Rattle.std.specs.Prelude.{Result, Ok, Err, IsErrOf}
+use Rattle.std.specs.Result.{IsErrAnd}
 use Rattle.link_io.proofs.Told.{append_known-nil, append_known-append}
-use Rattle.farm_script.specs.Script.{Rule, reply_line, next_history, text_of, history_of, Answered, StopPoint, StopsIn, IsUnshown}
+use Rattle.farm_script.specs.Script.{Rule, reply_line, next_history, text_of, history_of, Answered, FailsIn, IsPendingOf, StopPoint, StopsIn, IsUnshown}
 
 pub text_of-append : {E : Type 0} (rule : Rule E) (history : List E) (some more : List (List ℕ))
     → text_of rule history (some ++ more) ≡ text_of rule history some ++ text_of rule (history_of rule history some) more
@@ -101,6 +103,52 @@ pub stops-more : {E : Type 0} {rule : Rule E} {first now : List E} {w0 w : Optio
     → StopsIn rule first w0 some now w → StopsIn rule first w0 (some ++ more) now w
 stops-more {E} {rule} {first} {now} {w0} {w} {some} more s = record { point = point-more rule now w more some first w0 s.point }
 
+-- the store failed at one line, before which none was answered
+pub fails-first : {E : Type 0} (rule : Rule E) (first now pending : List E) (w : Option (List ℕ)) (line : List ℕ)
+    → now ≡ first → IsPendingOf rule first line pending → FailsIn rule first w (line ∷ []) now pending w
+fails-first {E} rule first now pending w line same undecided = record {
+  done = [];
+  line = line;
+  others = [];
+  parts = refl;
+  answered = record { history = same; written = sym (append_known-nil w) };
+  undecided = subst (λ (h : List E). IsPendingOf rule h line pending) (sym same) undecided;
+}
+
+-- the fault that a `?` hands on is the one that the call answered
+pub handed_on : {A E : Type 0} (r : Result A E) (x y : E) → IsErrAnd r (λ e. e ≡ x) → IsErrOf r y → x ≡ y
+handed_on (Ok a) x y is same = absurd is
+handed_on {A} {E} (Err e) x y is same =
+    let one : e ≡ y = cc in
+    sym is ∙ one
+
+-- lines were answered, and then the store failed
+pub fails-append : {E : Type 0} {rule : Rule E} {first mid now pending : List E} {w0 w1 w : Option
+    (List ℕ)} {some more : List (List ℕ)}
+    → Answered rule first w0 some mid w1 → FailsIn rule mid w1 more now pending w
+    → FailsIn rule first w0 (some ++ more) now pending w
+fails-append {E} {rule} {first} {mid} {now} {pending} {w0} {w1} {w} {some} {more} a f = record {
+  done = some ++ f.done;
+  line = f.line;
+  others = f.others;
+  parts = ap (λ l. some ++ l) f.parts ∙ sym (append_assoc some f.done (f.line ∷ f.others));
+  answered = answered-append a f.answered;
+  undecided = f.undecided;
+}
+
+-- the store failed at one of the first of some lines
+pub fails-more : {E : Type 0} {rule : Rule E} {first now pending : List E} {w0 w : Option
+    (List ℕ)} {some : List (List ℕ)} (more : List (List ℕ))
+    → FailsIn rule first w0 some now pending w → FailsIn rule first w0 (some ++ more) now pending w
+fails-more {E} {rule} {first} {now} {pending} {w0} {w} {some} more f = record {
+  done = f.done;
+  line = f.line;
+  others = f.others ++ more;
+  parts = ap (λ l. l ++ more) f.parts ∙ append_assoc f.done (f.line ∷ f.others) more;
+  answered = f.answered;
+  undecided = f.undecided;
+}
+
 -- of all lines some were answered, and these are left
 pub record Reached {E : Type 0} (rule : Rule E) (first : List E) (w0 : Option (List ℕ)) (all : List (List ℕ))
     (now : List E) (w : Option (List ℕ)) (left : List (List ℕ)) : Type 0 where
@@ -143,6 +191,15 @@ pub reached-stop_first : {E : Type 0} {rule : Rule E} {first mid now : List E} {
     → StopsIn rule first w0 all now w
 reached-stop_first {E} {rule} {first} {mid} {now} {w0} {w1} {w} {all} {left} {others} {line} is r s =
     reached-stop r (subst (λ l. StopsIn rule mid w1 l now w) (sym is) (stops-more others s))
+
+-- the store failed at the first line that was left
+pub reached-fail_first : {E : Type 0} {rule : Rule E} {first mid now pending : List E} {w0 w1 w : Option
+    (List ℕ)} {all left others : List (List ℕ)} {line : List ℕ}
+    → left ≡ line ∷ others → Reached rule first w0 all mid w1 left → FailsIn rule mid w1 (line ∷ []) now pending w
+    → FailsIn rule first w0 all now pending w
+reached-fail_first {E} {rule} {first} {mid} {now} {pending} {w0} {w1} {w} {all} {left} {others} {line} is r f =
+    subst (λ l. FailsIn rule first w0 l now pending w) (sym (r.parts ∙ ap (λ l. r.done ++ l) is))
+    (fails-append r.answered (fails-more others f))
 
 -- answering stopped before the first line that was left
 pub reached-stop_before : {E : Type 0} {rule : Rule E} {first now : List E} {w0 w : Option

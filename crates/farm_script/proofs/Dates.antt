@@ -1,5 +1,5 @@
 -- The days that a farm's replies show have dates that can be written.
-use Rattle.std.proofs.Common.{◌≡◌, ℕ, List, Option, Some}
+use Rattle.std.proofs.Common.{◌≡◌, ℕ, List, Some}
 use Rattle.farm_types.specs.declared.moment.Moment.{Moment}
 use Rattle.farm_entry.specs.Decision.{decide}
 use Rattle.farm_entry.specs.Legal.{IsLegal}
@@ -16,7 +16,7 @@ use Rattle.farm_wire.specs.Replies.{HasDates}
 dated : (r : Reply) → HasDays r → HasDates r
 dated (reply.Opened search budget standing) days = days
 dated (reply.Leased run search stage position commit test deadline) days = days
-dated (reply.Reported run search verdict fate standing) days = days
+dated (reply.Reported run search verdict _ standing) days = days
 dated (reply.Cancelled search) days = days
 dated (reply.Ordered order commit search day) days = days
 dated (reply.Search page) days = days

@@ -6,16 +6,17 @@ use Rattle.std.specs.Prelude.{Err, ◌↔◌}
 use Rattle.std.specs.Io.KnownBytes.{prepend_known}
 use Rattle.std.specs.Option.{ForSome}
 use Rattle.link_io.specs.Counts.{Rose}
+use Rattle.link_io.specs.Streams.{Streams}
 use Rattle.farm_script.specs.Lines.{as_line, counted_lines}
 use Rattle.farm_script.specs.Script.{Answered, IsByHeld, Rule}
 use Rattle.farm_script.specs.LineFaults.{HasCause}
-use Rattle.farm_script.specs.RunEnds.{Seen, Stopped, RunEnds, end_of}
+use Rattle.farm_script.specs.RunEnds.{Seen, Stopped, StoppedByStore, RunEnds, end_of}
 use Rattle.farm_script.specs.declared.answer_line.LineFault.{LineFault}
 use Rattle.farm_script.specs.declared.answer_line.LineFault.TheVariants as fault
 use Rattle.farm_script.proofs.Answering.{stops-before}
 use Rattle.farm_script.proofs.SomeLines.{some-from_stops}
 use Rattle.farm_script.specs.declared.run_end.RunEnd.TheVariants.{Done, StoreFault}
-use Rattle.farm_script.proofs.SoFar.{SoFar, StoppedAt, prepend_known-nil, so_far-end}
+use Rattle.farm_script.proofs.SoFar.{FailedAt, SoFar, StoppedAt, prepend_known-nil, so_far-end}
 use Rattle.link_io.specs.declared.source.TheConstants.{INPUT_LIMIT}
 
 -- a count that rose later rose
@@ -35,7 +36,7 @@ ended-from piece before after none taken ends rest is =
     (ends rest same).0 none
 
 -- where answering stopped is where the run stopped
-pub stopped-at : {E : Type 0} (rule : Rule E) (before after : Seen E) (at_end : Bool) (count : ℕ)
+stopped-at : {E : Type 0} (rule : Rule E) (before after : Seen E) (at_end : Bool) (count : ℕ)
     → StoppedAt rule before.streams.left before.history before.streams.written after.streams.left after.history after.streams.written (counted_lines at_end) count
     → count ≤ INPUT_LIMIT → (at_end ≡ true → ForSome after.streams.left (λ rest. rest ≡ [])) → Stopped rule before after
 stopped-at rule before after at_end count s few ended = (
@@ -45,13 +46,25 @@ stopped-at rule before after at_end count s few ended = (
   some-from_stops s.stops,
 )
 
+-- where the store failed is where it stopped the run
+failed-at : {E : Type 0} (rule : Rule E) (before after : Seen E) (at_end : Bool) (count : ℕ)
+    → FailedAt rule before.streams.left before.history before.streams.written after.streams.left after.history after.pending after.streams.written (counted_lines at_end) count
+    → count ≤ INPUT_LIMIT → (at_end ≡ true → ForSome after.streams.left (λ rest. rest ≡ [])) → StoppedByStore rule before after
+failed-at rule before after at_end count f few ended = (
+  f.bytes,
+  at_end,
+  record { bytes = f.taken; few = subst (λ n. n ≤ INPUT_LIMIT) (sym f.size) few; ended = ended },
+  f.fails,
+)
+
 -- where all lines of an input that ended were answered, the run is done
 pub done-ends : {E : Type 0} {mid : List E} {w1 : Option
-    (List ℕ)} {line : List ℕ} {count : ℕ} (rule : Rule E) → IsByHeld rule → (before after : Seen E)
-    → SoFar rule before.streams.left before.history before.streams.written after.streams.left mid w1 line count → count < INPUT_LIMIT
-    → ForSome after.streams.left (λ rest. rest ≡ []) → Answered rule mid w1 (as_line line) after.history after.streams.written
-    → RunEnds rule Done before after
-done-ends rule alike before after s few ended a = (
+    (List ℕ)} {line : List ℕ} {count : ℕ} (rule : Rule E) → IsByHeld rule → (before after : Streams) (first last : List E)
+    → SoFar rule before.left first before.written after.left mid w1 line count → count < INPUT_LIMIT
+    → ForSome after.left (λ rest. rest ≡ []) → Answered rule mid w1 (as_line line) last after.written
+    → RunEnds rule Done (record { streams = before; history = first; pending = [] })
+    (record { streams = after; history = last; pending = [] })
+done-ends rule alike before after first last s few ended a = (
   s.bytes,
   record { bytes = s.taken; few = let size = s.size in omega arith; ended = λ _. ended },
   subst (λ n. n < INPUT_LIMIT) (sym s.size) few,
@@ -59,14 +72,28 @@ done-ends rule alike before after s few ended a = (
 )
 
 -- the end says which fault it was
-pub stopped-ends :
+stopped-ends :
     {E : Type 0} {writes stores stores_now : ℕ} {pending : List E} (rule : Rule E) (stop : LineFault) (before after : Seen E)
     → before.streams.write_faults ≤ writes
     → HasCause (Err stop) writes after.streams.write_faults stores stores_now pending → Stopped rule before after
+    → (stop ≡ fault.StoreFault → StoppedByStore rule before after) → RunEnds rule (end_of stop) before after
+stopped-ends rule fault.WriteFault before after low cause stopped failed =
+    (rose-later _ _ _ low (cause.write_fault refl), stopped)
+stopped-ends rule fault.StoreFault before after low cause stopped failed = failed refl
+stopped-ends rule fault.Memory before after low cause stopped failed = stopped
+
+-- a fault stopped the run where it had taken so many bytes
+pub stopped-run : {E : Type 0} {writes stores stores_now : ℕ} {pending : List E} (rule : Rule E) (stop : LineFault)
+    (before after : Seen E) (at_end : Bool) (count : ℕ) → before.streams.write_faults ≤ writes
+    → HasCause (Err stop) writes after.streams.write_faults stores stores_now pending
+    → StoppedAt rule before.streams.left before.history before.streams.written after.streams.left after.history after.streams.written (counted_lines at_end) count
+    → (stop ≡ fault.StoreFault
+    → FailedAt rule before.streams.left before.history before.streams.written after.streams.left after.history after.pending after.streams.written (counted_lines at_end) count)
+    → count ≤ INPUT_LIMIT → (at_end ≡ true → ForSome after.streams.left (λ rest. rest ≡ []))
     → RunEnds rule (end_of stop) before after
-stopped-ends rule fault.WriteFault before after low cause stopped = (rose-later _ _ _ low (cause.write_fault refl), stopped)
-stopped-ends rule fault.StoreFault before after low cause stopped = stopped
-stopped-ends rule fault.Memory before after low cause stopped = stopped
+stopped-run rule stop before after at_end count low cause stops fails few ended =
+    stopped-ends rule stop before after low cause (stopped-at rule before after at_end count stops few ended)
+    (λ is. failed-at rule before after at_end count (fails is) few ended)
 
 -- a run that a fault of the store stopped is one in which the store failed
 pub store-failed : {E : Type 0} {first writes writes_now stores stores_now : ℕ} {pending : List E} (stop : LineFault)

@@ -1,9 +1,9 @@
 -- Histories that grow, step by step.
-use Rattle.std.proofs.Common.{◌≡◌, ℕ, Bool, true, List, [], ◌++◌, refl, sym, ap, ◌∙◌, ⊎_elim, subst, append_assoc}
+use Rattle.std.proofs.Common.{◌≡◌, ℕ, Bool, List, [], ◌++◌, refl, sym, ap, ◌∙◌, ⊎_elim, subst, append_assoc}
 use Rattle.std.proofs.lemmas.List.{append-nil}
-use Rattle.farm_disk.specs.Images.{DiskState, LeavesOnly}
+use Rattle.farm_disk.specs.Images.{DiskState}
 use Rattle.farm_disk.proofs.Moments.{leaves_only-start, leaves_only-trans, leaves_only-weaker}
-use Rattle.farm_script.specs.Images.{IsBetween, Standing, StandsBetween, StandsForEither, Rests, Grows}
+use Rattle.farm_script.specs.Images.{Standing, StandsBetween, StandsForEither, Grows}
 
 -- a history between two is one between the first and a later one
 pub between-later : {E : Type 0} (stands : Standing E) (first mid more : List E) (bytes : List ℕ)

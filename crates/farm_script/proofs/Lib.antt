@@ -4,6 +4,7 @@ pub mod Dates
 pub mod Endings
 pub mod Growing
 pub mod Helds
+pub mod LegalRuns
 pub mod LineEnds
 pub mod LineLaws
 pub mod SameAnswers

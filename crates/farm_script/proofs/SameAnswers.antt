@@ -1,10 +1,10 @@
 -- What is held of a line is enough to answer it.
-use Rattle.std.proofs.Common.{◌≡◌, ◌<◌, ℕ, List, [], ◌∷◌, ◌++◌, map, Option, length, take, refl, sym, ap, ◌∙◌, subst, inl, inr, ⊎_elim, arith}
+use Rattle.std.proofs.Common.{◌≡◌, ◌<◌, ℕ, List, [], ◌∷◌, ◌++◌, map, Option, length, take, refl, sym, ap, ◌∙◌, subst, inl, inr, ⊎_elim}
 use Rattle.std.proofs.lemmas.Bool.{cases_eq}
 use Rattle.std.specs.Io.KnownBytes.{append_known}
 use Rattle.farm_script.specs.Lines.{ended_after, rest_after}
 use Rattle.farm_script.specs.Held.{held}
-use Rattle.farm_script.specs.Script.{IsByHeld, Rule, reply_line, next_history, text_of, history_of, Answered, StopPoint, StopsIn}
+use Rattle.farm_script.specs.Script.{IsByHeld, Rule, reply_line, next_history, text_of, history_of, Answered, FailsIn, StopPoint, StopsIn}
 use Rattle.farm_script.proofs.LineEnds.{ended_after-feed, ended_after-other, rest_after-feed, rest_after-other}
 use Rattle.farm_script.proofs.Helds.{held-append-same}
 
@@ -77,6 +77,49 @@ point-same {E} rule alike now w (x ∷ xs) (y ∷ ys) first w0 same (inr (inr s)
 pub stops-same : {E : Type 0} {rule : Rule E} {first now : List E} {w0 w : Option (List ℕ)} {xs ys : List (List ℕ)}
     → IsByHeld rule → map held xs ≡ map held ys → StopsIn rule first w0 xs now w → StopsIn rule first w0 ys now w
 stops-same {E} {rule} {first} {now} {w0} {w} {xs} {ys} alike same s = record { point = point-same rule alike now w xs ys first w0 same s.point }
+
+-- lines that are held alike are parted alike
+record Parted (done : List (List ℕ)) (line : List ℕ) (ys : List (List ℕ)) : Type 0 where
+  pub before : List (List ℕ)
+  pub at : List ℕ
+  pub others : List (List ℕ)
+  pub parts : ys ≡ before ++ at ∷ others
+  pub same : map held done ≡ map held before
+  pub alike : held line ≡ held at
+
+parted : (done : List (List ℕ)) (line : List ℕ) (others ys : List (List ℕ)) → map held (done ++ line ∷ others) ≡ map held ys
+    → Parted done line ys
+parted [] line others [] same = absurd (cc)
+parted [] line others (y ∷ ys) same = record { before = []; at = y; others = ys; parts = refl; same = refl; alike = cc }
+parted (x ∷ done) line others [] same = absurd (cc)
+parted (x ∷ done) line others (y ∷ ys) same =
+    let one : held x ≡ held y = cc in
+    let rest : map held (done ++ line ∷ others) ≡ map held ys = cc in
+    let p = parted done line others ys rest in
+    record {
+      before = y ∷ p.before;
+      at = p.at;
+      others = p.others;
+      parts = ap (λ l. y ∷ l) p.parts;
+      same = ap (λ h. h ∷ map held done) one ∙ ap (λ l. held y ∷ l) p.same;
+      alike = p.alike;
+    }
+
+pub fails-same : {E : Type 0} {rule : Rule E} {first now pending : List E} {w0 w : Option (List ℕ)} {xs ys : List (List ℕ)}
+    → IsByHeld rule → map held xs ≡ map held ys → FailsIn rule first w0 xs now pending w → FailsIn rule first w0 ys now pending w
+fails-same {E} {rule} {first} {now} {pending} {w0} {w} {xs} {ys} alike same f =
+    let p = parted f.done f.line f.others ys (ap (map held) (sym f.parts) ∙ same) in
+    record {
+      done = p.before;
+      line = p.at;
+      others = p.others;
+      parts = p.parts;
+      answered = answered-same alike p.same f.answered;
+      undecided = record {
+        some = f.undecided.some;
+        all = f.undecided.all ∙ next_history-same rule alike now f.line p.at p.alike;
+      };
+    }
 
 -- what was read before a text matters only as far as it is held
 pub ended_after-same : (line other bytes : List ℕ) → held line ≡ held other

@@ -4,11 +4,11 @@ use Rattle.std.proofs.lemmas.List.{length-append}
 use Rattle.std.specs.Io.KnownBytes.{prepend_known}
 use Rattle.farm_script.specs.Lines.{ended_after, rest_after, ended_lines, rest_of, as_line, lines}
 use Rattle.farm_script.specs.Held.{held}
-use Rattle.farm_script.specs.Script.{Answered, IsByHeld, Rule, StopsIn}
+use Rattle.farm_script.specs.Script.{Answered, FailsIn, IsByHeld, Rule, StopsIn}
 use Rattle.farm_script.proofs.LineEnds.{ended_after-append, rest_after-append}
 use Rattle.farm_script.proofs.Helds.{held-nil, held-cons, held-held}
-use Rattle.farm_script.proofs.Answering.{answered-none, answered-append, stops-append}
-use Rattle.farm_script.proofs.SameAnswers.{answered-same, stops-same, ended_after-same, rest_after-same}
+use Rattle.farm_script.proofs.Answering.{answered-none, answered-append, fails-append, stops-append}
+use Rattle.farm_script.proofs.SameAnswers.{answered-same, fails-same, stops-same, ended_after-same, rest_after-same}
 
 -- what was left before a first piece and then a second was both, one after the other
 prepend_known-append : (first second : List ℕ) (left : Option (List ℕ))
@@ -106,6 +106,41 @@ so_far-stop_end {E} {rule} {left_first} {left} {first} {mid} {now} {w0} {w1} {w}
   taken = s.taken;
   size = s.size;
   stops = stops-append s.answered (stops-same alike (line-same line s.bytes s.is_held) stops);
+}
+
+-- what was taken when the store failed, and where it failed
+pub record FailedAt {E : Type 0} (rule : Rule E) (left_first : Option (List ℕ)) (first : List E)
+    (w0 : Option (List ℕ)) (left : Option (List ℕ)) (now pending : List E) (w : Option (List ℕ))
+    (counted : List ℕ → List (List ℕ)) (count : ℕ) : Type 0 where
+  pub bytes : List ℕ
+  pub taken : left_first ≡ prepend_known bytes left
+  pub size : length bytes ≡ count
+  pub fails : FailsIn rule first w0 (counted bytes) now pending w
+
+-- the store failed in a piece
+pub so_far-fail : {E : Type 0} {rule : Rule E} {left_first left1 left : Option
+    (List ℕ)} {first mid now pending : List E} {w0 w1 w : Option (List ℕ)} {line : List ℕ} {count : ℕ} (piece : List ℕ)
+    → IsByHeld rule → SoFar rule left_first first w0 left1 mid w1 line count → left1 ≡ prepend_known piece left
+    → FailsIn rule mid w1 (ended_after line piece) now pending w
+    → FailedAt rule left_first first w0 left now pending w ended_lines (count + length piece)
+so_far-fail {E} {rule} {left_first} {left1} {left} {first} {mid} {now} {pending} {w0} {w1} {w} {line} {count} piece alike s took fails = record {
+  bytes = s.bytes ++ piece;
+  taken = s.taken ∙ ap (prepend_known s.bytes) took ∙ prepend_known-append s.bytes piece left;
+  size = length-append s.bytes piece ∙ ap (λ k. k + length piece) s.size;
+  fails = subst (λ l. FailsIn rule first w0 l now pending w) (sym (ended_after-append [] s.bytes piece))
+      (fails-append s.answered (fails-same alike (piece-same line s.bytes piece s.is_held) fails));
+}
+
+-- the store failed in the last line
+pub so_far-fail_end : {E : Type 0} {rule : Rule E} {left_first left : Option
+    (List ℕ)} {first mid now pending : List E} {w0 w1 w : Option (List ℕ)} {line : List ℕ} {count : ℕ}
+    → IsByHeld rule → SoFar rule left_first first w0 left mid w1 line count
+    → FailsIn rule mid w1 (as_line line) now pending w → FailedAt rule left_first first w0 left now pending w lines count
+so_far-fail_end {E} {rule} {left_first} {left} {first} {mid} {now} {pending} {w0} {w1} {w} {line} {count} alike s fails = record {
+  bytes = s.bytes;
+  taken = s.taken;
+  size = s.size;
+  fails = fails-append s.answered (fails-same alike (line-same line s.bytes s.is_held) fails);
 }
 
 -- no byte more was taken

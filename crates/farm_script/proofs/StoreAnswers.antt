@@ -1,5 +1,5 @@
 -- What a store answers to one command, as the text and the history of a script's rule.
-use Rattle.std.proofs.Common.{◌≡◌, ◌++◌, ◌∷◌, ℕ, true, List, [], length, refl, sym, ap, ◌∙◌, ⊎_elim, subst, append_assoc, inl, inr, Err}
+use Rattle.std.proofs.Common.{◌≡◌, ◌++◌, ◌∷◌, ℕ, true, List, [], length, sym, ap, ◌∙◌, ⊎_elim, subst, append_assoc, inl, inr, Err}
 use Rattle.std.proofs.lemmas.List.{append-nil}
 use Rattle.serde_json.specs.Written.{compact_text}
 use Rattle.farm_types.specs.declared.moment.Moment.{Moment}

@@ -1,8 +1,7 @@
 -- A farm answers a line by what is held of it, since no more than that tells whether it is too long.
-use Rattle.std.proofs.Common.{◌≡◌, ◌+◌, ◌<◌, ◌≤◌, ℕ, List, length, take, Err, sym, ap, ◌∙◌, ⊎_elim, arith}
+use Rattle.std.proofs.Common.{◌≡◌, ◌+◌, ◌<◌, ◌≤◌, ℕ, List, length, sym, ap, ◌∙◌, ⊎_elim, arith}
 use Rattle.std.proofs.lemmas.Bool.{cases_lt}
 use Rattle.std.proofs.lemmas.List.{length-take, take_all}
-use Rattle.farm_entry.specs.declared.entry.Entry.{Entry}
 use Rattle.farm_wire.specs.Reading.{line_reading}
 use Rattle.farm_wire.proofs.Faults.{line_reading-too_long}
 use Rattle.farm_wire.specs.declared.limits.TheConstants.{MAX_COMMAND_BYTES}

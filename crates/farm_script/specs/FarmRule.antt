@@ -1,5 +1,5 @@
 -- How a farm answers a line of a script.
-use Rattle.std.specs.Prelude.{ℕ, ◌+◌, List, [], ◌∷◌, ◌++◌, length, Option, Some, None, Result, Ok, Err}
+use Rattle.std.specs.Prelude.{ℕ, List, [], ◌∷◌, ◌++◌, length, Option, Some, None, Result, Ok, Err}
 use Rattle.serde_json.specs.Written.{compact_text}
 use Rattle.farm_types.specs.declared.moment.Moment.{Moment}
 use Rattle.farm_entry.specs.Decision.{decide}

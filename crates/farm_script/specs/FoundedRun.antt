@@ -18,7 +18,7 @@ founding settings at = record { at = at; what = Founded settings } ∷ []
 
 -- what is seen of a run over a farm in memory: its streams, and the farm's history
 abbrev pub in_memory : Streams → List Entry → Seen Entry
-in_memory streams history = record { streams = streams; history = history }
+in_memory streams history = record { streams = streams; history = history; pending = [] }
 
 -- the run ends so, from the founding, whatever the history at its end
 abbrev pub FoundedRunEnds : Settings → Moment → RunEnd → Streams → Streams → Type 0

@@ -6,7 +6,7 @@ use Rattle.link_io.specs.Counts.{Rose}
 use Rattle.link_io.specs.Streams.{Streams}
 use Rattle.link_io.specs.declared.source.TheConstants.{INPUT_LIMIT}
 use Rattle.farm_script.specs.Lines.{counted_lines, ended_lines, lines}
-use Rattle.farm_script.specs.Script.{Answered, Rule, SomeAnswered}
+use Rattle.farm_script.specs.Script.{Answered, FailsIn, Rule, SomeAnswered}
 use Rattle.farm_script.specs.declared.answer_line.LineFault.{LineFault}
 use Rattle.farm_script.specs.declared.answer_line.LineFault.TheVariants as fault
 use Rattle.farm_script.specs.declared.run_end.RunEnd.{RunEnd}
@@ -18,10 +18,11 @@ end_of fault.WriteFault = WriteFault
 end_of fault.StoreFault = StoreFault
 end_of fault.Memory = Memory
 
--- what contracts see of a run: its input and output, and the history
+-- what contracts see of a run: its input and output, the history, and what a fault of the store left undecided
 pub record Seen (E : Type 0) : Type 0 where
   pub streams : Streams
   pub history : List E
+  pub pending : List E
 
 -- these bytes were taken, no more than the limit; and the input was read to its end, where this is said
 pub record HasTaken (before after : Streams) (taken : List ℕ) (at_end : Bool) : Type 0 where
@@ -41,9 +42,17 @@ Stopped rule before after =
     × SomeAnswered rule before.history before.streams.written (counted_lines at_end taken) after.history
     after.streams.written
 
+-- the store failed at one of the lines that count of what the run had taken
+abbrev pub StoppedByStore : {E : Type 0} → Rule E → Seen E → Seen E → Type 0
+StoppedByStore rule before after =
+    (taken : List ℕ) × (at_end : Bool) × HasTaken before.streams after.streams taken at_end
+    × FailsIn rule before.history before.streams.written (counted_lines at_end taken) after.history after.pending
+    after.streams.written
+
 -- What each end says. Done: the input was read to its end, which came within the limit, and all its lines were
--- answered. ReadFault, InputLimit: all lines that count were answered. Any other: some of the lines that count. A fault
--- of the input or the output comes only where it failed in this run
+-- answered. ReadFault, InputLimit: all lines that count were answered. StoreFault: all up to a line that counts, and what
+-- is pending is what that line adds. WriteFault, Memory: some of the lines that count. A fault of the input or the output
+-- comes only where it failed in this run
 abbrev pub RunEnds : {E : Type 0} → Rule E → RunEnd → Seen E → Seen E → Type 0
 RunEnds rule Done before after =
     (taken : List ℕ) × HasTaken before.streams after.streams taken true × (length taken < INPUT_LIMIT)
@@ -57,7 +66,7 @@ RunEnds rule InputLimit before after =
     × AllAnswered rule before after (ended_lines taken)
 RunEnds rule WriteFault before after =
     Rose before.streams.write_faults after.streams.write_faults × Stopped rule before after
-RunEnds rule StoreFault before after = Stopped rule before after
+RunEnds rule StoreFault before after = StoppedByStore rule before after
 RunEnds rule Memory before after = Stopped rule before after
 
 -- where nothing fails, the store neither, and memory is there, a run over an input below the limit is done, and one over

@@ -1,5 +1,5 @@
 -- The replies to a script's lines, one after the other, and the history that they leave.
-use Rattle.std.specs.Prelude.{◌≡◌, ℕ, ◌+◌, ◌-◌, ◌<◌, ◌≤◌, List, [], ◌∷◌, ◌++◌, Option, length, take, ◌⊎◌}
+use Rattle.std.specs.Prelude.{◌≡◌, ◌≢◌, ℕ, ◌+◌, ◌-◌, ◌<◌, ◌≤◌, List, [], ◌∷◌, ◌++◌, Option, length, take, ◌⊎◌}
 use Rattle.std.specs.Io.KnownBytes.{append_known}
 use Rattle.farm_script.specs.Held.{held}
 
@@ -60,6 +60,22 @@ pub record SomeAnswered {E : Type 0} (rule : Rule E) (first : List E) (written_f
 -- no byte of a line's reply was put, and the line stands in the history or not
 abbrev pub IsUnshown : {E : Type 0} → Rule E → List E → List ℕ → List E → Type 0
 IsUnshown rule first line now = (now ≡ first) ⊎ (now ≡ next_history rule first line)
+
+-- what is pending is what a line adds to the history, and it adds something
+pub record IsPendingOf {E : Type 0} (rule : Rule E) (history : List E) (line : List ℕ) (pending : List E) : Type 0 where
+  pub some : pending ≢ []
+  pub all : history ++ pending ≡ next_history rule history line
+
+-- The store failed at one of these lines: those before it were answered whole, nothing was put of its own reply, and what
+-- is pending is what it adds to the history
+pub record FailsIn {E : Type 0} (rule : Rule E) (first : List E) (written_first : Option (List ℕ))
+    (counted : List (List ℕ)) (now pending : List E) (written_now : Option (List ℕ)) : Type 0 where
+  pub done : List (List ℕ)
+  pub line : List ℕ
+  pub others : List (List ℕ)
+  pub parts : counted ≡ done ++ line ∷ others
+  pub answered : Answered rule first written_first done now written_now
+  pub undecided : IsPendingOf rule now line pending
 
 -- where answering lines stopped: before the first of them, after it changed the history and a part of its reply was
 -- put, or among the others

@@ -1,8 +1,5 @@
 -- How the history of a store grows.
-use Rattle.std.specs.Prelude.{ℕ, Bool, List}
-use Rattle.farm_disk.specs.Images.{DiskState}
 use Rattle.farm_disk.specs.declared.disk.Disk as disk
-use Rattle.farm_entry.specs.declared.entry.Entry.{Entry}
 use Rattle.farm_store.specs.Bytes.{StandsFor}
 use Rattle.farm_store.specs.State.{StoreState}
 use Rattle.farm_script.specs.Images.{Grows}

@@ -2,7 +2,7 @@
 ghost use Rattle.std.specs.Prelude.{◌≡◌, ◌≢◌, ◌≤◌, ◌++◌, ◌∷◌, ℕ, List, [], IfOk, OnOk, OnErr, IsErrOf, string_bytes};
 ghost use Rattle.farm_script.specs.LineFaults.{HasCause};
 ghost use Rattle.farm_script.specs.Images.{Grows};
-ghost use Rattle.farm_script.specs.Script.{Answered, IsUnshown, StopsIn, next_history};
+ghost use Rattle.farm_script.specs.Script.{Answered, FailsIn, IsPendingOf, IsUnshown, StopsIn, next_history};
 ghost use Rattle.link_io.specs.Counts.{Rose};
 
 use crate::script_farm::{ReplyFault, ScriptFarm};
@@ -86,6 +86,9 @@ pub fn answer_line<F: ScriptFarm, K: Sink>(
     ensures stops { OnErr result
         (StopsIn F.rule (F.history farm.old) (K.written output.old) (line.now ∷ [])
         (F.history farm.new) (K.written output.new)) }
+    ensures fails { IsErrOf result LineFault.StoreFault →
+        FailsIn F.rule (F.history farm.old) (K.written output.old) (line.now ∷ [])
+        (F.history farm.new) (F.pending farm.new) (K.written output.new) }
     ensures cause { HasCause result (K.count output.old) (K.count output.new)
         (F.count farm.old) (F.count farm.new) (F.pending farm.new) }
     ensures images { Grows F.tells F.told F.stands_for F.history F.pending farm.old farm.new }
@@ -105,6 +108,8 @@ fn reply_to<F: ScriptFarm>(alloc: Global, farm: &mut F, line: &[u8]) -> Result<S
     ensures err { OnErr result (IsUnshown F.rule (F.history farm.old) line.now (F.history farm.new)) }
     ensures no_write { result ≢ Err LineFault.WriteFault }
     ensures decided { ¬ IsErrOf result LineFault.StoreFault → F.pending farm.new ≡ [] }
+    ensures undecided { IsErrOf result LineFault.StoreFault → (F.history farm.new ≡ F.history farm.old)
+        × IsPendingOf F.rule (F.history farm.old) line.now (F.pending farm.new) }
     ensures store_fault { IsErrOf result LineFault.StoreFault → Rose (F.count farm.old) (F.count farm.new) }
     ensures stores { F.count farm.old ≤ F.count farm.new }
     ensures images { Grows F.tells F.told F.stands_for F.history F.pending farm.old farm.new }

@@ -5,7 +5,7 @@ ghost use Rattle.farm_script.specs.LineFaults.{HasCause};
 ghost use Rattle.farm_script.specs.Images.{Grows};
 ghost use Rattle.farm_script.specs.Lines.{ended_after, rest_after};
 ghost use Rattle.farm_script.specs.Held.{held};
-ghost use Rattle.farm_script.specs.Script.{Answered, StopsIn};
+ghost use Rattle.farm_script.specs.Script.{Answered, FailsIn, StopsIn};
 
 use crate::answer_line::{LineFault, answer_line};
 use crate::held_line::HeldLine;
@@ -31,6 +31,9 @@ pub fn answer_piece<F: ScriptFarm, K: Sink>(
     ensures stops { OnErr result
         (StopsIn F.rule (F.history farm.old) (K.written output.old) (ended_after line.old piece.now)
         (F.history farm.new) (K.written output.new)) }
+    ensures fails { IsErrOf result LineFault.StoreFault →
+        FailsIn F.rule (F.history farm.old) (K.written output.old) (ended_after line.old piece.now)
+        (F.history farm.new) (F.pending farm.new) (K.written output.new) }
     ensures cause { HasCause result (K.count output.old) (K.count output.new)
         (F.count farm.old) (F.count farm.new) (F.pending farm.new) }
     ensures images { Grows F.tells F.told F.stands_for F.history F.pending farm.old farm.new }
@@ -61,6 +64,9 @@ fn end_line<F: ScriptFarm, K: Sink>(
     ensures stops { OnErr result
         (StopsIn F.rule (F.history farm.old) (K.written output.old) ((line.old ++ end.now) ∷ [])
         (F.history farm.new) (K.written output.new)) }
+    ensures fails { IsErrOf result LineFault.StoreFault →
+        FailsIn F.rule (F.history farm.old) (K.written output.old) ((line.old ++ end.now) ∷ [])
+        (F.history farm.new) (F.pending farm.new) (K.written output.new) }
     ensures cause { HasCause result (K.count output.old) (K.count output.new)
         (F.count farm.old) (F.count farm.new) (F.pending farm.new) }
     ensures images { Grows F.tells F.told F.stands_for F.history F.pending farm.old farm.new }

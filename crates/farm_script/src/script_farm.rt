@@ -5,6 +5,7 @@ ghost use Rattle.farm_disk.specs.Images.{DiskState};
 ghost use Rattle.link_io.specs.Counts.{Rose};
 ghost use Rattle.farm_script.specs.Held.{held};
 ghost use Rattle.farm_script.specs.Images.{Grows};
+ghost use Rattle.farm_script.specs.Script.{IsPendingOf};
 
 use farm_types::Memory;
 use std::alloc::Global;
@@ -12,7 +13,7 @@ use std::alloc::Global;
 /// Why a line was not answered.
 #[derive(Clone, Copy, Debug, PartialEq, Eq)]
 pub enum ReplyFault {
-    /// The store failed. What the line adds to the history may have been stored.
+    /// The store failed as what the line adds to the history was stored. It may stand there or not.
     StoreFault,
     /// Want of memory. What the line adds may stand in the history already.
     Memory,
@@ -63,10 +64,9 @@ pub trait ScriptFarm {
         ensures history { OnOk result (history self.new ≡ (rule (history self.old) line.now).1) }
         ensures decided { OnOk result (pending self.new ≡ []) }
 
-        // After a fault of the store the history is the one before, and the rest may be pending.
+        // After a fault of the store the history is the one before, and what the line adds to it is pending.
         ensures store_fault { IsErrOf result ReplyFault.StoreFault → (history self.new ≡ history self.old)
-            × ((pending self.new ≡ [])
-            ⊎ (history self.old ++ pending self.new ≡ (rule (history self.old) line.now).1)) }
+            × IsPendingOf rule (history self.old) line.now (pending self.new) }
         ensures rises { IsErrOf result ReplyFault.StoreFault → Rose (count self.old) (count self.new) }
         ensures never_falls { count self.old ≤ count self.new }
         // Memory may be wanting for the reply alone.

@@ -1,13 +1,13 @@
 //! The run of a script.
 
-ghost use Rattle.std.specs.Prelude.{◌≡◌, ◌≢◌, ◌≤◌, [], OnOk, OnErr};
+ghost use Rattle.std.specs.Prelude.{◌≡◌, ◌≢◌, ◌≤◌, [], OnOk, OnErr, IsErrOf};
 ghost use Rattle.link_io.specs.Counts.{Rose};
 ghost use Rattle.link_io.specs.Streams.{streams};
 ghost use Rattle.farm_script.specs.Images.{Grows};
 ghost use Rattle.farm_script.specs.LineFaults.{HasCause};
 ghost use Rattle.farm_script.specs.Lines.{as_line};
 ghost use Rattle.farm_script.specs.RunEnds.{RunCompletes, RunEnds, Seen, end_of};
-ghost use Rattle.farm_script.specs.Script.{Answered, StopsIn};
+ghost use Rattle.farm_script.specs.Script.{Answered, FailsIn, StopsIn};
 
 use crate::answer_line::{LineFault, answer_line};
 use crate::answer_piece::answer_piece;
@@ -30,12 +30,14 @@ pub fn run_script<F: ScriptFarm, S: Source, K: Sink>(
     output: &mut K,
 ) -> RunEnd
     requires { F.pending farm.old ≡ [] }
-    ensures ends { RunEnds F.rule result
-        (record { streams = streams S.Source K.Sink input.old output.old; history = F.history farm.old })
-        (record { streams = streams S.Source K.Sink input.new output.new; history = F.history farm.new }) }
+    ensures ends { let before = streams S.Source K.Sink input.old output.old in
+        let after = streams S.Source K.Sink input.new output.new in
+        RunEnds F.rule result (record { streams = before; history = F.history farm.old; pending = [] })
+        (record { streams = after; history = F.history farm.new; pending = F.pending farm.new }) }
     ensures completes { RunCompletes result
         (streams S.Source K.Sink input.old output.old) (streams S.Source K.Sink input.new output.new) }
     ensures store_fault { result ≡ RunEnd.StoreFault → Rose (F.count farm.old) (F.count farm.new) }
+    ensures never_falls { F.count farm.old ≤ F.count farm.new }
     ensures decided { result ≢ RunEnd.StoreFault → F.pending farm.new ≡ [] }
     ensures images { Grows F.tells F.told F.stands_for F.history F.pending farm.old farm.new }
 {
@@ -51,10 +53,12 @@ fn run_lines<F: ScriptFarm, S: Source, K: Sink>(
     output: &mut K,
 ) -> RunEnd
     requires { F.pending farm.old ≡ [] }
-    ensures ends { RunEnds F.rule result
-        (record { streams = streams S.Source K.Sink input.old output.old; history = F.history farm.old })
-        (record { streams = streams S.Source K.Sink input.new output.new; history = F.history farm.new }) }
+    ensures ends { let before = streams S.Source K.Sink input.old output.old in
+        let after = streams S.Source K.Sink input.new output.new in
+        RunEnds F.rule result (record { streams = before; history = F.history farm.old; pending = [] })
+        (record { streams = after; history = F.history farm.new; pending = F.pending farm.new }) }
     ensures store_fault { result ≡ RunEnd.StoreFault → Rose (F.count farm.old) (F.count farm.new) }
+    ensures never_falls { F.count farm.old ≤ F.count farm.new }
     ensures decided { result ≢ RunEnd.StoreFault → F.pending farm.new ≡ [] }
     ensures images { Grows F.tells F.told F.stands_for F.history F.pending farm.old farm.new }
 {
@@ -96,6 +100,9 @@ fn answer_rest<F: ScriptFarm, K: Sink>(
     ensures stops { OnErr result
         (StopsIn F.rule (F.history farm.old) (K.written output.old) (as_line line.now)
         (F.history farm.new) (K.written output.new)) }
+    ensures fails { IsErrOf result LineFault.StoreFault →
+        FailsIn F.rule (F.history farm.old) (K.written output.old) (as_line line.now)
+        (F.history farm.new) (F.pending farm.new) (K.written output.new) }
     ensures cause { HasCause result (K.count output.old) (K.count output.new)
         (F.count farm.old) (F.count farm.new) (F.pending farm.new) }
     ensures images { Grows F.tells F.told F.stands_for F.history F.pending farm.old farm.new }

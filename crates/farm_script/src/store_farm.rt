@@ -1,9 +1,10 @@
 //! A farm over a store, as one that answers the lines of a script.
 
-ghost use Rattle.std.specs.Prelude.{◌≡◌, ◌≤◌, ◌⊎◌, ◌++◌, [], IfOk, OnOk, IsErrOf, string_bytes};
+ghost use Rattle.std.specs.Prelude.{◌≡◌, ◌≢◌, ◌≤◌, ◌⊎◌, ◌++◌, [], IfOk, OnOk, IsErrOf, string_bytes};
 ghost use Rattle.farm_entry.specs.Decision.{decide};
 ghost use Rattle.farm_entry.specs.Playing.{after};
 ghost use Rattle.farm_script.specs.FarmRule.{decision_text, farm_rule};
+ghost use Rattle.farm_script.specs.Script.{IsPendingOf};
 ghost use Rattle.farm_script.specs.StoreFarm.{StoreGrows};
 ghost use Rattle.link_io.specs.Counts.{Rose};
 
@@ -56,8 +57,7 @@ fn answer_line<D: Disk>(
     ensures history { OnOk result (store.new.history ≡ (farm_rule store.old.history line.now).1) }
     ensures decided { OnOk result (store.new.pending ≡ []) }
     ensures store_fault { IsErrOf result ReplyFault.StoreFault → (store.new.history ≡ store.old.history)
-        × ((store.new.pending ≡ [])
-        ⊎ (store.old.history ++ store.new.pending ≡ (farm_rule store.old.history line.now).1)) }
+        × IsPendingOf farm_rule store.old.history line.now store.new.pending }
     ensures rises { IsErrOf result ReplyFault.StoreFault → Rose (D.count store.old.disk) (D.count store.new.disk) }
     ensures never_falls { D.count store.old.disk ≤ D.count store.new.disk }
     ensures memory { IsErrOf result ReplyFault.Memory → (store.new.pending ≡ [])
@@ -87,8 +87,8 @@ fn answer_command<D: Disk>(
         (store.new.history ≡ after store.old.history (decide store.old.history command.now at)) }
     ensures decided { OnOk result (store.new.pending ≡ []) }
     ensures store_fault { IsErrOf result ReplyFault.StoreFault → (store.new.history ≡ store.old.history)
-        × ((store.new.pending ≡ []) ⊎ (store.old.history ++ store.new.pending
-        ≡ after store.old.history (decide store.old.history command.now at))) }
+        × (store.new.pending ≢ []) × (store.old.history ++ store.new.pending
+        ≡ after store.old.history (decide store.old.history command.now at)) }
     ensures rises { IsErrOf result ReplyFault.StoreFault → Rose (D.count store.old.disk) (D.count store.new.disk) }
     ensures never_falls { D.count store.old.disk ≤ D.count store.new.disk }
     ensures memory { IsErrOf result ReplyFault.Memory → (store.new.pending ≡ [])

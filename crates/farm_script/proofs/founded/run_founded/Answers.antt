@@ -1,8 +1,6 @@
-use Rattle.std.proofs.Common.{◌≡◌}
 use Rattle.link_io.specs.Streams.{streams}
 use Rattle.farm_script.specs.FarmRule.{farm_rule}
 use Rattle.farm_script.specs.FoundedRun.{founding, in_memory}
-use Rattle.farm_script.specs.declared.run_end.RunEnd.TheVariants.{StoreFault}
 use Rattle.farm_script.proofs.Completing.{completes-founded}
 use Rattle.farm_script.proofs.Endings.{none-rose, stopped-at_first}
 use Rattle.farm_script.proofs.founded.run_founded.Goals as goal

@@ -1,4 +1,4 @@
-use Rattle.std.proofs.Common.{◌≡◌, ◌∙◌, refl}
+use Rattle.std.proofs.Common.{◌∙◌, refl}
 use Rattle.farm_entry.specs.Decision.{decide}
 use Rattle.farm_store.specs.declared.asking.Answer.TheVariants as answer
 use Rattle.farm_script.proofs.StoreAnswers.{legal-after, one-answered, refusal-text, reply-dated, reply-text, says-refused}
