@@ -1,4 +1,5 @@
--- How many searches stand before the first that waits for an order, beside each entry of a history that grows or loses its last.
+-- How many searches stand before the first that waits for an order, beside each entry of a history that grows or loses
+-- its last.
 use Rattle.std.proofs.Common.{◌≡◌, ℕ, ◌+◌, ◌-◌, ◌<◌, ◌≤◌, List, [], ◌∷◌, ◌++◌, length, take, drop, get_or, sym, ap, subst, ◌∙◌, ⊎_elim, arith, length-append}
 use Rattle.std.proofs.lemmas.Bool.{cases_lt}
 use Rattle.std.proofs.lemmas.Grind.{get_or_default_zero}
@@ -69,7 +70,8 @@ lows-front H xs n all within =
           sym (take-append-le (k + 1) (take n H) (drop n H) (omega (arith, long, inside)))
           ∙ ap (λ (G : List Entry). take (k + 1) G) (take-append-drop n H) in
           subst (λ (low : ℕ). IsLowest (take (k + 1) (take n H)) low) (sym (get_or-take n xs k 0 inside))
-          (subst (λ (G : List Entry). IsLowest G (get_or xs k 0)) (sym front) (all.each k (omega (arith, inside, within))));
+          (subst (λ (G : List Entry). IsLowest G (get_or xs k 0)) (sym front)
+          (all.each k (omega (arith, inside, within))));
     }
 
 pub lows-popped : (H G : List Entry) (xs ys : List ℕ) (n : ℕ) → AreLowest H xs → n ≡ length xs →

@@ -20,7 +20,8 @@ use std::marker::Model;
 #[derive(Drop)]
 pub struct Ledger {
     register: Register,
-    /// Beside each entry, how many searches stood then before the first one that waited for an order; all, where none did.
+    /// Beside each entry, how many searches stood then before the first one that waited for an order; all, where none
+    /// did.
     lows: Vec<u32>,
 }
 

@@ -31,4 +31,5 @@ IsNoOpen _ = ⊤
 
 -- what an open of a search comes to, where neither its key nor the number of entries has decided before
 abbrev pub opened_decision : List Entry → Opening → Moment → Decision
-opened_decision H o m = if nat_le MAX_SEARCHES (length (openings H)) then Refuse TooManySearches else add_at m (Opened o)
+opened_decision H o m =
+    if nat_le MAX_SEARCHES (length (openings H)) then Refuse TooManySearches else add_at m (Opened o)

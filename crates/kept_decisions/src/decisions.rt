@@ -82,8 +82,8 @@ fn own_decision(
     }
 }
 
-/// The decision on a command at a farm's history and a moment: the first that is there. First stands the shape of an open,
-/// which needs no history; its search is made once, under the number that it would have.
+/// The decision on a command at a farm's history and a moment: the first that is there. First stands the shape of an
+/// open, which needs no history; its search is made once, under the number that it would have.
 ///
 /// # Errors
 ///

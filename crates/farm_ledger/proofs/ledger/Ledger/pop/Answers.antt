@@ -14,5 +14,6 @@ invariant_of-self c =
     let count : vec_len c.self.inside.lows ≡ length c.self.inside.lows.items = omega arith in
     record {
       legal = subst IsLegal (sym c.pop.ensures) (popped-legal H h.legal some);
-      lows = lows-popped H _ c.self.inside.lows.items _ (vec_len c.self.inside.lows) h.lows count c.pop.ensures c.pop-low.ensures.rest;
+      lows = lows-popped H _ c.self.inside.lows.items _ (vec_len c.self.inside.lows) h.lows count c.pop.ensures
+          c.pop-low.ensures.rest;
     }

@@ -17,7 +17,8 @@ passed-requires-clause-served c =
     let h = c.self.invariant in
     let low : ℕ = c.index-before.result.now in
     let count : c.len.result ≡ length s.lows.items = omega (arith, c.len.ensures) in
-    let lowest : IsLowest H low = lows-last H s.lows.items c.len.result low h.legal h.lows count c.index-before.ensures in
+    let lowest : IsLowest H low =
+    lows-last H s.lows.items c.len.result low h.legal h.lows count c.index-before.ensures in
     let step = entry-steps H c.args.self.now e h.legal c.self.view_is c.requires in
     let longer : IsLegal (H ++ e ∷ []) =
     subst (λ (X : List Entry). IsLegal (X ++ e ∷ [])) (sym c.self.view_is) c.requires in
