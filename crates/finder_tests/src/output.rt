@@ -1,6 +1,7 @@
 //! An output that takes a byte at a time, and may stop.
 
 ghost use Rattle.std.specs.Prelude.{None};
+ghost use Rattle.link_io.specs.Intake.{no_intake};
 
 use link_io::{Put, Sink};
 use std::alloc::Global;
@@ -35,6 +36,8 @@ impl Output {
 
 impl Sink for Output {
     ghost written = { λ _. None };
+
+    ghost aside = { λ _. no_intake };
 
     ghost count = { λ s. s.faults };
 

@@ -1,5 +1,6 @@
 //! Readers and writers that misbehave.
 
+ghost use Rattle.link_io.specs.Intake.{no_intake};
 ghost use Rattle.std.specs.Prelude.{◌≤◌, IfOk, Some};
 
 use link_io::{MemSink, Put, Sink};
@@ -13,6 +14,8 @@ pub(crate) struct Narrow {
 
 impl Sink for Narrow {
     ghost written = { λ s. Some s.held.bytes };
+
+    ghost aside = { λ _. no_intake };
 
     ghost count = { λ s. s.held.plan.faults };
 

@@ -1,10 +1,15 @@
 pub mod Counts
 pub mod FaultPlan
+pub mod Intake
+pub mod Links
 pub mod MemClock
+pub mod MemInput
+pub mod MemLink
 pub mod MemSink
 pub mod MemSource
 pub mod Pieces
 pub mod Put
 pub mod Standard
 pub mod Streams
+pub mod Telling
 pub mod Took

@@ -1,9 +1,8 @@
 -- What contracts see of a source in memory.
-use Rattle.std.specs.Prelude.{ℕ, List}
 use Rattle.link_io.specs.FaultPlan.{PlannedFaults}
+use Rattle.link_io.specs.MemInput.{InputInMemory}
 
--- the bytes that are left, the sizes of the pieces that they are given in, and the takes that are to fail
+-- its input, and the takes that are to fail
 pub record SourceInMemory : Type 0 where
-  pub left : List ℕ
-  pub pieces : List ℕ
+  pub input : InputInMemory
   pub plan : PlannedFaults

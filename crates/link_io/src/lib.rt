@@ -1,30 +1,35 @@
-//! The traits through which the program meets the outside. A `Source` gives bytes, a `Sink` takes them, and a `Clock`
-//! says what moment it is. Their contracts say all that code above may rely on, whatever stands behind them: which bytes
-//! a call moved, that a call which failed moved none, and that each failure is counted. Code above is generic over them
-//! and proved once.
+//! The traits through which the program meets the outside. A `Source` gives bytes, a `Sink` takes them, a `Link` is both in
+//! one object, and a `Clock` says what moment it is. Their contracts say all that code above may rely on, whatever stands
+//! behind them: which bytes a call moved, that a call which failed moved none, that a call on one half of a link keeps
+//! what the other half has done, and that each failure is counted. Code above is generic over them and proved once.
 //!
 //! The crate stands on `farm_types` for moments. The layers above may use
 //! - the traits with their answers, `take_piece`, which gives the bytes of one take, and `put_all`, which puts a whole
 //!   slice;
-//! - `MemSource` and `MemSink`, which tell their bytes to contracts, and fail at the calls that they are told to, and
-//!   `MemClock`, which stands still;
-//! - `InputSource` and `OutputSink`, over any reader and writer of the standard library, and `SystemClock`: the trusted
-//!   edge, since no contract says which bytes the system itself gives or takes, or what its clock shows.
+//! - `MemSource`, `MemSink` and `MemLink`, which tell their bytes to contracts, and fail at the calls that they are told
+//!   to, `MemClock`, which stands still, and `FaultPlan`, the calls of an object in memory that are to fail;
+//! - `InputSource`, `OutputSink` and `StreamLink`, over any reader, writer and stream of the standard library, and
+//!   `SystemClock`: the trusted edge, since no contract says which bytes the system itself gives or takes, or what its
+//!   clock shows.
 //!
-//! Clauses above cite `specs/` (`Counts`, `Took`, `Put`, `Streams`, `FaultPlan`, `Pieces`), and proofs above the lemmas
-//! of `proofs/Told`.
+//! Clauses above cite `specs/` (`Counts`, `Took`, `Put`, `Intake`, `Links`, `Streams`, `Telling`, `FaultPlan`, `Pieces`),
+//! and proofs above the lemmas of `proofs/Told`.
 #![tactic(auto)]
 
 mod clock;
+mod link;
 mod memory;
 mod sink;
 mod source;
 mod standard;
+mod stream_link;
 mod system_clock;
 
 pub use clock::Clock;
-pub use memory::{MemClock, MemSink, MemSource};
+pub use link::Link;
+pub use memory::{FaultPlan, MemClock, MemLink, MemSink, MemSource};
 pub use sink::{Put, PutFault, Sink, put_all};
 pub use source::{INPUT_LIMIT, PIECE, Source, TakeFailed, Took, take_piece};
 pub use standard::{InputSource, OutputSink};
+pub use stream_link::StreamLink;
 pub use system_clock::SystemClock;

@@ -1,12 +1,16 @@
-//! Sources, sinks and a clock in memory, for tests and for runs that touch nothing outside. They tell their bytes and
-//! their moment; sources and sinks fail at the calls that they are told to.
+//! Sources, sinks, links and a clock in memory, for tests and for runs that touch nothing outside. They tell their bytes
+//! and their moment; sources, sinks and links fail at the calls that they are told to.
 
 mod fault_plan;
 mod mem_clock;
+mod mem_input;
+mod mem_link;
 mod mem_sink;
 mod mem_source;
 mod pieces;
 
+pub use fault_plan::FaultPlan;
 pub use mem_clock::MemClock;
+pub use mem_link::MemLink;
 pub use mem_sink::MemSink;
 pub use mem_source::MemSource;

@@ -2,6 +2,7 @@
 ghost use Rattle.std.specs.Prelude.{◌≡◌, ◌<◌, ◌≤◌, ℕ, List, Option, OnOk, OnErr, IsErrOf, length, take};
 ghost use Rattle.std.specs.Io.KnownBytes.{append_known};
 ghost use Rattle.link_io.specs.Counts.{Rose};
+ghost use Rattle.link_io.specs.Intake.{Intake};
 ghost use Rattle.link_io.specs.Put.{IfPut, OnPutFailed, OnNothingPut};
 
 /// What a put answers.
@@ -19,9 +20,14 @@ pub enum Put {
 ///
 /// A sink may tell contracts which bytes were written to it. One that tells goes on telling, and one that doesn't
 /// never will.
+///
+/// It may be the writing half of an object that is read from as well. A put keeps what the other half has done.
 pub trait Sink {
     /// The bytes that were written, where the sink tells.
     ghost written: { Self → Option (List ℕ) };
+
+    /// What was taken from the other half of the object, where it has one.
+    ghost aside: { Self → Intake };
 
     /// How often it has failed so far, whatever the call.
     ghost count: { Self → ℕ };
@@ -36,6 +42,7 @@ pub trait Sink {
         ensures advances { IfPut result (λ n. 0 < length bytes.now → 0 < n) }
         ensures appends { IfPut result
             (λ n. written self.new ≡ append_known (written self.old) (take n bytes.now)) }
+        ensures aside { aside self.new ≡ aside self.old }
 
         ensures unmoved { OnNothingPut result (written self.new ≡ written self.old) }
         ensures rises { OnPutFailed result (Rose (count self.old) (count self.new)) }
@@ -60,6 +67,7 @@ pub fn put_all<K: Sink>(output: &mut K, bytes: &[u8]) -> Result<(), PutFault>
     ensures stopped { OnErr result
         ((n : ℕ) × (n < length bytes.now)
         × (K.written output.new ≡ append_known (K.written output.old) (take n bytes.now))) }
+    ensures aside { K.aside output.new ≡ K.aside output.old }
     ensures rises { IsErrOf result PutFault.Failed → Rose (K.count output.old) (K.count output.new) }
     ensures never_falls { K.count output.old ≤ K.count output.new }
 {

@@ -1,9 +1,25 @@
 //! Where bytes come from.
-ghost use Rattle.std.specs.Prelude.{◌≡◌, ◌<◌, ◌≤◌, ◌↔◌, ℕ, List, [], Option, IfOk, OnErr, length, take};
+ghost use Rattle.std.specs.Prelude.{
+  ◌≡◌,
+  ◌<◌,
+  ◌≤◌,
+  ◌↔◌,
+  ℕ,
+  List,
+  [],
+  Bool,
+  true,
+  false,
+  Option,
+  IfOk,
+  OnErr,
+  length,
+  take,
+};
 ghost use Rattle.std.specs.Option.{ForSome};
-ghost use Rattle.std.specs.Io.KnownBytes.{prepend_known};
+ghost use Rattle.std.specs.Io.KnownBytes.{append_known, prepend_known};
 ghost use Rattle.link_io.specs.Counts.{Rose};
-ghost use Rattle.link_io.specs.Took.{IfTook, OnTookFailed};
+ghost use Rattle.link_io.specs.Took.{IfTook, OnTookFailed, is_end};
 
 /// How many bytes are taken from one input at most.
 pub const INPUT_LIMIT: usize = 1 << 30;
@@ -22,11 +38,22 @@ pub enum Took {
 
 /// Bytes that come from outside.
 ///
-/// A source may tell contracts which bytes it has left. One that tells goes on telling, and one that doesn't never
-/// will: a real one can't know what is still to come.
+/// A source may tell contracts which bytes it has left, and which were taken. One that tells goes on telling, and one
+/// that doesn't never will: a real one can't know what is still to come.
+///
+/// It may be the reading half of an object that is written to as well. A take keeps what the other half has done.
 pub trait Source {
     /// The bytes that are left, where the source tells.
     ghost left: { Self → Option (List ℕ) };
+
+    /// The bytes that were taken so far, where the source tells.
+    ghost taken: { Self → Option (List ℕ) };
+
+    /// Whether the last take answered that the input has ended.
+    ghost ended: { Self → Bool };
+
+    /// The bytes that were written to the other half of the object, where it has one that tells.
+    ghost aside: { Self → Option (List ℕ) };
 
     /// How often it has failed so far, whatever the call.
     ghost count: { Self → ℕ };
@@ -47,7 +74,13 @@ pub trait Source {
             (λ n. left self.old ≡ prepend_known (take n buf.new) (left self.new)) }
         ensures end { IfTook result (λ n. ForSome (left self.old) (λ had. (n ≡ 0) ↔ (had ≡ []))) }
 
+        // The bytes that were taken are those taken before, and then those now in the buffer.
+        ensures adds { IfTook result (λ n. taken self.new ≡ append_known (taken self.old) (take n buf.new)) }
+        ensures last { ended self.new ≡ is_end result }
+        ensures aside { aside self.new ≡ aside self.old }
+
         ensures unmoved { OnTookFailed result (left self.new ≡ left self.old) }
+        ensures unadded { OnTookFailed result (taken self.new ≡ taken self.old) }
         ensures rises { OnTookFailed result (Rose (count self.old) (count self.new)) }
         ensures never_falls { count self.old ≤ count self.new };
 }
@@ -62,7 +95,12 @@ pub fn take_piece<'a, S: Source>(input: &mut S, buf: &'a mut [u8]) -> Result<&'a
     ensures taken { IfOk result (λ piece. S.left input.old ≡ prepend_known piece.now (S.left input.new)) }
     ensures few { IfOk result (λ piece. length piece.now ≤ length buf.old) }
     ensures end { IfOk result (λ piece. ForSome (S.left input.old) (λ had. (piece.now ≡ []) ↔ (had ≡ []))) }
+    ensures adds { IfOk result (λ piece. S.taken input.new ≡ append_known (S.taken input.old) piece.now) }
+    ensures last { IfOk result (λ piece. (S.ended input.new ≡ true) ↔ (piece.now ≡ [])) }
+    ensures aside { S.aside input.new ≡ S.aside input.old }
     ensures unmoved { OnErr result (S.left input.new ≡ S.left input.old) }
+    ensures unadded { OnErr result (S.taken input.new ≡ S.taken input.old) }
+    ensures unended { OnErr result (S.ended input.new ≡ false) }
     ensures rises { OnErr result (Rose (S.count input.old) (S.count input.new)) }
     ensures never_falls { S.count input.old ≤ S.count input.new }
 {

@@ -3,22 +3,24 @@
 //! This is the trusted edge. What the adapters do with their reader or writer is proved: no byte that it gave is lost,
 //! none is written twice, and each failure is counted. What standard input, a file or a socket really gives or takes
 //! is in no contract, and a call of the system that never returns isn't ruled out.
-ghost use Rattle.std.specs.Prelude.{◌≡◌, ◌≢◌, ◌<◌, ◌≤◌, [], None, IfSome, IfNone, length, take};
+ghost use Rattle.std.specs.Prelude.{◌≡◌, ◌≢◌, ◌<◌, ◌≤◌, [], None, IfSome, IfNone, false, length, take};
 ghost use Rattle.std.specs.Io.KnownBytes.{Appends, Consumes, IsAtEnd, Keeps};
 ghost use Rattle.link_io.specs.Counts.{Rose};
-ghost use Rattle.link_io.specs.Took.{IfTook, OnTookFailed};
+ghost use Rattle.link_io.specs.Intake.{no_intake};
+ghost use Rattle.link_io.specs.Took.{IfTook, OnTookFailed, is_end};
 ghost use Rattle.link_io.specs.Put.{IfPut, OnPutFailed};
-ghost use Rattle.link_io.specs.Standard.{input_reader, input_faults, output_writer, output_faults};
+ghost use Rattle.link_io.specs.Standard.{input_reader, input_ended, input_faults, output_writer, output_faults};
 
 use crate::{Put, Sink, Source, Took};
 use std::io::{ErrorKind, Read, Write};
 
-/// A reader as a source, such as standard input. It tells nothing of what is left: only a read can find that out.
+/// A reader as a source, such as standard input. It tells nothing of its bytes: only a read can find them out.
 ///
 /// A read that was interrupted is made again. Any other error of the reader is a failed take.
 #[derive(Drop)]
 pub struct InputSource<R: Read> {
     reader: R,
+    ended: bool,
     faults: u64,
 }
 
@@ -26,14 +28,25 @@ impl<R: Read> InputSource<R> {
     /// A source over this reader, with no fault so far.
     pub fn new(reader: R) -> InputSource<R>
         ensures reader { input_reader result ≡ reader }
+        ensures ended { input_ended result ≡ false }
         ensures faults { input_faults result ≡ 0 }
     {
-        InputSource { reader, faults: 0 }
+        InputSource {
+            reader,
+            ended: false,
+            faults: 0,
+        }
     }
 }
 
 impl<R: Read> Source for InputSource<R> {
     ghost left = { λ _. None };
+
+    ghost taken = { λ _. None };
+
+    ghost ended = { input_ended };
+
+    ghost aside = { λ _. None };
 
     ghost count = { input_faults };
 
@@ -51,14 +64,19 @@ impl<R: Read> Source for InputSource<R> {
         ensures read_end { IfTook result (λ n. n ≡ 0 → IsAtEnd (R.remaining (input_reader self.new))) }
         ensures unread { OnTookFailed result
             (Keeps (R.remaining (input_reader self.old)) (R.remaining (input_reader self.new))) }
+        ensures last { input_ended self.new ≡ is_end result }
 
         // The count rises in a take that fails, and in no other.
         ensures rises { OnTookFailed result (Rose (input_faults self.old) (input_faults self.new)) }
         ensures stays { IfTook result (λ _. input_faults self.new ≡ input_faults self.old) }
     {
         match read_once(&mut self.reader, buf) {
-            Some(count) => Took::Took(count),
+            Some(count) => {
+                self.ended = count == 0;
+                Took::Took(count)
+            }
             None => {
+                self.ended = false;
                 self.faults = self.faults.saturating_add(1);
                 Took::Failed
             }
@@ -68,7 +86,7 @@ impl<R: Read> Source for InputSource<R> {
 
 /// One read that wasn't interrupted, or `None` where it failed.
 #[tactic(auto, using(crate::proofs::Kept::kept_bytes))]
-fn read_once<R: Read>(reader: &mut R, buf: &mut [u8]) -> Option<usize>
+pub(crate) fn read_once<R: Read>(reader: &mut R, buf: &mut [u8]) -> Option<usize>
     requires { 0 < length buf.old }
     ensures within { IfSome result (λ n. n ≤ length buf.old) }
     ensures reads { IfSome result
@@ -113,6 +131,8 @@ impl<W: Write> OutputSink<W> {
 impl<W: Write> Sink for OutputSink<W> {
     ghost written = { λ _. None };
 
+    ghost aside = { λ _. no_intake };
+
     ghost count = { output_faults };
 
     fn faults(&self) -> u64 {
@@ -149,7 +169,7 @@ impl<W: Write> Sink for OutputSink<W> {
 
 /// One write that wasn't interrupted, or `None` where it failed or took no byte.
 #[tactic(auto, using(crate::proofs::Kept::kept_bytes))]
-fn write_once<W: Write>(writer: &mut W, bytes: &[u8]) -> Option<usize>
+pub(crate) fn write_once<W: Write>(writer: &mut W, bytes: &[u8]) -> Option<usize>
     ensures within { IfSome result (λ n. n ≤ length bytes.now) }
     ensures advances { IfSome result (λ n. 0 < n) }
     ensures writes { IfSome result

@@ -8,7 +8,7 @@ use std::marker::Model;
 /// The calls of one object that are to fail, counted from 1, and how many were made and failed. Each count stands
 /// still at `u64::MAX`.
 #[derive(Drop)]
-pub(super) struct FaultPlan {
+pub struct FaultPlan {
     fails: Vec<u64>,
     calls: u64,
     faults: u64,
@@ -24,7 +24,7 @@ impl Model for FaultPlan {
 
 impl FaultPlan {
     /// A plan of which no call was made yet.
-    pub(super) fn of(fails: Vec<u64>) -> FaultPlan
+    pub fn of(fails: Vec<u64>) -> FaultPlan
         ensures { result ≡ fresh_plan fails.items }
     {
         FaultPlan {
@@ -34,22 +34,29 @@ impl FaultPlan {
         }
     }
 
+    /// The plan as it was before the first call.
+    pub fn afresh(self) -> FaultPlan
+        ensures { result ≡ fresh_plan self.fails }
+    {
+        FaultPlan::of(self.fails)
+    }
+
     /// How many calls were made.
-    pub(super) fn calls(&self) -> u64
+    pub fn calls(&self) -> u64
         ensures { result ≡ self.now.calls }
     {
         self.calls
     }
 
     /// How many calls failed.
-    pub(super) fn faults(&self) -> u64
+    pub fn faults(&self) -> u64
         ensures { result ≡ self.now.faults }
     {
         self.faults
     }
 
     /// Counts the next call, and says whether it is to fail.
-    pub(super) fn next_fails(&mut self) -> bool
+    pub fn next_fails(&mut self) -> bool
         ensures listed { IsTrue result ↔ NextFails self.old }
         ensures counted { MatchBool result
             (self.new ≡ plan_after_fault self.old) (self.new ≡ plan_after_success self.old) }

@@ -1,6 +1,7 @@
 //! A sink in memory.
 ghost use Rattle.std.specs.Prelude.{◌≡◌, ◌↔◌, ◌++◌, [], Some, length};
 ghost use Rattle.link_io.specs.Counts.{Rose};
+ghost use Rattle.link_io.specs.Intake.{no_intake};
 ghost use Rattle.link_io.specs.Put.{IfPut, OnPutFailed};
 ghost use Rattle.link_io.specs.FaultPlan.{fresh_plan, NextFails, plan_after_success, plan_after_fault};
 
@@ -48,6 +49,8 @@ impl MemSink {
 
 impl Sink for MemSink {
     ghost written = { λ s. Some s.bytes };
+
+    ghost aside = { λ _. no_intake };
 
     ghost count = { λ s. s.plan.faults };
 
