@@ -1,0 +1,25 @@
+-- What a runner was asked and answered.
+use Rattle.std.specs.Prelude.{ℕ, List, ⊤}
+use Rattle.farm_types.specs.declared.commit_id.CommitId.{CommitId}
+use Rattle.weight_exact.specs.declared.run.Verdict.{Verdict}
+use Rattle.worker_io.specs.declared.runner.Ran.{Ran}
+use Rattle.worker_io.specs.declared.runner.Ran.TheVariants as ran
+
+-- the test of this name at this commit, and the answer
+pub record Asked : Type 0 where
+  pub test : List ℕ
+  pub commit : CommitId
+  pub answer : Ran
+
+abbrev pub asked : List ℕ → CommitId → Ran → Asked
+asked test commit answer = record { test = test; commit = commit; answer = answer }
+
+-- what holds of the verdict, where the run answers one
+abbrev pub IfVerdict : Ran → (Verdict → Type 0) → Type 0
+IfVerdict (ran.Verdict v) P = P v
+IfVerdict ran.Failed P = ⊤
+
+-- what holds where the run failed
+abbrev pub OnRunFailed : Ran → Type 0 → Type 0
+OnRunFailed (ran.Verdict v) P = ⊤
+OnRunFailed ran.Failed P = P
