@@ -57,6 +57,7 @@ pub fn put_answer<K: Sink>(output: &mut K, answer: &Answer) -> Result<(), PutFau
     ensures stopped { OnErr result
         ((n : ℕ) × (n < length (answer_bytes answer.now))
         × (K.written output.new ≡ append_known (K.written output.old) (take n (answer_bytes answer.now)))) }
+    ensures aside { K.aside output.new ≡ K.aside output.old }
     ensures rises { IsErrOf result PutFault.Failed → Rose (K.count output.old) (K.count output.new) }
     ensures never_falls { K.count output.old ≤ K.count output.new }
 {
@@ -75,6 +76,7 @@ pub fn put_interim<K: Sink>(output: &mut K) -> Result<(), PutFault>
     ensures stopped { OnErr result
         ((n : ℕ) × (n < length interim_bytes)
         × (K.written output.new ≡ append_known (K.written output.old) (take n interim_bytes))) }
+    ensures aside { K.aside output.new ≡ K.aside output.old }
     ensures rises { IsErrOf result PutFault.Failed → Rose (K.count output.old) (K.count output.new) }
     ensures never_falls { K.count output.old ≤ K.count output.new }
 {

@@ -16,6 +16,7 @@ pub(crate) fn put_pieces<K: Sink>(output: &mut K, pieces: &[&[u8]]) -> Result<()
     ensures stopped { OnErr result
         ((n : ℕ) × (n < length (joined pieces.now))
         × (K.written output.new ≡ append_known (K.written output.old) (take n (joined pieces.now)))) }
+    ensures aside { K.aside output.new ≡ K.aside output.old }
     ensures rises { IsErrOf result PutFault.Failed → Rose (K.count output.old) (K.count output.new) }
     ensures never_falls { K.count output.old ≤ K.count output.new }
 {
@@ -42,6 +43,7 @@ pub(crate) fn put_parts<'p, K: Sink>(
         ((n : ℕ) × (n < length (parts_joined status.now size.now allow.now close.now body.now))
         × (K.written output.new ≡ append_known (K.written output.old)
         (take n (parts_joined status.now size.now allow.now close.now body.now)))) }
+    ensures aside { K.aside output.new ≡ K.aside output.old }
     ensures rises { IsErrOf result PutFault.Failed → Rose (K.count output.old) (K.count output.new) }
     ensures never_falls { K.count output.old ≤ K.count output.new }
 {
