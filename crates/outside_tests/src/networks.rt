@@ -1,0 +1,107 @@
+//! Links and networks, whatever stands behind them.
+
+use link_io::{Link, Put, Sink, Source, take_piece};
+use net_io::{Accepted, Connected, Network};
+use std::io;
+
+/// Takes at most 8 bytes, and prints them.
+fn print_take<R: Print, L: Link>(rt: &R, link: &mut L) -> io::Result<()> {
+    let mut buf = [0u8; 8];
+    match take_piece(link, &mut buf) {
+        Ok(piece) => println!(rt; "  took {:?}", std::str::from_utf8(piece).unwrap_or("?")),
+        Err(_) => println!(rt; "  no take"),
+    }
+}
+
+/// Makes calls of a link, and prints their answers: an empty text is a take, any other is put.
+fn print_calls<R: Print, L: Link>(rt: &R, link: &mut L, calls: &[&str]) -> io::Result<()> {
+    for text in calls {
+        if text.is_empty() {
+            print_take(rt, link)?;
+        } else {
+            match link.put(text.as_bytes()) {
+                Put::Put(count) => println!(rt; "  put {count}")?,
+                Put::Failed => println!(rt; "  no put")?,
+                Put::Memory => println!(rt; "  out of memory")?,
+            }
+        }
+    }
+    println!(rt; "  faults {} {}", Source::faults(link), Sink::faults(link))
+}
+
+/// Uses a link, and gives it back.
+fn print_link<R: Print, N: Network>(rt: &R, network: &mut N, link: N::End) -> io::Result<()> {
+    let mut link = link;
+    let calls = ["", "xy", "", "xy", "", "", "", ""];
+    let printed = print_calls(rt, &mut link, &calls);
+    network.done(link);
+    printed
+}
+
+/// Accepts at each `a`, connects at each other letter, uses each link and gives it back, and prints the answers.
+pub(crate) fn print_turns<R: Print, N: Network>(
+    rt: &R,
+    network: &mut N,
+    turns: &str,
+) -> io::Result<()> {
+    for turn in turns.bytes() {
+        if turn == b'a' {
+            match network.accept() {
+                Accepted::Linked(link) => print_link(rt, network, link)?,
+                Accepted::End => println!(rt; "  no more links")?,
+                Accepted::Failed => println!(rt; "  no accept")?,
+            }
+        } else {
+            match network.connect() {
+                Connected::Linked(link) => print_link(rt, network, link)?,
+                Connected::Failed => println!(rt; "  no connect")?,
+            }
+        }
+        println!(rt;
+            "{} faults of the network {}",
+            turn as char,
+            network.faults()
+        )?;
+    }
+    Ok(())
+}
+
+/// Connects one network to the other one, says something on each side, ends the side that listens first, and prints what
+/// was heard.
+pub(crate) fn print_talk<R: Print, N: Network>(
+    rt: &R,
+    listening: &mut N,
+    calling: &mut N,
+) -> io::Result<()> {
+    match calling.connect() {
+        Connected::Linked(link) => {
+            let mut link = link;
+            let printed = print_sides(rt, listening, &mut link);
+            calling.done(link);
+            printed?;
+        }
+        Connected::Failed => println!(rt; "  no connect")?,
+    }
+    println!(rt; "talk faults {} {}", listening.faults(), calling.faults())
+}
+
+/// The side that listens is given a question and asked for it, and the side that calls for the answer. Then the first is
+/// given back, and the second takes twice: what is left, and the end. A last take waits for nothing.
+fn print_sides<R: Print, N: Network>(
+    rt: &R,
+    listening: &mut N,
+    near: &mut N::End,
+) -> io::Result<()> {
+    print_calls(rt, near, &["question"])?;
+    match listening.accept() {
+        Accepted::Linked(link) => {
+            let mut far = link;
+            let printed = print_calls(rt, &mut far, &["", "answer"]);
+            listening.done(far);
+            printed?;
+        }
+        Accepted::End => println!(rt; "  no more links")?,
+        Accepted::Failed => println!(rt; "  no accept")?,
+    }
+    print_calls(rt, near, &["", ""])
+}
