@@ -1,15 +1,15 @@
 -- The bytes of answers (RFC 9112, sections 4 and 5).
 use Rattle.std.specs.Prelude.{ℕ, Bool, true, false, List, [], ◌++◌, length, codes, decimal, Option, Some, None, if◌then◌else◌}
-use Rattle.http_requests.specs.declared.fault.Allow.{Allow}
-use Rattle.http_requests.specs.declared.fault.Allow.TheVariants as allow
+use Rattle.http_words.specs.declared.fault.Allow.{Allow}
+use Rattle.http_words.specs.declared.fault.Allow.TheVariants as allow
 use Rattle.http_answers.specs.Lines.{line}
 use Rattle.http_answers.specs.Pieces.{parts_joined}
 use Rattle.http_answers.specs.declared.answer.Answer.{Answer}
-use Rattle.http_answers.specs.declared.status.Status.{Status}
-use Rattle.http_answers.specs.declared.status.Status.TheVariants as status
+use Rattle.http_words.specs.declared.status_code.StatusCode.{StatusCode}
+use Rattle.http_words.specs.declared.status_code.StatusCode.TheVariants as status
 
 -- the number and the name of a status
-abbrev pub status_text : Status → List ℕ
+abbrev pub status_text : StatusCode → List ℕ
 status_text status.Ok = codes "200 OK"
 status_text status.BadRequest = codes "400 Bad Request"
 status_text status.NotFound = codes "404 Not Found"
@@ -22,7 +22,7 @@ status_text status.NotImplemented = codes "501 Not Implemented"
 status_text status.Unavailable = codes "503 Service Unavailable"
 status_text status.NoStorage = codes "507 Insufficient Storage"
 
-unfoldable pub status_line : Status → List ℕ
+unfoldable pub status_line : StatusCode → List ℕ
 status_line s = line (codes "HTTP/1.1 " ++ status_text s)
 
 -- the methods allowed

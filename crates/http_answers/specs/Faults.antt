@@ -1,12 +1,12 @@
 -- How the faults of requests are answered.
 use Rattle.std.specs.Prelude.{ℕ, List, codes, Option, Some, None}
-use Rattle.http_answers.specs.declared.status.Status.{Status}
-use Rattle.http_answers.specs.declared.status.Status.TheVariants as status
-use Rattle.http_requests.specs.declared.fault.Allow.{Allow}
-use Rattle.http_requests.specs.declared.fault.Fault.{Fault}
-use Rattle.http_requests.specs.declared.fault.Fault.TheVariants as fault
-use Rattle.http_requests.specs.declared.fault.PathField.{PathField}
-use Rattle.http_requests.specs.declared.fault.PathField.TheVariants as field
+use Rattle.http_words.specs.declared.status_code.StatusCode.{StatusCode}
+use Rattle.http_words.specs.declared.status_code.StatusCode.TheVariants as status
+use Rattle.http_words.specs.declared.fault.Allow.{Allow}
+use Rattle.http_words.specs.declared.fault.Fault.{Fault}
+use Rattle.http_words.specs.declared.fault.Fault.TheVariants as fault
+use Rattle.http_words.specs.declared.fault.PathField.{PathField}
+use Rattle.http_words.specs.declared.fault.PathField.TheVariants as field
 
 -- the body of the answer to a path whose number isn't one
 unfoldable pub bad_field_text : PathField → List ℕ
@@ -32,7 +32,7 @@ unfoldable pub memory_text : List ℕ
 memory_text = codes "{\"refused\":\"Memory\"}"
 
 -- its status
-abbrev pub fault_status : Fault → Status
+abbrev pub fault_status : Fault → StatusCode
 fault_status fault.BadRequest = status.BadRequest
 fault_status fault.NotImplemented = status.NotImplemented
 fault_status fault.TooLarge = status.TooLarge

@@ -4,17 +4,17 @@ ghost use Rattle.std.specs.Io.KnownBytes.{append_known};
 ghost use Rattle.link_io.specs.Counts.{Rose};
 ghost use Rattle.http_answers.specs.Answers.{allow_line, answer_bytes, body_put, close_line, interim_bytes};
 
-use crate::Status;
 use crate::lines::{closing_line, interim, methods_line};
 use crate::pieces::put_parts;
-use http_requests::Allow;
+use crate::status::status_line;
+use http_words::{Allow, StatusCode};
 use itoa::Buffer;
 use link_io::{PutFault, Sink, put_all};
 
 /// An answer to a request.
 #[derive(Clone, Copy, Debug)]
 pub struct Answer<'b> {
-    pub status: Status,
+    pub status: StatusCode,
     /// The methods that the answer names, where another one was asked for.
     pub allow: Option<Allow>,
     /// The connection closes after it.
@@ -66,7 +66,14 @@ pub fn put_answer<K: Sink>(output: &mut K, answer: &Answer) -> Result<(), PutFau
     let allow = allow_line(answer.allow);
     let close = close_line(answer.closes);
     let body = body_put(answer.withheld, answer.body);
-    put_parts(output, answer.status.line(), length, allow, close, body)
+    put_parts(
+        output,
+        status_line(answer.status),
+        length,
+        allow,
+        close,
+        body,
+    )
 }
 
 /// Puts the interim answer, which says that the body may be sent.

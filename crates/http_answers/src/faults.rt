@@ -3,8 +3,7 @@ ghost use Rattle.std.specs.Prelude.{◌≡◌};
 ghost use Rattle.http_answers.specs.Faults.{fault_text, fault_status, fault_allow, bad_field_text};
 ghost use Rattle.http_answers.specs.Faults.{memory_text, store_fault_text};
 
-use crate::Status;
-use http_requests::{Allow, Fault, PathField};
+use http_words::{Allow, Fault, PathField, StatusCode};
 
 /// The body of an answer whose command's entry the store couldn't take.
 pub fn store_fault_text() -> &'static [u8]
@@ -47,17 +46,17 @@ fn bad_field_text(field: PathField) -> &'static [u8]
 }
 
 /// The status of the answer to a fault.
-pub fn fault_status(fault: Fault) -> Status
+pub fn fault_status(fault: Fault) -> StatusCode
     ensures { result ≡ fault_status fault }
 {
     match fault {
-        Fault::BadRequest => Status::BadRequest,
-        Fault::NotImplemented => Status::NotImplemented,
-        Fault::TooLarge => Status::TooLarge,
-        Fault::LengthRequired => Status::LengthRequired,
-        Fault::NotFound => Status::NotFound,
-        Fault::MethodNotAllowed(_) => Status::MethodNotAllowed,
-        Fault::BadField(_) => Status::BadRequest,
+        Fault::BadRequest => StatusCode::BadRequest,
+        Fault::NotImplemented => StatusCode::NotImplemented,
+        Fault::TooLarge => StatusCode::TooLarge,
+        Fault::LengthRequired => StatusCode::LengthRequired,
+        Fault::NotFound => StatusCode::NotFound,
+        Fault::MethodNotAllowed(_) => StatusCode::MethodNotAllowed,
+        Fault::BadField(_) => StatusCode::BadRequest,
     }
 }
 

@@ -4,7 +4,7 @@ ghost use Rattle.httparse.specs.Ascii.{crlf_bytes};
 ghost use Rattle.http_answers.specs.Answers.{closing_line, interim_bytes, methods_line};
 ghost use Rattle.http_answers.specs.Lines.{content_type, length_name};
 
-use http_requests::Allow;
+use http_words::Allow;
 
 /// What kind of content a body is.
 pub(crate) fn content_type<'p>() -> &'p [u8]

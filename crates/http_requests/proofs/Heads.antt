@@ -8,7 +8,7 @@ use Rattle.std.proofs.lemmas.List.Folds.{list_all-append}
 use Rattle.httparse.specs.Grammar.{RequestHead, ReadsRequest, print_request, print_blank}
 use Rattle.httparse.proofs.GrammarLemmas.{request_unique, ReadsRequest-append, print_request-append}
 use Rattle.http_requests.specs.Items.{HasHead, IsIdle, head_size, is_line_end}
-use Rattle.http_requests.specs.declared.limits.TheConstants.{MAX_HEAD_BYTES}
+use Rattle.http_words.specs.declared.limits.TheConstants.{MAX_HEAD_BYTES}
 
 -- the first n of two lists begin with the first n of the first
 pub take-append-some : (n : ℕ) (a b : List ℕ) → (rest : List ℕ) × (take n (a ++ b) ≡ take n a ++ rest)

@@ -6,13 +6,14 @@ use Rattle.httparse.specs.Grammar.{RequestHead, ReadsRequest}
 use Rattle.httparse.specs.Spans.{IsRequestAt, header_bytes, name_and_value}
 use Rattle.httparse.specs.declared.spans.HeaderSpan.{HeaderSpan}
 use Rattle.httparse.specs.declared.spans.RequestSpans.{RequestSpans}
-use Rattle.http_requests.specs.Fields.{field_texts, fields_of}
+use Rattle.http_fields.specs.Fields.{field_texts}
+use Rattle.http_requests.specs.Fields.{fields_of}
 use Rattle.http_requests.specs.Framing.{body_length, closes_after, is_head_method, wants_interim}
 use Rattle.http_requests.specs.Heads.{IsHeadOf}
 use Rattle.http_requests.specs.Items.{HasHead, body_of}
-use Rattle.http_requests.specs.Routes.{endpoint_of}
+use Rattle.http_routes.specs.Routes.{endpoint_of}
 use Rattle.http_requests.specs.declared.head.Head.{Head}
-use Rattle.http_requests.specs.declared.limits.TheConstants.{MAX_HEAD_BYTES, MAX_FIELDS}
+use Rattle.http_words.specs.declared.limits.TheConstants.{MAX_HEAD_BYTES, MAX_FIELDS}
 
 pub parts-body : (parts : Head) (head : RequestHead) → IsHeadOf parts head
     → body_length parts.method.now parts.minor (field_texts parts.fields) ≡ body_of head

@@ -10,10 +10,10 @@ use Rattle.http_requests.specs.Fields.{fields_of}
 use Rattle.http_requests.specs.Framing.{is_head_method, wants_interim, closes_after}
 use Rattle.http_requests.specs.Items.{Item, IsIdle, HasHead, IsNext, head_size, body_of, refused, is_line_end}
 use Rattle.http_requests.specs.Next.{AwaitsBody, AwaitsHead, HasNoHeadFor, IsNextFor, MayFollow, item_in, refusal}
-use Rattle.http_requests.specs.Routes.{endpoint_of}
-use Rattle.http_requests.specs.declared.fault.Fault.{Fault}
-use Rattle.http_requests.specs.declared.fault.Fault.TheVariants as fault
-use Rattle.http_requests.specs.declared.limits.TheConstants.{MAX_HEAD_BYTES, MAX_BODY_BYTES, MAX_FIELDS}
+use Rattle.http_routes.specs.Routes.{endpoint_of}
+use Rattle.http_words.specs.declared.fault.Fault.{Fault}
+use Rattle.http_words.specs.declared.fault.Fault.TheVariants as fault
+use Rattle.http_words.specs.declared.limits.TheConstants.{MAX_HEAD_BYTES, MAX_BODY_BYTES, MAX_FIELDS}
 use Rattle.http_requests.specs.declared.next.Awaited.{Awaited}
 use Rattle.http_requests.specs.declared.request.Request.{Request}
 use Rattle.http_requests.proofs.Heads.{take-append-some, HasHead-append, HasHead-size}

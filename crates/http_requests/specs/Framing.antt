@@ -1,12 +1,12 @@
 -- How long the body of a request is, and what the connection does (RFC 9112, sections 3.2, 6 and 9, and RFC 9110,
 -- section 10.1.1), where what this service doesn't do is refused.
-use Rattle.std.specs.Prelude.{ℕ, Bool, not, ◌&&◌, ◌||◌, ◌==◌, List, [], ◌∷◌, length, nat_lt, Result, Ok, Err, codes, bytes_eq, if◌then◌else◌}
-use Rattle.std.specs.Str.Parse.{digits_value}
-use Rattle.http_requests.specs.Fields.{FieldText, named_values, has_close, expects_continue}
-use Rattle.http_requests.specs.Texts.{is_number}
-use Rattle.http_requests.specs.declared.fault.Fault.{Fault}
-use Rattle.http_requests.specs.declared.fault.Fault.TheVariants as fault
-use Rattle.http_requests.specs.declared.limits.TheConstants.{MAX_BODY_BYTES}
+use Rattle.std.specs.Prelude.{ℕ, Bool, not, ◌&&◌, ◌||◌, ◌==◌, List, length, nat_lt, Result, Ok, Err, codes, bytes_eq, if◌then◌else◌}
+use Rattle.http_fields.specs.Fields.{FieldText, named_values, has_close, expects_continue}
+use Rattle.http_fields.specs.Lengths.{stated_length}
+use Rattle.http_fields.specs.declared.lengths.StatedLength.{StatedLength}
+use Rattle.http_fields.specs.declared.lengths.StatedLength.TheVariants.{Absent, Bytes, TooLong, Malformed}
+use Rattle.http_words.specs.declared.fault.Fault.{Fault}
+use Rattle.http_words.specs.declared.fault.Fault.TheVariants as fault
 
 -- a version of HTTP/1 where exactly one Host field has to stand has it
 abbrev pub has_host : ℕ → List FieldText → Bool
@@ -16,25 +16,19 @@ has_host minor fields = (minor == 0) || (length (named_values (codes "host") fie
 abbrev pub has_coding : List FieldText → Bool
 has_coding fields = nat_lt 0 (length (named_values (codes "transfer-encoding") fields))
 
--- the length that one value states
-abbrev pub stated_length : List ℕ → Result ℕ Fault
-stated_length value =
-    if not (is_number value) then Err fault.BadRequest
-    else if nat_lt MAX_BODY_BYTES (digits_value 10 value) then Err fault.TooLarge
-    else Ok (digits_value 10 value)
-
--- the length that the values of Content-Length state: a POST has to state one, and no other request has a body without
-abbrev pub length_by : List ℕ → List (List ℕ) → Result ℕ Fault
-length_by method [] = if bytes_eq method (codes "POST") then Err fault.LengthRequired else Ok 0
-length_by method (value ∷ []) = stated_length value
-length_by method (value ∷ second ∷ values) = Err fault.BadRequest
+-- the length of the body, by what the fields state of it: a POST has to state one, and no other request has a body without
+abbrev pub length_by : List ℕ → StatedLength → Result ℕ Fault
+length_by method Absent = if bytes_eq method (codes "POST") then Err fault.LengthRequired else Ok 0
+length_by method (Bytes len) = Ok len
+length_by method TooLong = Err fault.TooLarge
+length_by method Malformed = Err fault.BadRequest
 
 -- the length of the body, or the fault for which none is read
 unfoldable pub body_length : List ℕ → ℕ → List FieldText → Result ℕ Fault
 body_length method minor fields =
     if not (has_host minor fields) then Err fault.BadRequest
     else if has_coding fields then Err fault.NotImplemented
-    else length_by method (named_values (codes "content-length") fields)
+    else length_by method (stated_length fields)
 
 -- the interim answer is put before the body is read
 unfoldable pub wants_interim : ℕ → List FieldText → ℕ → Bool

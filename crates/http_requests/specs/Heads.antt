@@ -3,7 +3,8 @@ use Rattle.std.specs.Prelude.{ℕ, ◌≡◌, List, length}
 use Rattle.httparse.specs.Grammar.{RequestHead, HasNoRequest, MayBecomeRequest}
 use Rattle.httparse.specs.Spans.{IsRequestWithin, IsRequestOf, RequestOverflows}
 use Rattle.httparse.specs.declared.spans.HeaderSpan.{HeaderSpan}
-use Rattle.http_requests.specs.Fields.{fields_of, field_texts}
+use Rattle.http_fields.specs.Fields.{field_texts}
+use Rattle.http_requests.specs.Fields.{fields_of}
 use Rattle.http_requests.specs.Items.{head_size}
 use Rattle.http_requests.specs.declared.head.Head.{Head}
 use Rattle.http_requests.specs.declared.front.Front.{Front}

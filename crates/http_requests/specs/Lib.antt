@@ -4,7 +4,3 @@ pub mod Heads
 pub mod Items
 pub mod Laws
 pub mod Next
-pub mod Paths
-pub mod Routes
-pub mod Rows
-pub mod Texts

@@ -5,8 +5,8 @@ use Rattle.httparse.specs.Grammar.{RequestHead, MayBecomeRequest}
 use Rattle.http_requests.specs.Fields.{fields_of}
 use Rattle.http_requests.specs.Framing.{wants_interim}
 use Rattle.http_requests.specs.Items.{Item, IsNext, IsIdle, HasHead, head_size, body_of, is_line_end}
-use Rattle.http_requests.specs.declared.fault.Fault.{Fault}
-use Rattle.http_requests.specs.declared.limits.TheConstants.{MAX_HEAD_BYTES, MAX_BODY_BYTES}
+use Rattle.http_words.specs.declared.fault.Fault.{Fault}
+use Rattle.http_words.specs.declared.limits.TheConstants.{MAX_HEAD_BYTES, MAX_BODY_BYTES}
 use Rattle.http_requests.specs.declared.next.Awaited.{Awaited}
 use Rattle.http_requests.specs.declared.next.Next.{Next}
 use Rattle.http_requests.specs.declared.next.Next.TheVariants as next

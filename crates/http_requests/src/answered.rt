@@ -1,21 +1,21 @@
 //! What a head comes to.
 ghost use Rattle.std.specs.Prelude.{◌≡◌, ◌≤◌, ◌+◌, List, ℕ, length, take};
+ghost use Rattle.std.specs.Str.{IsUtf8};
 ghost use Rattle.httparse.specs.Grammar.{RequestHead};
 ghost use Rattle.httparse.specs.Spans.{IsRequestAt, IsRequestWithin};
-ghost use Rattle.http_requests.specs.Fields.{field_texts};
+ghost use Rattle.http_fields.specs.Fields.{field_texts};
 ghost use Rattle.http_requests.specs.Framing.{is_head_method, wants_interim, closes_after};
 ghost use Rattle.http_requests.specs.Heads.{IsHeadOf};
 ghost use Rattle.http_requests.specs.Items.{HasHead};
 ghost use Rattle.http_requests.specs.Next.{Says};
 
-use crate::Fault;
-use crate::fields::Fields;
 use crate::framing::body_length;
 use crate::head::Head;
-use crate::limits::MAX_HEAD_BYTES;
 use crate::next::{Awaited, Next};
 use crate::request::Request;
-use crate::route::endpoint_of;
+use http_fields::Fields;
+use http_routes::Pages;
+use http_words::{Fault, MAX_HEAD_BYTES};
 use httparse::spans::{HeaderSpan, RequestSpans};
 
 impl<'b> Head<'b> {
@@ -58,9 +58,10 @@ impl<'b> Head<'b> {
         self.minor == 0 || self.fields.has_close()
     }
 
-    /// What comes next, where so many bytes are held.
-    pub(crate) fn next(&self, held: usize, ended: bool) -> Next
-        requires { self.now.size ≤ MAX_HEAD_BYTES }
+    /// What comes next, where so many bytes are held. The target is a text, as that of every head is.
+    pub(crate) fn next(&self, pages: &Pages, held: usize, ended: bool) -> Next
+        requires short { self.now.size ≤ MAX_HEAD_BYTES }
+        requires text { IsUtf8 self.now.target.now }
         ensures { (head : RequestHead) (bytes : List ℕ) → IsHeadOf self.now head → HasHead bytes head
             → length bytes ≡ held → Says ended bytes result }
     {
@@ -81,7 +82,7 @@ impl<'b> Head<'b> {
             interim,
             withheld: self.is_head(),
             closes: self.closes(),
-            asks: endpoint_of(self.method, self.target),
+            asks: pages.endpoint_of(self.method, self.target),
             body: self.size,
             size,
         })

@@ -1,26 +1,11 @@
 //! How long the body of a request is.
 ghost use Rattle.std.specs.Prelude.{◌≡◌, ◌≤◌, IfOk};
-ghost use Rattle.http_requests.specs.Fields.{field_texts, named_values};
-ghost use Rattle.http_requests.specs.Framing.{body_length, stated_length, has_host, has_coding, length_by};
+ghost use Rattle.http_fields.specs.Fields.{field_texts};
+ghost use Rattle.http_fields.specs.Lengths.{StatesWithin};
+ghost use Rattle.http_requests.specs.Framing.{body_length, has_host, has_coding, length_by};
 
-use crate::Fault;
-use crate::fields::Fields;
-use crate::limits::MAX_BODY_BYTES;
-use crate::text::{is_number, number_up_to};
-
-/// The length that a value of `Content-Length` states.
-fn stated_length(value: &[u8]) -> Result<usize, Fault>
-    ensures exact { result ≡ stated_length value.now }
-    ensures bounded { IfOk result (λ len. len ≤ MAX_BODY_BYTES) }
-{
-    if !is_number(value) {
-        return Err(Fault::BadRequest);
-    }
-    match number_up_to(value, MAX_BODY_BYTES as u32) {
-        Some(len) => Ok(len as usize),
-        None => Err(Fault::TooLarge),
-    }
-}
+use http_fields::{Fields, StatedLength};
+use http_words::{Fault, MAX_BODY_BYTES};
 
 /// Whether exactly one `Host` field stands where one has to.
 fn has_host(minor: u8, fields: &Fields) -> bool
@@ -33,27 +18,26 @@ fn has_host(minor: u8, fields: &Fields) -> bool
 fn has_coding(fields: &Fields) -> bool
     ensures { result ≡ has_coding (field_texts fields.now) }
 {
-    match fields.find(b"transfer-encoding") {
-        Some(_) => true,
-        None => false,
-    }
+    fields.has(b"transfer-encoding")
 }
 
-/// The length that the fields of `name` state.
-fn length_by(method: &[u8], fields: &Fields, name: &[u8]) -> Result<usize, Fault>
-    ensures exact { result ≡ length_by method.now (named_values name.now (field_texts fields.now)) }
+/// The length of a request's body, by what its fields state.
+fn length_by(method: &[u8], stated: StatedLength) -> Result<usize, Fault>
+    requires { StatesWithin stated }
+    ensures exact { result ≡ length_by method.now stated }
     ensures bounded { IfOk result (λ len. len ≤ MAX_BODY_BYTES) }
 {
-    let Some((value, behind)) = fields.find(name) else {
-        return if method == b"POST".as_slice() {
-            Err(Fault::LengthRequired)
-        } else {
-            Ok(0)
-        };
-    };
-    match behind.find(name) {
-        Some(_) => Err(Fault::BadRequest),
-        None => stated_length(value),
+    match stated {
+        StatedLength::Absent => {
+            if method == b"POST".as_slice() {
+                Err(Fault::LengthRequired)
+            } else {
+                Ok(0)
+            }
+        }
+        StatedLength::Bytes(len) => Ok(len),
+        StatedLength::TooLong => Err(Fault::TooLarge),
+        StatedLength::Malformed => Err(Fault::BadRequest),
     }
 }
 
@@ -69,5 +53,5 @@ pub(crate) fn body_length(method: &[u8], minor: u8, fields: &Fields) -> Result<u
     if has_coding(fields) {
         return Err(Fault::NotImplemented);
     }
-    length_by(method, fields, b"content-length")
+    length_by(method, fields.stated_length())
 }

@@ -1,6 +1,6 @@
 //! The head at the front of the bytes held.
 
-use crate::fields::Fields;
+use http_fields::Fields;
 
 /// What the rules look at in a head.
 #[derive(Clone, Copy)]

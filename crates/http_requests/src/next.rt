@@ -5,11 +5,11 @@ ghost use Rattle.httparse.specs.Grammar.{HasNoRequest, MayBecomeRequest};
 ghost use Rattle.http_requests.specs.Items.{is_line_end};
 ghost use Rattle.http_requests.specs.Next.{HasNoHeadFor, Says};
 
-use crate::Fault;
 use crate::front::{Front, front_of};
 use crate::head::Head;
-use crate::limits::{MAX_FIELDS, MAX_HEAD_BYTES};
 use crate::request::Request;
+use http_routes::Pages;
+use http_words::{Fault, MAX_FIELDS, MAX_HEAD_BYTES};
 use httparse::spans::EMPTY_HEADER_SPAN;
 
 /// A request whose head is held and whose body isn't whole yet.
@@ -34,17 +34,18 @@ pub enum Next {
     End,
 }
 
-/// What comes next of the bytes held, where `ended` says that the input has ended, so that nothing follows them.
+/// What comes next of the bytes held, where `ended` says that the input has ended, so that nothing follows them. What a
+/// request asks for is looked up in `pages`.
 ///
 /// A request is answered as soon as it is whole, or it is plain that it never can be, so no bytes have to be taken while
 /// one stands in those that are held.
-pub fn next_of(held: &[u8], ended: bool) -> Next
+pub fn next_of(pages: &Pages, held: &[u8], ended: bool) -> Next
     ensures { Says ended held.now result }
 {
     let front = &held[..held.len().min(MAX_HEAD_BYTES)];
     let mut spans = [EMPTY_HEADER_SPAN; MAX_FIELDS];
     match front_of(front, &mut spans) {
-        Front::Head(found) => Head::of(front, &spans, &found).next(held.len(), ended),
+        Front::Head(found) => Head::of(front, &spans, &found).next(pages, held.len(), ended),
         Front::Open => next_open(held, ended),
         Front::Never => next_headless(held, ended),
     }

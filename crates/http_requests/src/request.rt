@@ -2,7 +2,7 @@
 ghost use Rattle.std.specs.Prelude.{◌≡◌};
 ghost use Rattle.http_requests.specs.Next.{refusal};
 
-use crate::{Endpoint, Fault};
+use http_words::{Endpoint, Fault};
 
 /// What is answered once: a request, or bytes that are none. It stands at the front of the bytes that were held.
 #[derive(Clone, Copy, Debug, PartialEq, Eq)]

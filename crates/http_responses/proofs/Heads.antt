@@ -6,7 +6,7 @@ use Rattle.httparse.specs.Grammar.{ReadsResponse, ResponseHead, print_blank, pri
 use Rattle.httparse.proofs.GrammarLemmas.{ReadsResponse-append, print_response-append, response_unique}
 use Rattle.http_responses.specs.Framing.{body_length}
 use Rattle.http_responses.specs.Whole.{HasHead, IsFinal, IsResponse, IsWhole, head_size, is_interim}
-use Rattle.http_responses.specs.declared.limits.TheConstants.{MAX_HEAD_BYTES}
+use Rattle.http_words.specs.declared.limits.TheConstants.{MAX_HEAD_BYTES}
 
 -- the front of longer bytes begins with the front of these
 pub front-more : (n : ℕ) (xs ys : List ℕ) → (rest : List ℕ) × (take n (xs ++ ys) ≡ take n xs ++ rest)

@@ -12,10 +12,11 @@ use Rattle.httparse.specs.declared.Status.{Status}
 use Rattle.httparse.specs.declared.Status.TheVariants.{Complete, Partial}
 use Rattle.httparse.specs.declared.spans.HeaderSpan.{HeaderSpan}
 use Rattle.httparse.specs.declared.spans.ResponseSpans.{ResponseSpans}
-use Rattle.http_responses.specs.Framing.{body_length, length_by, length_values}
+use Rattle.http_fields.specs.Lengths.{stated_length}
+use Rattle.http_responses.specs.Framing.{body_length, length_by}
 use Rattle.http_responses.specs.Reading.{IsBefore, IsUnfinished, Says, behind_final, progress_of}
 use Rattle.http_responses.specs.Whole.{HasHead, IsFinal, IsResponse, IsWhole, head_size, is_interim}
-use Rattle.http_responses.specs.declared.limits.TheConstants.{MAX_FIELDS, MAX_HEAD_BYTES}
+use Rattle.http_words.specs.declared.limits.TheConstants.{MAX_FIELDS, MAX_HEAD_BYTES}
 use Rattle.http_responses.specs.declared.progress.Progress.{Progress}
 use Rattle.http_responses.specs.declared.progress.Progress.TheVariants.{Interim, More, Never, Whole}
 use Rattle.http_responses.proofs.Heads.{HasHead-more, HasHead-same, first-head, front-more, head-some, head-within, take-short, whole-more}
@@ -193,7 +194,7 @@ few-fields front spans count h room are =
 pub says-found : (held front : List ℕ) (spans : List HeaderSpan) (r : ResponseSpans) → front ≡ take MAX_HEAD_BYTES held →
     length spans ≡ MAX_FIELDS → IsResponseOf front spans r → (fields : List HeaderSpan) → fields ≡ take r.headers spans →
     (p : Progress) →
-    p ≡ progress_of r.code r.len (length_by (length_values (map (header_bytes front) fields))) (length held) → Says held p
+    p ≡ progress_of r.code r.len (length_by (stated_length (map (header_bytes front) fields))) (length held) → Says held p
 says-found held front spans r front_is room found fields taken p p_is =
     let h = found.0 in
     let at = found.1 in
@@ -205,9 +206,9 @@ says-found held front spans r front_is room found fields taken p p_is =
     let n = length held in
     let texts : map (header_bytes front) fields ≡ map name_and_value h.fields =
     ap (map (header_bytes front)) taken ∙ at.fields in
-    let same : progress_of r.code r.len (length_by (length_values (map (header_bytes front) fields))) n
+    let same : progress_of r.code r.len (length_by (stated_length (map (header_bytes front) fields))) n
     ≡ progress_of (status_code h) (head_size h) (body_length h) n =
-    ap (λ (x : ℕ). progress_of x r.len (length_by (length_values (map (header_bytes front) fields))) n) at.code
-    ∙ ap (λ (x : ℕ). progress_of (status_code h) x (length_by (length_values (map (header_bytes front) fields))) n) at.len
-    ∙ ap (λ (x : List (List ℕ × List ℕ)). progress_of (status_code h) (head_size h) (length_by (length_values x)) n) texts in
+    ap (λ (x : ℕ). progress_of x r.len (length_by (stated_length (map (header_bytes front) fields))) n) at.code
+    ∙ ap (λ (x : ℕ). progress_of (status_code h) x (length_by (stated_length (map (header_bytes front) fields))) n) at.len
+    ∙ ap (λ (x : List (List ℕ × List ℕ)). progress_of (status_code h) (head_size h) (length_by (stated_length x)) n) texts in
     subst (λ (x : Progress). Says held x) (sym (p_is ∙ same)) (says-head held h has)

@@ -3,7 +3,8 @@ use Rattle.std.specs.Prelude.{◌≡◌, ◌↔◌, ◌⊎◌, ◌+◌, ◌-◌,
 use Rattle.httparse.specs.Grammar.{MayBecomeResponse, ResponseHead}
 use Rattle.http_responses.specs.Framing.{body_length}
 use Rattle.http_responses.specs.Whole.{HasHead, IsWhole, head_size, is_interim}
-use Rattle.http_responses.specs.declared.limits.TheConstants.{INTERIM_STATUS, MAX_HEAD_BYTES}
+use Rattle.http_responses.specs.declared.interim.TheConstants.{INTERIM_STATUS}
+use Rattle.http_words.specs.declared.limits.TheConstants.{MAX_HEAD_BYTES}
 use Rattle.http_responses.specs.declared.progress.Progress.{Progress}
 use Rattle.http_responses.specs.declared.progress.Progress.TheVariants.{Interim, More, Never, Whole}
 

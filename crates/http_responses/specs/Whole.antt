@@ -2,7 +2,8 @@
 use Rattle.std.specs.Prelude.{◌≡◌, ◌≤◌, ℕ, ◌==◌, Bool, true, false, List, [], ◌∷◌, length, take, drop, Some}
 use Rattle.httparse.specs.Grammar.{ReadsResponse, ResponseHead, print_response, status_code}
 use Rattle.http_responses.specs.Framing.{body_length}
-use Rattle.http_responses.specs.declared.limits.TheConstants.{INTERIM_STATUS, MAX_FIELDS, MAX_HEAD_BYTES}
+use Rattle.http_responses.specs.declared.interim.TheConstants.{INTERIM_STATUS}
+use Rattle.http_words.specs.declared.limits.TheConstants.{MAX_FIELDS, MAX_HEAD_BYTES}
 
 -- bytes begin with a head, within the limits
 pub record HasHead (bytes : List ℕ) (head : ResponseHead) : Type 0 where

@@ -5,15 +5,16 @@
 //! its one Content-Length states; other fields aren't looked at (`specs/Whole.antt`). The heads are read with `httparse`, by
 //! whose grammar the contracts speak, and hold for every continuation of the bytes. So a reader of a connection needs no
 //! more than [`Progress`] says.
+//!
+//! The crate stands on `httparse`, on `http_fields` for what fields say, and on `http_words` for the limits.
 #![tactic(auto)]
 
 mod fields;
+mod interim;
 pub mod laws;
-mod limits;
-mod numbers;
 mod progress;
 mod reading;
 
-pub use limits::{INTERIM_STATUS, MAX_BODY_BYTES, MAX_FIELDS, MAX_HEAD_BYTES};
+pub use interim::INTERIM_STATUS;
 pub use progress::{Progress, Response};
 pub use reading::read_response;

@@ -1,12 +1,15 @@
 //! The response at the front of the bytes held.
 ghost use Rattle.std.specs.Prelude.{◌≡◌, ◌≤◌, All, length, map, take};
 ghost use Rattle.httparse.specs.Spans.{IsHeaderWithin, header_bytes};
-ghost use Rattle.http_responses.specs.Framing.{length_by, length_values};
+ghost use Rattle.http_fields.specs.Lengths.{stated_length};
+ghost use Rattle.http_responses.specs.Framing.{length_by};
 ghost use Rattle.http_responses.specs.Reading.{Says, progress_of};
 
 use crate::fields::body_length;
-use crate::limits::{INTERIM_STATUS, MAX_FIELDS, MAX_HEAD_BYTES};
+use crate::interim::INTERIM_STATUS;
 use crate::{Progress, Response};
+use http_fields::Fields;
+use http_words::{MAX_FIELDS, MAX_HEAD_BYTES};
 use httparse::Status;
 use httparse::spans::{EMPTY_HEADER_SPAN, HeaderSpan, ResponseSpans, parse_response};
 
@@ -41,16 +44,17 @@ fn front_of(held: &[u8]) -> &[u8]
 }
 
 /// What stands at the front of so many bytes, where they begin with a head.
-fn behind_head(front: &[u8], fields: &[HeaderSpan], head: &ResponseSpans, held: usize) -> Progress
-    requires fields { All (IsHeaderWithin (length front.now)) fields.now }
+fn behind_head(front: &[u8], spans: &[HeaderSpan], head: &ResponseSpans, held: usize) -> Progress
+    requires fields { All (IsHeaderWithin (length front.now)) spans.now }
     requires within { head.now.len ≤ held }
     ensures { result ≡ progress_of head.now.code head.now.len
-        (length_by (length_values (map (header_bytes front.now) fields.now))) held }
+        (length_by (stated_length (map (header_bytes front.now) spans.now))) held }
 {
     if head.code == INTERIM_STATUS {
         return Progress::Interim(head.len);
     }
-    match body_length(front, fields) {
+    let bytes = front;
+    match body_length(&Fields { bytes, spans }) {
         None => Progress::Never,
         Some(length) if held - head.len < length => Progress::More,
         Some(length) => Progress::Whole(Response {

@@ -2,10 +2,10 @@
 
 use crate::texts::{number_of, text_of, word};
 use http_answers::{
-    Answer, Status, fault_allow, fault_status, fault_text, memory_text, put_answer, put_interim,
-    store_fault_text,
+    Answer, fault_allow, fault_status, fault_text, memory_text, put_answer, put_interim,
+    status_line, store_fault_text,
 };
-use http_requests::{Allow, Fault, PathField};
+use http_words::{Allow, Fault, PathField, StatusCode};
 use link_io::{MemSink, Sink};
 use std::alloc::Global;
 use std::io;
@@ -22,18 +22,18 @@ const FAULTS: [Fault; 9] = [
     Fault::BadField(PathField::Search),
 ];
 
-const STATUSES: [Status; 11] = [
-    Status::Ok,
-    Status::BadRequest,
-    Status::NotFound,
-    Status::MethodNotAllowed,
-    Status::Conflict,
-    Status::LengthRequired,
-    Status::TooLarge,
-    Status::TooManyRequests,
-    Status::NotImplemented,
-    Status::Unavailable,
-    Status::NoStorage,
+const STATUSES: [StatusCode; 11] = [
+    StatusCode::Ok,
+    StatusCode::BadRequest,
+    StatusCode::NotFound,
+    StatusCode::MethodNotAllowed,
+    StatusCode::Conflict,
+    StatusCode::LengthRequired,
+    StatusCode::TooLarge,
+    StatusCode::TooManyRequests,
+    StatusCode::NotImplemented,
+    StatusCode::Unavailable,
+    StatusCode::NoStorage,
 ];
 
 // Puts an answer, or the interim one where there is none, into memory, where the put with a number fails. Prints how
@@ -73,7 +73,7 @@ fn print_faults(rt: &impl Print, alloc: Global) -> io::Result<()> {
 fn print_statuses(rt: &impl Print) -> io::Result<()> {
     println!(rt; "")?;
     for status in STATUSES.iter() {
-        println!(rt; "{:?}", text_of(status.line()))?;
+        println!(rt; "{:?}", text_of(status_line(*status)))?;
     }
     Ok(())
 }
@@ -82,7 +82,7 @@ fn print_statuses(rt: &impl Print) -> io::Result<()> {
 fn refusal(text: &str) -> Answer<'_> {
     let (said, body) = word(text);
     Answer {
-        status: Status::Conflict,
+        status: StatusCode::Conflict,
         allow: None,
         closes: said.contains("closes"),
         withheld: said.contains("withheld"),

@@ -1,7 +1,8 @@
-use Rattle.std.proofs.Common.{◌≡◌, ℕ, List, length, take, refl, ap, subst, ◌∙◌, rules}
+use Rattle.std.proofs.Common.{◌≡◌, ℕ, List, length, take, refl, ap, sym, subst, ◌∙◌, rules}
+use Rattle.std.specs.Str.{IsUtf8}
 use Rattle.httparse.specs.Grammar.{HasNoRequest, MayBecomeRequest}
 use Rattle.httparse.specs.Spans.{RequestOverflows}
-use Rattle.http_requests.specs.declared.limits.TheConstants.{MAX_HEAD_BYTES, MAX_FIELDS}
+use Rattle.http_words.specs.declared.limits.TheConstants.{MAX_HEAD_BYTES, MAX_FIELDS}
 use Rattle.http_requests.proofs.Parts.{at-HasHead, take-min}
 use Rattle.http_requests.proofs.Says.{never-headless}
 use Rattle.http_requests.proofs.next.next_of.Goals as goal
@@ -27,6 +28,12 @@ next_headless-requires c =
     never-headless c.args.ended held
     (subst (λ (n : ℕ). RequestOverflows n (take MAX_HEAD_BYTES held)) room
     (subst (λ (l : List ℕ). RequestOverflows (length spans) l) front c.in-Never.ensures.says))
+
+-- the target of a head is a text
+pub next-requires-clause-text : goal.next-requires-clause-text
+next-requires-clause-text c =
+    let found = c.in-Head.ensures.says.1 in
+    subst IsUtf8 (sym (c.of.ensures found.0 found.1).target) found.1.reads.0.target_text
 
 pub returns-in-Head : goal.returns-in-Head
 returns-in-Head c =

@@ -1,6 +1,6 @@
 use Rattle.std.proofs.Common.{sym, arith}
 use Rattle.std.proofs.lemmas.List.{take_all}
-use Rattle.http_responses.specs.declared.limits.TheConstants.{MAX_HEAD_BYTES}
+use Rattle.http_words.specs.declared.limits.TheConstants.{MAX_HEAD_BYTES}
 use Rattle.http_responses.proofs.reading.front_of.Goals as goal
 
 pub returns-then-held-lt-MAX_HEAD_BYTES : goal.returns-then-held-lt-MAX_HEAD_BYTES

@@ -3,7 +3,7 @@ use Rattle.httparse.specs.Grammar.{HasNoResponse, MayBecomeResponse}
 use Rattle.httparse.specs.Spans.{IsResponseOf, IsResponseWithin, ResponseOverflows}
 use Rattle.http_responses.proofs.Heads.{take-short}
 use Rattle.http_responses.proofs.Says.{complete-of, partial-of, says-found, says-full, says-more, says-never}
-use Rattle.http_responses.specs.declared.limits.TheConstants.{MAX_FIELDS, MAX_HEAD_BYTES}
+use Rattle.http_words.specs.declared.limits.TheConstants.{MAX_FIELDS, MAX_HEAD_BYTES}
 use Rattle.http_responses.proofs.reading.read_response.Goals as goal
 
 pub behind_head-requires-clause-within : goal.behind_head-requires-clause-within

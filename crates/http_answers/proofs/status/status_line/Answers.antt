@@ -1,6 +1,6 @@
 use Rattle.std.proofs.Common.{sym, ap}
 use Rattle.http_answers.specs.Answers.{status_line}
-use Rattle.http_answers.proofs.status.Status.line.Goals as goal
+use Rattle.http_answers.proofs.status.status_line.Goals as goal
 
 pub returns-in-Ok : goal.returns-in-Ok
 unfolding status_line
