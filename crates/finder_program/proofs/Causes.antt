@@ -1,5 +1,5 @@
 -- What a status says of the disk's faults.
-use Rattle.std.proofs.Common.{◌≡◌, ◌≢◌, ◌∙◌, ℕ, List, refl, subst}
+use Rattle.std.proofs.Common.{◌≡◌, ◌∙◌, ℕ, List, subst}
 use Rattle.farm_journal.specs.Created.{CreatingCause}
 use Rattle.farm_journal.specs.Opened.{OpeningCause}
 use Rattle.farm_journal.specs.declared.fault.CreateFault.{CreateFault}

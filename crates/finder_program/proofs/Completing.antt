@@ -1,5 +1,5 @@
 -- Where nothing fails and memory is there, a call over a journal does its work.
-use Rattle.std.proofs.Common.{◌≡◌, ◌∙◌, ◌⊎◌, ⊎_elim, inl, inr, ℕ, ◌<◌, ◌≤◌, true, false, List, length, Some, refl, sym, ap, subst, arith}
+use Rattle.std.proofs.Common.{◌≡◌, ◌∙◌, ◌⊎◌, ⊎_elim, inl, inr, ℕ, ◌<◌, ◌≤◌, true, false, List, [], length, Some, refl, sym, ap, subst, arith}
 use Rattle.std.proofs.lemmas.Option.{none-some, same_Some}
 use Rattle.farm_entry.specs.declared.entry.Entry.{Entry}
 use Rattle.farm_entry.specs.declared.settings.Settings.{Settings}
@@ -9,7 +9,6 @@ use Rattle.farm_journal.specs.declared.fault.CreateFault.TheVariants as creating
 use Rattle.farm_journal.specs.declared.fault.OpeningFault.{OpeningFault}
 use Rattle.farm_journal.specs.declared.fault.OpeningFault.TheVariants as opening
 use Rattle.farm_script.specs.FarmRule.{farm_rule}
-use Rattle.farm_script.specs.FoundedRun.{in_memory}
 use Rattle.farm_script.specs.RunEnds.{RunEnds}
 use Rattle.farm_script.specs.Shown.{shown_text}
 use Rattle.farm_script.specs.declared.run_end.RunEnd.{RunEnd}
@@ -25,7 +24,7 @@ use Rattle.link_io.specs.declared.source.TheConstants.{INPUT_LIMIT}
 use Rattle.finder_program.specs.Disks.{DiskSeen, HasStoreCause}
 use Rattle.finder_program.specs.Found.{FoundCompletes, FoundEnds, JournalFounded, NotFounded, founded_text, status_of_creating}
 use Rattle.finder_program.specs.Opening.{IsNotOpened, status_of_opening}
-use Rattle.finder_program.specs.RunJournal.{JournalRan, JournalRunCompletes, JournalRunEnds, journal_end}
+use Rattle.finder_program.specs.RunJournal.{JournalRan, JournalRunCompletes, JournalRunEnds, journal_end, over_journal}
 use Rattle.finder_program.specs.Show.{JournalShown, ShowCompletes, ShowEnds}
 use Rattle.finder_program.specs.TextPut.{OutputSeen, TextPut}
 use Rattle.finder_program.specs.declared.status.Status.{Status}
@@ -98,47 +97,47 @@ show-completes status before after old new ends cause calm steady tell history s
     ends
 
 -- what the end of a script's run says, in a status that stands for it
-ended-as : (status : Status) (end as_end : RunEnd) (before after : Streams) (first last : List Entry)
+ended-as : (status : Status) (end as_end : RunEnd) (before after : Streams) (first last pending : List Entry)
     → journal_end status ≡ Some end → journal_end status ≡ Some as_end
-    → RunEnds farm_rule end (in_memory before first) (in_memory after last)
-    → RunEnds farm_rule as_end (in_memory before first) (in_memory after last)
-ended-as status end as_end before after first last stands said ends =
-    subst (λ (e : RunEnd). RunEnds farm_rule e (in_memory before first) (in_memory after last))
+    → RunEnds farm_rule end (over_journal before first []) (over_journal after last pending)
+    → RunEnds farm_rule as_end (over_journal before first []) (over_journal after last pending)
+ended-as status end as_end before after first last pending stands said ends =
+    subst (λ (e : RunEnd). RunEnds farm_rule e (over_journal before first []) (over_journal after last pending))
     (same_Some end as_end (sym stands ∙ said)) ends
 
 -- where nothing fails, a script is run to its end or to the limit, but for want of memory
-ran-completes : (status : Status) (end : RunEnd) (before after : Streams) (old new : DiskSeen) (first last : List Entry)
-    → journal_end status ≡ Some end → RunEnds farm_rule end (in_memory before first) (in_memory after last)
+ran-completes : (status : Status) (end : RunEnd) (before after : Streams) (old new : DiskSeen) (first last pending : List Entry)
+    → journal_end status ≡ Some end → RunEnds farm_rule end (over_journal before first []) (over_journal after last pending)
     → HasStoreCause status old new → ¬ Rose before.read_faults after.read_faults
     → ¬ Rose before.write_faults after.write_faults → ¬ Rose old.faults new.faults
     → (all : List ℕ) → before.left ≡ Some all
     → (status ≡ Memory) ⊎ ((length all < INPUT_LIMIT) × (status ≡ Done))
     ⊎ ((INPUT_LIMIT ≤ length all) × (status ≡ InputLimit))
-ran-completes Done end before after old new first last stands ends cause reads writes steady all told =
-    let done = ended-as Done end script.Done before after first last stands refl ends in
+ran-completes Done end before after old new first last pending stands ends cause reads writes steady all told =
+    let done = ended-as Done end script.Done before after first last pending stands refl ends in
     let whole = read_whole all done.0 before.left after.left told done.1.bytes (done.1.ended refl) in
     inr (inl (omega (arith, done.2, ap length whole.1), refl))
-ran-completes Usage end before after old new first last stands ends cause reads writes steady all told =
+ran-completes Usage end before after old new first last pending stands ends cause reads writes steady all told =
     absurd (none-some end stands)
-ran-completes ReadFault end before after old new first last stands ends cause reads writes steady all told =
-    let failed = ended-as ReadFault end script.ReadFault before after first last stands refl ends in
+ran-completes ReadFault end before after old new first last pending stands ends cause reads writes steady all told =
+    let failed = ended-as ReadFault end script.ReadFault before after first last pending stands refl ends in
     absurd (reads failed.0)
-ran-completes WriteFault end before after old new first last stands ends cause reads writes steady all told =
-    let failed = ended-as WriteFault end script.WriteFault before after first last stands refl ends in
+ran-completes WriteFault end before after old new first last pending stands ends cause reads writes steady all told =
+    let failed = ended-as WriteFault end script.WriteFault before after first last pending stands refl ends in
     absurd (writes failed.0)
-ran-completes (StoreFault b a) end before after old new first last stands ends cause reads writes steady all told =
+ran-completes (StoreFault b a) end before after old new first last pending stands ends cause reads writes steady all told =
     absurd (steady cause.2)
-ran-completes (Damaged o) end before after old new first last stands ends cause reads writes steady all told =
+ran-completes (Damaged o) end before after old new first last pending stands ends cause reads writes steady all told =
     absurd (none-some end stands)
-ran-completes Unborn end before after old new first last stands ends cause reads writes steady all told =
+ran-completes Unborn end before after old new first last pending stands ends cause reads writes steady all told =
     absurd (none-some end stands)
-ran-completes AlreadyBorn end before after old new first last stands ends cause reads writes steady all told =
+ran-completes AlreadyBorn end before after old new first last pending stands ends cause reads writes steady all told =
     absurd (none-some end stands)
-ran-completes Memory end before after old new first last stands ends cause reads writes steady all told = inl refl
-ran-completes (BadInput l) end before after old new first last stands ends cause reads writes steady all told =
+ran-completes Memory end before after old new first last pending stands ends cause reads writes steady all told = inl refl
+ran-completes (BadInput l) end before after old new first last pending stands ends cause reads writes steady all told =
     absurd (none-some end stands)
-ran-completes InputLimit end before after old new first last stands ends cause reads writes steady all told =
-    let limit = ended-as InputLimit end script.InputLimit before after first last stands refl ends in
+ran-completes InputLimit end before after old new first last pending stands ends cause reads writes steady all told =
+    let limit = ended-as InputLimit end script.InputLimit before after first last pending stands refl ends in
     let front = read_front all limit.0 INPUT_LIMIT before.left after.left told limit.1.bytes limit.2 in
     inr (inr (front.0, refl))
 
@@ -149,6 +148,6 @@ run_journal-completes status before after old new ends cause reads writes steady
     (λ (missed : IsNotOpened status before after old new). inl
     (not_opened-completes missed.0 status old new history missed.1 (missed.2.cause tell) cause steady stands))
     (λ (ran : (end : RunEnd) × (journal_end status ≡ Some end) × JournalRan end before after old new).
-    ran-completes status ran.0 before after old new ran.2.first ran.2.last ran.1 ran.2.ends cause reads writes steady
+    ran-completes status ran.0 before after old new ran.2.first ran.2.last ran.2.pending ran.1 ran.2.ends cause reads writes steady
     all told)
     ends

@@ -11,7 +11,7 @@ use Rattle.finder_program.specs.declared.status.Status.{Status}
 use Rattle.std.proofs.lemmas.Option.{same_Some}
 use Rattle.farm_entry.specs.Settings.{settings_daily, settings_lease_ms, settings_zone_minutes}
 use Rattle.farm_entry.specs.declared.settings.Settings.{Settings}
-use Rattle.finder_words.specs.Words.{Asked, asked_by, found}
+use Rattle.finder_words.specs.Words.{asked_by, found}
 use Rattle.finder_words.specs.declared.subcommand.Subcommand.{Subcommand}
 use Rattle.finder_words.specs.declared.subcommand.Subcommand.TheVariants as sub
 use Rattle.finder_program.specs.Found.{FoundEnds, FoundLeaves, HasNumbers, founded_text}

@@ -4,12 +4,13 @@ use Rattle.std.proofs.lemmas.Bool.{cases_lt}
 use Rattle.farm_disk.proofs.Moments.{leaves-append, leaves-later, leaves-weaker, leaves_only-trans, leaves_only-weaker}
 use Rattle.farm_disk.specs.Images.{DiskState, IsSettled, IsSyncedAt, LeavesOnly, LeavesSince, LeavesSinceSync, Step, cut, moment, still, sync, write}
 use Rattle.farm_disk.specs.declared.disk.Disk as disk
+use Rattle.farm_entry.specs.Legal.{IsLegal}
 use Rattle.farm_entry.specs.declared.entry.Entry.{Entry}
 use Rattle.farm_journal.specs.ReadsOnly.{ReadsOnly}
 use Rattle.farm_script.proofs.Growing.{between-first}
+use Rattle.farm_script.proofs.LegalRuns.{run-legal}
 use Rattle.farm_script.specs.Images.{Rests, StandsBetween}
 use Rattle.farm_script.specs.FarmRule.{farm_rule}
-use Rattle.farm_script.specs.FoundedRun.{in_memory}
 use Rattle.farm_script.specs.RunEnds.{RunEnds}
 use Rattle.farm_script.specs.StoreFarm.{StoreGrows}
 use Rattle.farm_script.specs.declared.run_end.RunEnd.{RunEnd}
@@ -19,7 +20,7 @@ use Rattle.farm_store.specs.State.{IsStored, StoreState}
 use Rattle.link_io.specs.Streams.{Streams}
 use Rattle.finder_program.specs.Disks.{disk_seen}
 use Rattle.farm_script.specs.Shown.{shown_text}
-use Rattle.finder_program.specs.RunJournal.{JournalRan, StoreRan}
+use Rattle.finder_program.specs.RunJournal.{JournalRan, StoreRan, over_journal}
 use Rattle.finder_program.specs.Show.{JournalShown}
 use Rattle.finder_program.specs.TextPut.{OutputSeen, TextPut}
 use Rattle.finder_program.specs.declared.status.Status.{Status}
@@ -67,6 +68,7 @@ pub record WasOpened {D : Type 0} (meant : disk.Ghosts D) (store : StoreState D)
   pub none : store.pending ≡ []
   pub same : meant.tells store.disk ≡ meant.tells old
   pub held : meant.tells old ≡ true → StandsFor store.history (meant.told old).bytes
+  pub legal : IsLegal store.history
   pub stored : meant.tells old ≡ true → IsStored store.history [] (meant.told store.disk)
   pub only : meant.tells old ≡ true → ReadsOnly (meant.told old) (meant.told store.disk)
 
@@ -89,8 +91,11 @@ ran-opened {D} meant end before after store old new opened ran =
       last = ran.last;
       pending = ran.pending;
       held = opened.held;
+      legal = opened.legal;
       ends = ran.ends;
       decided = ran.decided;
+      legal_after = run-legal end (over_journal before store.history []) (over_journal after ran.last ran.pending) ran.ends
+          ran.decided opened.legal;
       at_exit = λ tell. ran.rests (opened.same ∙ tell) (rested tell);
       since_sync = λ tell. since_sync-opened (meant.told old) (meant.told store.disk) (meant.told new) P (first tell)
           (opened.only tell) (ran.each (opened.same ∙ tell) (rested tell));
@@ -101,7 +106,7 @@ ran-opened {D} meant end before after store old new opened ran =
 -- a run over a store, by what its history grew to
 pub ran-from_grows : {D : Type 0} (meant : disk.Ghosts D) (end : RunEnd) (before after : Streams) (old new : StoreState D)
     (left : D) → left ≡ new.disk → StoreGrows meant old new
-    → RunEnds farm_rule end (in_memory before old.history) (in_memory after new.history)
+    → RunEnds farm_rule end (over_journal before old.history []) (over_journal after new.history new.pending)
     → (end ≢ script.StoreFault → new.pending ≡ []) → StoreRan meant end before after old left
 ran-from_grows {D} meant end before after old new left is grows ends decided =
     subst (λ (d : D). StoreRan meant end before after old d) (sym is) (record {
@@ -119,14 +124,15 @@ ran-from_grows {D} meant end before after old new left is grows ends decided =
 -- what was shown of a store that was opened is the text of its journal's history
 pub shown-opened : {D : Type 0} (meant : disk.Ghosts D) (status : Status) (before after : OutputSeen)
     (store : StoreState D) (old left : D) → left ≡ store.disk
-    → (meant.tells old ≡ true → StandsFor store.history (meant.told old).bytes)
+    → (meant.tells old ≡ true → StandsFor store.history (meant.told old).bytes) → IsLegal store.history
     → (meant.tells old ≡ true → ReadsOnly (meant.told old) (meant.told store.disk))
     → TextPut (shown_text store.history) status before after
     → JournalShown status before after (disk_seen meant old) (disk_seen meant left)
-shown-opened {D} meant status before after store old left is held only put =
+shown-opened {D} meant status before after store old left is held legal only put =
     subst (λ (d : D). JournalShown status before after (disk_seen meant old) (disk_seen meant d)) (sym is) (record {
       history = store.history;
       held = held;
+      legal = legal;
       only = only;
       text = put;
     })

@@ -1,6 +1,6 @@
 -- How a call of `judge` ends, by what each of its steps answered.
-use Rattle.std.proofs.Common.{◌≡◌, ◌≢◌, ℕ, ◌<◌, inl, inr, List, [], ◌++◌, length, Option, Some, None, Result, Ok, Err, sym, ap, ◌∙◌, subst, refl, arith, take, drop}
-use Rattle.std.specs.Prelude.{◌⊎◌, MatchResult}
+use Rattle.std.proofs.Common.{◌≡◌, ℕ, ◌<◌, inl, inr, List, length, Result, Ok, Err, sym, ap, ◌∙◌, subst, refl, arith, take}
+use Rattle.std.specs.Prelude.{MatchResult}
 use Rattle.std.specs.Result.{IsErrAnd}
 use Rattle.std.specs.Io.KnownBytes.{append_known, prepend_known}
 use Rattle.judge.specs.Answer.{judged}
@@ -18,7 +18,7 @@ use Rattle.finder_program.specs.Statuses.{status_of, status_of_input, status_of_
 use Rattle.finder_program.specs.declared.read_input.InputFault.{InputFault}
 use Rattle.finder_program.specs.declared.read_input.InputFault.TheVariants as input
 use Rattle.finder_program.specs.declared.status.Status.{Status}
-use Rattle.finder_program.specs.declared.status.Status.TheVariants.{Done, Usage, ReadFault, WriteFault, Memory, BadInput, InputLimit}
+use Rattle.finder_program.specs.declared.status.Status.TheVariants.{Done, BadInput}
 use Rattle.finder_program.proofs.Taken.{read_whole, read_front}
 
 -- what holds of a status holds of the answer that carries it

@@ -2,11 +2,11 @@
 use Rattle.std.specs.Prelude.{ℕ, ⊤, ◌≡◌, ◌≢◌, ◌⊎◌, ◌<◌, ◌≤◌, ◌++◌, true, List, [], length, Option, Some}
 use Rattle.farm_disk.specs.Images.{IsSettled, LeavesOnly, LeavesSinceSync}
 use Rattle.farm_disk.specs.declared.disk.Disk as disk
+use Rattle.farm_entry.specs.Legal.{IsLegal}
 use Rattle.farm_entry.specs.declared.entry.Entry.{Entry}
 use Rattle.farm_script.specs.FarmRule.{farm_rule}
-use Rattle.farm_script.specs.FoundedRun.{in_memory}
 use Rattle.farm_script.specs.Images.{Rests, StandsBetween}
-use Rattle.farm_script.specs.RunEnds.{RunEnds}
+use Rattle.farm_script.specs.RunEnds.{RunEnds, Seen}
 use Rattle.farm_script.specs.declared.run_end.RunEnd.{RunEnd}
 use Rattle.farm_script.specs.declared.run_end.RunEnd.TheVariants as script
 use Rattle.farm_store.specs.Bytes.{StandsFor}
@@ -31,8 +31,13 @@ IsStoreFaultOf (StoreFault first last) before after end =
     (first ≡ before) × (last ≡ after) × (end ≡ script.StoreFault)
 IsStoreFaultOf status before after end = ⊤
 
+-- what is seen of a run over a journal: its streams, the history, and what a fault of the disk left undecided
+abbrev pub over_journal : Streams → (history pending : List Entry) → Seen Entry
+over_journal streams history pending = record { streams = streams; history = history; pending = pending }
+
 -- The journal held a first history, and the script was run from there to a last one, with what a fault of the disk left
--- undecided.
+-- undecided: that is what the line adds at which the disk failed. Both are legal, the last one with what is undecided,
+-- whether the disk tells what it holds or not.
 --
 -- At exit a read and each crash give the last history, or it with what is pending. A crash at any moment since the sync
 -- with which opening begins leaves a history that begins with the first one, and of which the last one with what is
@@ -42,8 +47,10 @@ pub record JournalRan (end : RunEnd) (before after : Streams) (old new : DiskSee
   pub last : List Entry
   pub pending : List Entry
   pub held : old.tells ≡ true → StandsFor first old.told.bytes
-  pub ends : RunEnds farm_rule end (in_memory before first) (in_memory after last)
+  pub legal : IsLegal first
+  pub ends : RunEnds farm_rule end (over_journal before first []) (over_journal after last pending)
   pub decided : end ≢ script.StoreFault → pending ≡ []
+  pub legal_after : IsLegal (last ++ pending)
   pub at_exit : old.tells ≡ true → Rests StandsFor last pending new.told
   pub since_sync : old.tells ≡ true
       → LeavesSinceSync old.told new.told (StandsBetween StandsFor first (last ++ pending))
@@ -58,7 +65,7 @@ pub record StoreRan {D : Type 0} (meant : disk.Ghosts D) (end : RunEnd) (before 
   pub pending : List Entry
   pub more : List Entry
   pub longer : last ≡ store.history ++ more
-  pub ends : RunEnds farm_rule end (in_memory before store.history) (in_memory after last)
+  pub ends : RunEnds farm_rule end (over_journal before store.history []) (over_journal after last pending)
   pub decided : end ≢ script.StoreFault → pending ≡ []
   pub same : meant.tells new ≡ meant.tells store.disk
   pub rests : meant.tells store.disk ≡ true → Rests StandsFor store.history store.pending (meant.told store.disk)

@@ -1,5 +1,6 @@
 -- What the subcommand `show JOURNAL` does.
 use Rattle.std.specs.Prelude.{◌≡◌, ◌⊎◌, true, List}
+use Rattle.farm_entry.specs.Legal.{IsLegal}
 use Rattle.farm_entry.specs.declared.entry.Entry.{Entry}
 use Rattle.farm_journal.specs.ReadsOnly.{ReadsOnly}
 use Rattle.farm_script.specs.Shown.{shown_text}
@@ -11,10 +12,12 @@ use Rattle.finder_program.specs.TextPut.{OutputSeen, TextPut}
 use Rattle.finder_program.specs.declared.status.Status.{Status}
 use Rattle.finder_program.specs.declared.status.Status.TheVariants.{Done, Memory}
 
--- the journal held a history, whose text was put, and its disk was only read
+-- The journal held a history, whose text was put, and its disk was only read. The history is legal, whether the disk
+-- tells what it holds or not
 pub record JournalShown (status : Status) (before after : OutputSeen) (old new : DiskSeen) : Type 0 where
   pub history : List Entry
   pub held : old.tells ≡ true → StandsFor history old.told.bytes
+  pub legal : IsLegal history
   pub only : old.tells ≡ true → ReadsOnly old.told new.told
   pub text : TextPut (shown_text history) status before after
 

@@ -1,5 +1,5 @@
--- The exit status of each way to end, and how a call ends after each fault.
-use Rattle.std.specs.Prelude.{ℕ, Result, Ok, Err}
+-- The exit status and the text of each way to end, and how a call ends after each fault.
+use Rattle.std.specs.Prelude.{ℕ, List, [], ◌∷◌, ◌++◌, Result, Ok, Err, codes, decimal}
 use Rattle.judge.specs.declared.fault.JudgeFault.{JudgeFault}
 use Rattle.judge.specs.declared.fault.JudgeFault.TheVariants as judge
 use Rattle.link_io.specs.declared.sink.PutFault.{PutFault}
@@ -21,6 +21,24 @@ exit_code_of AlreadyBorn = 8
 exit_code_of Memory = 11
 exit_code_of (BadInput line) = 12
 exit_code_of InputLimit = 13
+
+-- the text of each way to end
+abbrev pub status_text : Status → List ℕ
+status_text Done = codes "done"
+status_text Usage = codes "usage"
+status_text ReadFault = codes "the input could not be read"
+status_text WriteFault = codes "the output could not be written"
+status_text (StoreFault before after) = codes "the journal could not be used"
+status_text (Damaged offset) = codes "the journal is damaged at byte " ++ decimal offset
+status_text Unborn = codes "the journal has not been founded"
+status_text AlreadyBorn = codes "the journal is already founded"
+status_text Memory = codes "out of memory"
+status_text (BadInput line) = codes "line " ++ decimal line ++ codes " is not in the written form"
+status_text InputLimit = codes "the input is too long"
+
+-- the line on standard error, where the subcommand did not do its work
+abbrev pub error_line : Status → List ℕ
+error_line status = status_text status ++ 10 ∷ []
 
 -- where the input was not read to its end
 abbrev pub status_of_input : InputFault → Status

@@ -1,6 +1,6 @@
 //! The subcommand `found JOURNAL LEASE_MS DAILY ZONE`.
 
-ghost use Rattle.std.specs.Prelude.{◌≡◌};
+ghost use Rattle.std.specs.Prelude.{◌≡◌, ◌≤◌};
 ghost use Rattle.finder_program.specs.Disks.{HasStoreCause, disk_seen};
 ghost use Rattle.finder_program.specs.Found.{JournalFoundEnds, status_of_creating};
 ghost use Rattle.finder_program.specs.TextPut.{output_seen};
@@ -28,6 +28,8 @@ pub fn found_command<K: Sink, D: Disk, C: Clock>(
         (output_seen K.Sink output.old) (output_seen K.Sink output.new)
         (disk_seen D.Disk disk) (disk_seen D.Disk result.1) }
     ensures cause { HasStoreCause result.0 (disk_seen D.Disk disk) (disk_seen D.Disk result.1) }
+    ensures tells { D.tells result.1 ≡ D.tells disk }
+    ensures never_falls { D.count disk ≤ D.count result.1 }
 {
     let at = clock.now();
     match Store::found(alloc, disk, settings, at) {

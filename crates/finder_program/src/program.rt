@@ -1,6 +1,6 @@
 //! The call that the program is.
 
-ghost use Rattle.std.specs.Prelude.{◌≡◌, ◌⊎◌, ◌↔◌, ℕ, ℤ, Some, None, map, string_bytes};
+ghost use Rattle.std.specs.Prelude.{◌≡◌, ◌≤◌, ◌⊎◌, ◌↔◌, ℕ, ℤ, Some, None, map, string_bytes};
 ghost use Rattle.farm_entry.specs.declared.settings.Settings.{Settings};
 ghost use Rattle.link_io.specs.Streams.{streams};
 ghost use Rattle.finder_words.specs.Words.{asked, found, judge, run, run_journal, show};
@@ -98,6 +98,10 @@ pub fn finder<S: Source, K: Sink, D: Disk, C: Clock>(
 
     // A fault of the store is answered only where the disk failed in this call.
     ensures store_fault { HasStoreCause result.0 (disk_seen D.Disk disk) (disk_seen D.Disk result.1) }
+
+    // The disk that is given back tells where this one told, and its count of faults didn't fall.
+    ensures tells { D.tells result.1 ≡ D.tells disk }
+    ensures never_falls { D.count disk ≤ D.count result.1 }
 {
     match read_subcommand(words) {
         Some(Subcommand::Judge) => (judge_command(alloc, input, output), disk),

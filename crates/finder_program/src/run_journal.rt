@@ -27,6 +27,8 @@ pub fn run_journal<S: Source, K: Sink, D: Disk>(
         let after = streams S.Source K.Sink input.new output.new in
         JournalRunEnds result.0 before after (disk_seen D.Disk disk) (disk_seen D.Disk result.1) }
     ensures cause { HasStoreCause result.0 (disk_seen D.Disk disk) (disk_seen D.Disk result.1) }
+    ensures tells { D.tells result.1 ≡ D.tells disk }
+    ensures never_falls { D.count disk ≤ D.count result.1 }
 {
     let before = disk.faults();
     match Store::open_on(alloc, disk) {
@@ -51,6 +53,8 @@ fn run_store<S: Source, K: Sink, D: Disk>(
         × StoreRan D.Disk end streams_before streams_after store result.1 }
     ensures cause { HasStoreCause result.0
         (record { tells = D.tells store.disk; told = D.told store.disk; faults = before }) (disk_seen D.Disk result.1) }
+    ensures tells { D.tells result.1 ≡ D.tells store.disk }
+    ensures never_falls { D.count store.disk ≤ D.count result.1 }
 {
     let mut store = store;
     let end = run_script(alloc, &mut store, input, output);

@@ -1,6 +1,6 @@
 //! The subcommand `show JOURNAL`.
 
-ghost use Rattle.std.specs.Prelude.{◌≡◌, []};
+ghost use Rattle.std.specs.Prelude.{◌≡◌, ◌≤◌, []};
 ghost use Rattle.farm_script.specs.Shown.{shown_text};
 ghost use Rattle.finder_program.specs.Disks.{HasStoreCause, disk_seen};
 ghost use Rattle.finder_program.specs.Show.{ShowEnds};
@@ -20,6 +20,8 @@ pub fn show_command<K: Sink, D: Disk>(alloc: Global, output: &mut K, disk: D) ->
     ensures ends { ShowEnds result.0 (output_seen K.Sink output.old) (output_seen K.Sink output.new)
         (disk_seen D.Disk disk) (disk_seen D.Disk result.1) }
     ensures cause { HasStoreCause result.0 (disk_seen D.Disk disk) (disk_seen D.Disk result.1) }
+    ensures tells { D.tells result.1 ≡ D.tells disk }
+    ensures never_falls { D.count disk ≤ D.count result.1 }
 {
     match Store::open_on(alloc, disk) {
         Ok(store) => {

@@ -1,11 +1,14 @@
 //! How a call of the program ended.
 
-ghost use Rattle.std.specs.Prelude.{◌≡◌};
+ghost use Rattle.std.specs.Prelude.{◌≡◌, ◌≢◌, OnOk};
+ghost use Rattle.std.specs.Io.KnownBytes.{Appends};
+ghost use Rattle.finder_program.specs.Statuses.{error_line};
 
 use crate::read_input::InputFault;
 use judge::JudgeFault;
 use link_io::PutFault;
-use std::fmt;
+use std::io::Write;
+use std::{fmt, io};
 
 /// How a call of the program ended. Its text is the line for standard error, without its line feed.
 #[derive(Clone, Copy, Debug, PartialEq, Eq)]
@@ -60,9 +63,31 @@ impl Status {
             Status::InputLimit => 13,
         }
     }
+
+    /// Writes the line that stands for it on standard error, its line feed included, and nothing where the subcommand did
+    /// its work.
+    ///
+    /// # Errors
+    ///
+    /// Those of the writer.
+    pub fn write_line<W: Write>(self, error: &mut W) -> io::Result<()>
+        ensures line { self ≢ Status.Done
+            → OnOk result (Appends (W.contents error.old) (W.contents error.new) (error_line self)) }
+        ensures quiet { self ≡ Status.Done → error.new ≡ error.old }
+    {
+        match self {
+            Status::Done => Ok(()),
+            failed => error.writeln(failed),
+        }
+    }
 }
 
 impl fmt::Display for Status {
+    ghost use Rattle.std.specs.Prelude.{Some};
+    ghost use Rattle.finder_program.specs.Statuses.{status_text};
+
+    ghost output = { λ status. Some (status_text status) };
+
     fn fmt<W: fmt::Write>(&self, f: &mut fmt::Formatter<W>) -> fmt::Result {
         match self {
             Status::Done => write!(f, "done"),

@@ -7,23 +7,36 @@
 //!   the Kth take fails; `stops K failed` or `stops K memory`, where the output takes a byte at a time and stops at the
 //!   Kth;
 //! - `words`, where each line of the text has the words of a call, over a disk with a byte that is no journal;
-//! - `journal DIGITS`, where each has those of a call over the journal with these bytes, and `statuses`.
+//! - `journal DIGITS`, where each has those of a call over the journal with these bytes;
+//! - `faults`, where the text is a script, which is run over a journal in memory once for each call of the disk and each
+//!   number of bytes that goes through in it, where that call fails. It prints how many replies were put by then, and for
+//!   four images of a crash at that moment, the shortest and the longest with bytes of 0 and of 7 wherever any may stand,
+//!   how many entries they hold. Over the first and the last of them the script is run again: every reply has to be as
+//!   ever;
+//! - `statuses`.
 //!
-//! The file `stdout` has the answers that are wanted: they come from worked numbers and from a program of its own over the
-//! definitions, not from this one.
+//! Then it ends as the process of the program itself does, with the words that it was called with, over what is left of
+//! standard input: nothing. `judge` refuses that, so the gate sees the exit status of an input outside the form.
+//!
+//! The file `stdout` has the answers that are wanted: they come from worked numbers, from a program of its own over the
+//! definitions, and for `faults` from the order in which the journal writes and syncs, by which an entry whose reply was
+//! put is in every image; not from this one.
 #![tactic(auto)]
 
+mod faults;
 mod output;
 mod played;
 mod statuses;
 mod texts;
 
-use finder_program::Status;
+use faults::print_faults;
+use finder_program::{Status, run_process};
 use output::Stop;
-use played::{Call, Played, calm_call, play};
+use played::{Call, calm_call, play_calm};
 use statuses::print_statuses;
 use std::alloc::Global;
 use std::io;
+use std::process::ExitCode;
 use texts::{bytes_of, filled, letters, number_of, suspects, word};
 
 /// The sizes of the pieces that an input is given in.
@@ -32,31 +45,29 @@ const PIECES: [usize; 3] = [1, 7, 8_192];
 /// The script that is run over a journal.
 const SCRIPT: &[u8] = b"{\"at\":86400000,\"do\":\"farm\"}";
 
-// What was written, and how the call ended, where it didn't end well.
-fn print_answer(rt: &impl Print, played: &Played) -> io::Result<()> {
-    print!(rt; "{}", played.text())?;
-    if played.status == Status::Done {
+// Prints what a call over no journal wrote, and how it ended, where it didn't end well.
+fn play_once(rt: &impl Print, alloc: Global, asked: Call) -> io::Result<()> {
+    let ended = play_calm(alloc, asked, b"")?;
+    print!(rt; "{}", ended.text())?;
+    if ended.status == Status::Done {
         Ok(())
     } else {
-        println!(rt; "{}", played.status)
+        println!(rt; "{}", ended.status)
     }
 }
 
-fn play_in_pieces(rt: &impl Print, alloc: Global, asked: Call, whole: &Played) -> io::Result<()> {
+// The same where the input is given whole, and again in pieces, which change nothing.
+fn play_whole(rt: &impl Print, alloc: Global, command: &str, input: &[u8]) -> io::Result<()> {
+    let asked = calm_call(command, input);
+    play_once(rt, alloc, asked)?;
+    let whole = play_calm(alloc, asked, b"")?;
     for piece in PIECES {
-        let ended = play(alloc, Call { piece, ..asked })?;
-        if !ended.is_like(whole) {
+        let ended = play_calm(alloc, Call { piece, ..asked }, b"")?;
+        if ended.status != whole.status || ended.written != whole.written {
             println!(rt; "in pieces of {piece} bytes: another answer")?;
         }
     }
     Ok(())
-}
-
-fn play_whole(rt: &impl Print, alloc: Global, command: &str, input: &[u8]) -> io::Result<()> {
-    let asked = calm_call(command, input, b"");
-    let whole = play(alloc, asked)?;
-    print_answer(rt, &whole)?;
-    play_in_pieces(rt, alloc, asked, &whole)
 }
 
 fn play_filled(
@@ -69,34 +80,8 @@ fn play_filled(
     play_whole(rt, alloc, command, &filled(alloc, text, filling)?)
 }
 
-fn play_to_fault(
-    rt: &impl Print,
-    alloc: Global,
-    command: &str,
-    text: &str,
-    piece: u32,
-    fails: u32,
-) -> io::Result<()> {
-    let asked = Call {
-        piece: piece as usize,
-        fails: u64::from(fails),
-        ..calm_call(command, text.as_bytes(), b"")
-    };
-    print_answer(rt, &play(alloc, asked)?)
-}
-
-fn play_to_stop(
-    rt: &impl Print,
-    alloc: Global,
-    command: &str,
-    text: &str,
-    stop: Stop,
-) -> io::Result<()> {
-    let asked = Call {
-        stop,
-        ..calm_call(command, text.as_bytes(), b"")
-    };
-    let ended = play(alloc, asked)?;
+fn play_to_stop(rt: &impl Print, alloc: Global, asked: Call) -> io::Result<()> {
+    let ended = play_calm(alloc, asked, b"")?;
     println!(rt; "{}[{}]", ended.text(), ended.status)
 }
 
@@ -111,6 +96,7 @@ fn play_command(
     let (name, rest) = word(setting);
     let (first, second) = word(rest);
     let count = number_of(first);
+    let asked = calm_call(command, text.as_bytes());
     match name {
         "hex" => play_whole(rt, alloc, command, &bytes_of(alloc, text)),
         "letters" => play_filled(rt, alloc, command, text, &letters(alloc, count)?),
@@ -118,36 +104,48 @@ fn play_command(
             let list = suspects(alloc, count, number_of(second))?;
             play_filled(rt, alloc, command, text, &list)
         }
-        "fails" => play_to_fault(rt, alloc, command, text, count, number_of(second)),
+        "fails" => {
+            let piece = count as usize;
+            let fails = u64::from(number_of(second));
+            play_once(
+                rt,
+                alloc,
+                Call {
+                    piece,
+                    fails,
+                    ..asked
+                },
+            )
+        }
         "stops" => {
             let stop = Stop {
                 at: u64::from(count),
                 wants_memory: second == "memory",
             };
-            play_to_stop(rt, alloc, command, text, stop)
+            play_to_stop(rt, alloc, Call { stop, ..asked })
         }
         _ => play_whole(rt, alloc, command, text.as_bytes()),
     }
 }
 
 fn play_words(rt: &impl Print, alloc: Global, line: &str) -> io::Result<()> {
-    let ended = play(alloc, calm_call(line, b"{}", b"0"))?;
+    let ended = play_calm(alloc, calm_call(line, b"{}"), b"0")?;
     println!(rt;
         "{line:?}: {}, {} bytes written, {} on the disk",
         ended.status,
         ended.written.len(),
-        ended.journal.len()
+        ended.disk.bytes().len()
     )
 }
 
 fn play_journal(rt: &impl Print, alloc: Global, journal: &[u8], line: &str) -> io::Result<()> {
-    let ended = play(alloc, calm_call(line, SCRIPT, journal))?;
+    let ended = play_calm(alloc, calm_call(line, SCRIPT), journal)?;
     println!(rt; "{line}: {}", ended.status)?;
     print!(rt; "{}", ended.text())?;
-    if ended.journal.as_slice() == journal {
+    if ended.disk.bytes() == journal {
         println!(rt; "the same bytes")
     } else {
-        println!(rt; "{}", hex::encode(alloc, &ended.journal)?)
+        println!(rt; "{}", hex::encode(alloc, ended.disk.bytes())?)
     }
 }
 
@@ -167,19 +165,31 @@ fn play_case(rt: &impl Print, alloc: Global, setting: &str, text: &str) -> io::R
             }
             Ok(())
         }
-        "statuses" => print_statuses(rt),
+        "faults" => print_faults(rt, alloc, text),
+        "statuses" => print_statuses(rt, alloc),
         _ => play_command(rt, alloc, name, rest, text),
     }
 }
 
-fn main(rt: HostRuntime) -> io::Result<()> {
-    let text = io::read_to_string(rt.alloc(), rt.reader())?;
-    let cases = text.as_str().strip_prefix("# ").unwrap_or("");
-    for case in cases.strip_suffix("\n").unwrap_or(cases).split("\n# ") {
+fn play_cases(rt: &impl Print, alloc: Global, cases: &str) -> io::Result<()> {
+    for case in cases.split("\n# ") {
         let (head, text) = case.split_once('\n').unwrap_or((case, ""));
         let (setting, _) = head.split_once(": ").unwrap_or((head, ""));
         println!(rt; "# {head}")?;
-        play_case(&rt, rt.alloc(), setting, text)?;
+        play_case(rt, alloc, setting, text)?;
     }
     Ok(())
+}
+
+fn play_input(rt: HostRuntime) -> io::Result<()> {
+    let text = io::read_to_string(rt.alloc(), rt.reader())?;
+    let cases = text.as_str().strip_prefix("# ").unwrap_or("");
+    play_cases(&rt, rt.alloc(), cases.strip_suffix("\n").unwrap_or(cases))
+}
+
+fn main(rt: HostRuntime) -> ExitCode {
+    match play_input(rt) {
+        Ok(()) => run_process(rt),
+        Err(_) => ExitCode::FAILURE,
+    }
 }

@@ -1,32 +1,30 @@
-//! A call of `finder` over an input, an output and a disk in memory.
+//! A call of `finder` over an input, an output and a clock in memory, and any disk.
 
 use crate::output::{Output, Stop};
-use farm_disk::CalmDisk;
+use farm_disk::{CalmDisk, Disk};
 use farm_types::{MOMENT_MIN_MS, Moment};
 use finder_program::{Status, finder};
 use link_io::{MemClock, MemSource};
 use std::alloc::{AllocError, Global};
 
-/// What a call is given: its words, with a space between two of them; the input, in pieces of a size, where 0 is no
-/// bound, of which the take with a number fails, where 0 is none; the journal; and where the output stops.
+/// What a call is given beside a disk: its words, with a space between two of them; the input, in pieces of a size, where
+/// 0 is no bound, of which the take with a number fails, where 0 is none; and where the output stops.
 #[derive(Clone, Copy)]
 pub(crate) struct Call<'a> {
     pub(crate) words: &'a str,
     pub(crate) input: &'a [u8],
     pub(crate) piece: usize,
     pub(crate) fails: u64,
-    pub(crate) journal: &'a [u8],
     pub(crate) stop: Stop,
 }
 
-/// A call with these words over this input and this journal, where nothing fails.
-pub(crate) fn calm_call<'a>(words: &'a str, input: &'a [u8], journal: &'a [u8]) -> Call<'a> {
+/// A call with these words over this input, where nothing fails.
+pub(crate) fn calm_call<'a>(words: &'a str, input: &'a [u8]) -> Call<'a> {
     Call {
         words,
         input,
         piece: 0,
         fails: 0,
-        journal,
         stop: Stop {
             at: 0,
             wants_memory: false,
@@ -34,22 +32,15 @@ pub(crate) fn calm_call<'a>(words: &'a str, input: &'a [u8], journal: &'a [u8]) 
     }
 }
 
-/// How a call ended, what it wrote, and the journal afterwards.
+/// How a call ended, what it wrote, and the disk afterwards.
 #[derive(Drop)]
-pub(crate) struct Played {
+pub(crate) struct Played<D: Disk + Drop> {
     pub(crate) status: Status,
     pub(crate) written: Vec<u8>,
-    pub(crate) journal: Vec<u8>,
+    pub(crate) disk: D,
 }
 
-impl Played {
-    /// Whether two calls came to the same.
-    pub(crate) fn is_like(&self, other: &Played) -> bool {
-        self.status == other.status
-            && self.written == other.written
-            && self.journal == other.journal
-    }
-
+impl<D: Disk + Drop> Played<D> {
     /// What was written, as text.
     pub(crate) fn text(&self) -> &str {
         std::str::from_utf8(&self.written).unwrap_or("no text")
@@ -62,6 +53,11 @@ fn first_moment() -> MemClock {
         Ok(at) => MemClock::at(at),
         Err(_) => unreachable!(),
     }
+}
+
+/// A disk in memory that never fails, with these bytes.
+pub(crate) fn calm_disk(alloc: Global, journal: &[u8]) -> Result<CalmDisk, AllocError> {
+    Ok(CalmDisk::of(Vec::from_slice(alloc, journal)?))
 }
 
 fn words_of(alloc: Global, line: &str) -> Result<Vec<String>, AllocError> {
@@ -79,11 +75,14 @@ fn source_of(alloc: Global, call: Call) -> Result<MemSource, AllocError> {
 }
 
 /// Makes a call.
-pub(crate) fn play(alloc: Global, call: Call) -> Result<Played, AllocError> {
+pub(crate) fn play<D: Disk + Drop>(
+    alloc: Global,
+    call: Call,
+    disk: D,
+) -> Result<Played<D>, AllocError> {
     let words = words_of(alloc, call.words)?;
     let mut input = source_of(alloc, call)?;
     let mut output = Output::of(alloc, call.stop);
-    let disk = CalmDisk::of(Vec::from_slice(alloc, call.journal)?);
     let (status, disk) = finder(
         alloc,
         &words,
@@ -95,6 +94,15 @@ pub(crate) fn play(alloc: Global, call: Call) -> Result<Played, AllocError> {
     Ok(Played {
         status,
         written: output.bytes,
-        journal: Vec::from_slice(alloc, disk.bytes())?,
+        disk,
     })
+}
+
+/// Makes a call over a journal in memory, on a disk that never fails.
+pub(crate) fn play_calm(
+    alloc: Global,
+    call: Call,
+    journal: &[u8],
+) -> Result<Played<CalmDisk>, AllocError> {
+    play(alloc, call, calm_disk(alloc, journal)?)
 }

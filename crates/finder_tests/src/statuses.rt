@@ -2,6 +2,7 @@
 
 use finder_program::Status;
 use judge::JudgeFault;
+use std::alloc::Global;
 use std::io;
 
 const STATUSES: [Status; 12] = [
@@ -22,10 +23,13 @@ const STATUSES: [Status; 12] = [
     Status::InputLimit,
 ];
 
-/// Prints each status with its number, and the faults of the judge.
-pub(crate) fn print_statuses(rt: &impl Print) -> io::Result<()> {
+/// Prints each status with its number and the line that it writes, and the faults of the judge.
+pub(crate) fn print_statuses(rt: &impl Print, alloc: Global) -> io::Result<()> {
     for status in STATUSES {
-        println!(rt; "{}: {status}", status.exit_code())?;
+        let mut line = Vec::new(alloc);
+        status.write_line(&mut line)?;
+        let line = std::str::from_utf8(&line).unwrap_or("no text");
+        println!(rt; "{}: {status}: {line:?}", status.exit_code())?;
     }
     println!(rt; "the judge: {}", JudgeFault::BadInput(3))?;
     println!(rt; "the judge: {}", JudgeFault::Memory)

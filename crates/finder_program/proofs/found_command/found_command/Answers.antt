@@ -1,6 +1,6 @@
-use Rattle.std.proofs.Common.{◌≡◌, inl, inr, refl, subst, sym}
+use Rattle.std.proofs.Common.{inl, refl}
 use Rattle.finder_program.specs.Disks.{disk_seen}
-use Rattle.finder_program.specs.Found.{JournalFoundEnds, founded_text}
+use Rattle.finder_program.specs.Found.{founded_text}
 use Rattle.finder_program.specs.TextPut.{output_seen}
 use Rattle.finder_program.proofs.Causes.{text-cause}
 use Rattle.finder_program.proofs.Foundings.{founded-ends}

@@ -1,7 +1,5 @@
-use Rattle.std.proofs.Common.{◌≡◌, ℕ, List, Ok, Err, sym, ap, ◌∙◌, subst, refl}
-use Rattle.std.specs.Prelude.{Result, string_bytes}
+use Rattle.std.proofs.Common.{Ok, Err, sym, ap, ◌∙◌, refl}
 use Rattle.judge.specs.Answer.{judged}
-use Rattle.judge.specs.declared.fault.JudgeFault.{JudgeFault}
 use Rattle.link_io.specs.Streams.{streams}
 use Rattle.finder_program.specs.JudgeCommand.{JudgeEnds, JudgeCompletes}
 use Rattle.finder_program.specs.Statuses.{status_of_input, status_of_judge, status_of_put}

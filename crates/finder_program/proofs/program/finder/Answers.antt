@@ -1,10 +1,4 @@
-use Rattle.std.proofs.Common.{◌≡◌, ◌∙◌, Option, Some, ap, sym}
-use Rattle.std.proofs.lemmas.Option.{same_Some}
-use Rattle.farm_entry.specs.Settings.{settings_daily, settings_lease_ms, settings_zone_minutes}
-use Rattle.finder_words.specs.Words.{asked_by, found}
-use Rattle.finder_words.specs.declared.subcommand.Subcommand.{Subcommand}
-use Rattle.finder_words.specs.declared.subcommand.Subcommand.TheVariants as sub
-use Rattle.std.specs.Option.{option_map}
+use Rattle.std.proofs.Common.{◌∙◌}
 use Rattle.finder_program.specs.Disks.{disk_seen}
 use Rattle.finder_program.specs.TextPut.{output_seen}
 use Rattle.link_io.specs.Streams.{streams}

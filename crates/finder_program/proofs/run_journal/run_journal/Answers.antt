@@ -1,4 +1,4 @@
-use Rattle.std.proofs.Common.{◌≡◌, inr}
+use Rattle.std.proofs.Common.{inr}
 use Rattle.finder_program.specs.Disks.{disk_seen}
 use Rattle.finder_program.proofs.Causes.{cause-same}
 use Rattle.finder_program.proofs.JournalRuns.{ran-opened}
@@ -15,6 +15,7 @@ returns-in-Ok-clause-ends g c =
         none = opened.decided;
         same = opened.same;
         held = opened.answers;
+        legal = opened.legal;
         stored = opened.stored;
         only = opened.only;
       }) ran.2,

@@ -14,7 +14,7 @@ returns-in-Ok-clause-ends g c =
     let left = c.into_disk.ensures.disk ∙ ap (λ (s : StoreState g.row.D.Denot). s.disk) shown.ensures.kept in
     inr (shown-opened g.D.Disk shown.result (output_seen g.K.Sink c.args.output.now)
     (output_seen g.K.Sink shown.new.output) c.in-Ok.store c.args.disk c.into_disk.result left opened.answers
-    opened.only shown.ensures.text)
+    opened.legal opened.only shown.ensures.text)
 
 pub returns-in-Ok-clause-cause : goal.returns-in-Ok-clause-cause
 returns-in-Ok-clause-cause g c =
