@@ -19,8 +19,8 @@ fn all_digits(text: &[u8]) -> bool
     text.iter().all(|b| b.is_ascii_digit())
 }
 
-/// The number that one or more digits write, zeros in front among them, if it is at most `most`. `None` where the text is
-/// empty or a byte is no digit, and where the number is greater.
+/// The number that one or more digits write, zeros in front among them, if it is at most `most`. `None` where the text
+/// is empty or a byte is no digit, and where the number is greater.
 pub fn digits_up_to(text: &[u8], most: u32) -> Option<u32>
     ensures { result ≡ digits_up_to most text.now }
 {

@@ -9,3 +9,4 @@ pub mod ListLaws
 pub mod Told
 pub mod Openings
 pub mod Sizes
+pub mod LogPages

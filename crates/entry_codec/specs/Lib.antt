@@ -3,3 +3,4 @@ pub mod Values
 pub mod Reading
 pub mod Grammar
 pub mod Gives
+pub mod LogPage

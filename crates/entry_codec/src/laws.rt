@@ -2,6 +2,7 @@
 
 ghost use Rattle.std.specs.Prelude.{◌≡◌, ℕ, ◌≤◌, ◌*◌, List, ◌++◌, length, Contains, All, Some};
 ghost use Rattle.entry_codec.specs.Grammar.{AreSpelled, HasSpelling, IsBadAt, IsOpenedWithin, IsWithinLimits};
+ghost use Rattle.entry_codec.specs.LogPage.{IsLongestFront, front_within};
 ghost use Rattle.entry_codec.specs.Reading.{entry_at};
 ghost use Rattle.entry_codec.specs.Spelling.{entry_bytes, spelling};
 ghost use Rattle.entry_codec.specs.declared.limits.TheConstants.{MAX_ENTRY_BYTES};
@@ -41,6 +42,11 @@ pub fn entries_are_short()
         → (15 ≤ length (entry_bytes entry)) × (length (entry_bytes entry) ≤ MAX_ENTRY_BYTES) }
     ensures entries { (entries : List Entry) → AreSpelled entries
         → length (spelling entries) ≤ length entries * MAX_ENTRY_BYTES }
+{}
+
+/// What a log page holds is the longest front that fits, of the entries from the first one that it is to hold.
+pub fn fronts_within_are_longest()
+    ensures { (most : ℕ) (entries : List Entry) → IsLongestFront most entries (front_within most entries) }
 {}
 
 /// Entries can be written where each opening among them is as in a legal history, and so can entries that were read.

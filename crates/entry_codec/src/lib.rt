@@ -8,7 +8,7 @@
 //! each limit, on `byteorder` for the numbers, on `hex` for the word for bytes, and on `thiserror` for the texts of its
 //! faults. The layers above may use every name below. The definitions stand in `specs/`: `Spelling` (the bytes of an
 //! entry and of a list), `Grammar` (which entries have a spelling, and where bytes stop being one), `Values` and
-//! `Reading` (one entry from the front of some bytes, as a function on lists). The facts on them are [`laws`].
+//! `Reading` (one entry from the front of some bytes, as a function on lists), `LogPage` (what is handed on at once). The facts on them are [`laws`].
 #![tactic(auto)]
 
 mod entries;
@@ -17,17 +17,19 @@ mod fields;
 pub mod laws;
 mod limits;
 mod marks;
+mod page;
 mod parts;
 mod reading;
 mod values;
 mod writing;
 
 pub use fault::CodecFault;
-pub use limits::MAX_ENTRY_BYTES;
+pub use limits::{LOG_PAGE_BYTES, MAX_ENTRY_BYTES};
 pub use marks::{
     CANCELLED_TAG, COUNTED_MARK, FAIL_MARK, FOUNDED_TAG, LATE_MARK, LEASED_TAG, OPENED_TAG,
     OPENED_WITH_MISS_TAG, ORDERED_TAG, OVER_MARK, PASS_MARK, REPORTED_TAG, SEARCH_MARK,
     VERIFY_MARK,
 };
+pub use page::write_log_page;
 pub use reading::read_entries;
 pub use writing::write_entries;

@@ -268,7 +268,7 @@ fn put_fields(out: &mut Vec<u8>, what: &What) -> Result<(), Memory>
     }
 }
 
-fn put_entry(out: &mut Vec<u8>, entry: &Entry) -> Result<(), Memory>
+pub(crate) fn put_entry(out: &mut Vec<u8>, entry: &Entry) -> Result<(), Memory>
     requires { IsWithinLimits entry.now.what }
     ensures bytes { OnOk result (out.new.items ≡ out.old.items ++ entry_bytes entry.now) }
     ensures spelled { OnOk result (HasSpelling entry.now.what) }

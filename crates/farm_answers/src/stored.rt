@@ -1,8 +1,10 @@
 //! Commands answered by the farm of a store.
 
-ghost use Rattle.std.specs.Prelude.{◌≡◌, ◌≤◌, ◌++◌, [], true, List, IfOk, OnOk};
-ghost use Rattle.farm_disk.specs.Images.{LeavesOnly};
+ghost use Rattle.std.specs.Prelude.{◌≡◌, ◌≢◌, ◌≤◌, ◌<◌, ◌+◌, ◌++◌, [], true, List, IfOk, OnOk, length};
+ghost use Rattle.farm_disk.specs.Images.{LeavesOnly, moment};
 ghost use Rattle.farm_entry.specs.Legal.{IsLegal};
+ghost use Rattle.farm_journal.specs.Layout.{version_of};
+ghost use Rattle.farm_journal.specs.ReadsOnly.{ReadsOnly};
 ghost use Rattle.farm_store.specs.Faults.{HasCallCause};
 ghost use Rattle.farm_store.specs.State.{IsLeft, IsStored};
 ghost use Rattle.farm_answers.specs.Stored.{AnswerSays, as_batch};
@@ -29,8 +31,8 @@ pub enum CommandFault {
     Memory,
 }
 
-/// Answers a command at a moment, as [`Store::call`] does, where a refusal is an answer. A new entry is stored before its
-/// reply is given.
+/// Answers a command at a moment, as [`Store::call`] does, where a refusal is an answer. A new entry is stored before
+/// its reply is given.
 pub fn answer_stored<D: Disk>(
     alloc: Global,
     store: &mut Store<D>,
@@ -48,6 +50,12 @@ pub fn answer_stored<D: Disk>(
         → IsStored store.new.history store.new.pending (D.told store.new.disk) }
     ensures untouched { store.old.pending ≡ [] → store.new.history ≡ store.old.history
         → OnOk result (store.new.disk ≡ store.old.disk) }
+    ensures only { D.tells store.old.disk ≡ true → store.new.recorded ≡ 0
+        → OnOk result (ReadsOnly (D.told store.old.disk) (D.told store.new.disk)) }
+    ensures two_calls { D.tells store.old.disk ≡ true → store.old.pending ≢ [] → store.new.recorded ≡ 0
+        → OnOk result (moment (D.told store.new.disk) ≡ moment (D.told store.old.disk) + 2) }
+    ensures new_version { D.tells store.old.disk ≡ true → length store.old.history < length store.new.history
+        → OnOk result (version_of (D.told store.new.disk).bytes ≡ 2) }
     ensures cause { HasCallCause (as_batch result) (D.count store.old.disk) (D.count store.new.disk) }
     ensures never_falls { D.count store.old.disk ≤ D.count store.new.disk }
 {

@@ -8,8 +8,8 @@ use farm_types::Memory;
 use farm_wire::{refusal_text, reply_text};
 use std::alloc::Global;
 
-/// The text of an answer: a JSON object with no space in it, whose members stand in the order of their names. The days that
-/// it shows need dates, which those of each answer of a farm have.
+/// The text of an answer: a JSON object with no space in it, whose members stand in the order of their names. The days
+/// that it shows need dates, which those of each answer of a farm have.
 pub fn answer_text(alloc: Global, answer: &Answer) -> Result<String, Memory>
     requires { AnswerHasDates answer.now }
     ensures { IfOk result (λ text. string_bytes text ≡ answer_text answer.now) }

@@ -1,6 +1,6 @@
 //! A disk over a file of the system: the trusted edge, which tells contracts nothing of its content.
 ghost use Rattle.std.specs.Prelude.{◌≡◌, ◌≤◌, [], false, IfOk};
-ghost use Rattle.told_list.specs.Counts.{Rose};
+ghost use Rattle.fault_types.specs.Counts.{Rose};
 ghost use Rattle.farm_disk.specs.Answers.{OnFailed};
 ghost use Rattle.farm_disk.specs.FileDisk.{file_faults, file_path};
 
@@ -13,7 +13,8 @@ use std::path::Path;
 use std::rt::Files;
 
 /// A file as a disk. It is opened at its first use. A missing file reads as empty, and the first write makes it;
-/// that its name in its folder outlasts a crash isn't claimed. Nobody else may write to it.
+/// that its name in its folder outlasts a crash isn't claimed. Nobody else may write to it: from its first use on the
+/// file's advisory lock is held, and where another program holds it each call is a fault that reads and writes nothing.
 ///
 /// A call that a signal interrupts is made again, and one that moves a part of the bytes goes on. Each other error is
 /// counted as a fault, and so is a call outside the size, a folder in place of the file, and a missing folder. The size is
@@ -44,7 +45,7 @@ impl<R: Files<File = File> + Drop> FileDisk<R> {
         })
     }
 
-    // Opens the file where it isn't open yet. A missing one stays missing, unless it is to be made.
+    // Opens the file and locks it, where it isn't open yet. A missing one stays missing, unless it is to be made.
     fn open(&mut self, makes: bool) -> io::Result<()>
         ensures { self.new.faults ≡ self.old.faults }
     {
@@ -59,6 +60,7 @@ impl<R: Files<File = File> + Drop> FileDisk<R> {
             .open(&self.rt, self.path.as_str());
         match opened {
             Ok(file) => {
+                file.try_lock()?;
                 self.file = Some(file);
                 Ok(())
             }
@@ -115,12 +117,26 @@ impl<R: Files<File = File> + Drop> FileDisk<R> {
         }
     }
 
+    // Makes the file that was missing. Where another program has made one meanwhile and written to it, that is an error.
+    fn make(&mut self, size: u64) -> io::Result<()>
+        ensures { self.new.faults ≡ self.old.faults }
+    {
+        self.open(true)?;
+        if self.size_now()? == size {
+            Ok(())
+        } else {
+            Err(io::Error::from(io::ErrorKind::AlreadyExists))
+        }
+    }
+
     fn write_now(&mut self, at: u64, bytes: &[u8]) -> io::Result<()>
         ensures { self.new.faults ≡ self.old.faults }
     {
         let size = self.size_kept()?;
         within(at, size)?;
-        self.open(true)?;
+        if self.file.is_none() {
+            self.make(size)?;
+        }
         self.size = None;
         match &self.file {
             Some(file) => {

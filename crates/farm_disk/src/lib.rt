@@ -19,10 +19,9 @@ mod disk;
 mod file_disk;
 mod in_memory;
 pub mod laws;
-mod memory;
 
 pub use call::Call;
 pub use disk::{Did, Disk, Size, Written};
+pub use fault_types::Memory;
 pub use file_disk::FileDisk;
 pub use in_memory::{CalmDisk, DiskFail, MemDisk};
-pub use memory::Memory;

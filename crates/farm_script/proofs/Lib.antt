@@ -1,6 +1,5 @@
 pub mod Answering
 pub mod Completing
-pub mod Dates
 pub mod Endings
 pub mod Growing
 pub mod Helds

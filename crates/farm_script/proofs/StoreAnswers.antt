@@ -1,59 +1,21 @@
 -- What a store answers to one command, as the text and the history of a script's rule.
-use Rattle.std.proofs.Common.{◌≡◌, ◌++◌, ◌∷◌, ℕ, true, List, [], length, sym, ap, ◌∙◌, ⊎_elim, subst, append_assoc, inl, inr, Err}
+use Rattle.std.proofs.Common.{◌≡◌, ◌++◌, ◌∷◌, ℕ, true, List, [], sym, ap, ◌∙◌, ⊎_elim, subst, append_assoc, inl, inr}
 use Rattle.std.proofs.lemmas.List.{append-nil}
-use Rattle.serde_json.specs.Written.{compact_text}
 use Rattle.farm_types.specs.declared.moment.Moment.{Moment}
 use Rattle.farm_entry.specs.Decision.{decide}
-use Rattle.farm_entry.specs.Legal.{IsLegal}
 use Rattle.farm_entry.specs.Playing.{after}
 use Rattle.farm_entry.specs.declared.command.Command.{Command}
-use Rattle.farm_entry.specs.declared.decision.Decision.{Decision}
-use Rattle.farm_entry.specs.declared.decision.Decision.TheVariants.{Refuse, Repeat, Show, New}
 use Rattle.farm_entry.specs.declared.entry.Entry.{Entry}
-use Rattle.farm_entry.specs.declared.refusal.Refusal.{Refusal}
-use Rattle.farm_entry.specs.declared.reply.Reply.{Reply}
 use Rattle.farm_disk.proofs.Moments.{leaves_only-weaker}
 use Rattle.farm_disk.specs.Images.{LeavesOnly}
 use Rattle.farm_disk.specs.declared.disk.Disk as disk
-use Rattle.farm_store.specs.Answering.{CallSays, IsAnswer, IsAnswered}
+use Rattle.farm_store.specs.Answering.{IsAnswer, IsAnswered}
 use Rattle.farm_store.specs.Bytes.{StandsFor}
 use Rattle.farm_store.specs.State.{IsLeft, IsRepaired, IsStored, IsWithOrWithout, StoreState}
 use Rattle.farm_store.specs.declared.asking.Answer.{Answer}
-use Rattle.farm_store.specs.declared.asking.CallFault.{CallFault}
-use Rattle.farm_store.specs.declared.asking.CallFault.TheVariants as fault
-use Rattle.farm_store.specs.declared.asking.Answer.TheVariants as answer
-use Rattle.farm_wire.specs.Refusals.{refusal_data}
-use Rattle.farm_wire.specs.Replies.{HasDates, reply_data}
-use Rattle.farm_script.specs.FarmRule.{decision_text, text_of_reply}
-use Rattle.farm_script.proofs.Dates.{reply-dates, shown-dates}
 use Rattle.farm_script.proofs.Growing.{between-first, between-last}
 use Rattle.farm_script.specs.Images.{StandsBetween}
 use Rattle.farm_script.specs.StoreFarm.{StoreGrows}
-
--- the text of a reply that answers a decision
-pub reply-text : (H : List Entry) (d : Decision) (r : Reply) → IsAnswer H d (answer.Done r)
-    → compact_text (reply_data r) ≡ decision_text H d
-reply-text H (Repeat place) r is = sym (ap text_of_reply is)
-reply-text H (Show page) r is = ap (λ (p : Reply). compact_text (reply_data p)) is
-reply-text H (New e) r is = sym (ap text_of_reply is)
-reply-text H (Refuse cause) r is = absurd is
-
--- the days that such a reply shows have dates
-pub reply-dated : (H : List Entry) (q : Command) (m : Moment) (d : Decision) (r : Reply) → IsLegal (after H d)
-    → decide H q m ≡ d → IsAnswer H d (answer.Done r) → HasDates r
-reply-dated H q m (Repeat place) r legal decided is = reply-dates H place r legal is
-reply-dated H q m (Show page) r legal decided is =
-    shown-dates H q m r legal (decided ∙ ap (λ (p : Reply). Show p) (sym is))
-reply-dated H q m (New e) r legal decided is = reply-dates (H ++ e ∷ []) (length H) r legal is
-reply-dated H q m (Refuse cause) r legal decided is = absurd is
-
--- the text of a refusal that answers a decision
-pub refusal-text : (H : List Entry) (d : Decision) (x : Refusal) → IsAnswer H d (answer.Refused x)
-    → compact_text (refusal_data x) ≡ decision_text H d
-refusal-text H (Repeat place) x is = absurd is
-refusal-text H (Show page) x is = absurd is
-refusal-text H (New e) x is = absurd is
-refusal-text H (Refuse cause) x is = ap (λ (c : Refusal). compact_text (refusal_data c)) is
 
 -- where nothing was pending a repair leaves the history as it was
 pub repaired-same : {D : Type 0} (old : StoreState D) (H : List Entry) → old.pending ≡ [] → IsRepaired old H
@@ -76,18 +38,6 @@ one-answered q m a old new none said =
       answer = subst (λ (H : List Entry). IsAnswer H (decide H q m) a) same said.answers.0;
       history = said.history ∙ ap (λ (H : List Entry). after H (decide H q m)) same;
     }
-
--- a call that was refused said so of the refusal that it names
-pub says-refused : {D : Type 0} (q : Command) (m : Moment) (x : Refusal) (f : CallFault) (old new : StoreState D)
-    → f ≡ fault.Refused x → CallSays q m (Err f) old new
-    → IsAnswered (record { command = q; at = m } ∷ []) (answer.Refused x ∷ []) old new
-says-refused q m x f old new is said = subst (λ (g : CallFault). CallSays q m (Err g) old new) is said
-
--- the history afterwards is legal
-pub legal-after : {D : Type 0} (q : Command) (m : Moment) (a : Answer) (old new : StoreState D) → OneAnswered q m a old new
-    → new.pending ≡ [] → IsLegal (new.history ++ new.pending) → IsLegal (after old.history (decide old.history q m))
-legal-after q m a old new one none legal =
-    subst IsLegal (ap (λ (p : List Entry). new.history ++ p) none ∙ append-nil new.history ∙ one.history) legal
 
 -- what a call leaves is a history between the two
 left-between : {D : Type 0} (old new : StoreState D) (more : List Entry) → old.pending ≡ []

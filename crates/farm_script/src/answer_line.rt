@@ -3,7 +3,7 @@ ghost use Rattle.std.specs.Prelude.{◌≡◌, ◌≢◌, ◌≤◌, ◌++◌, �
 ghost use Rattle.farm_script.specs.LineFaults.{HasCause};
 ghost use Rattle.farm_script.specs.Images.{Grows};
 ghost use Rattle.farm_script.specs.Script.{Answered, FailsIn, IsPendingOf, IsUnshown, StopsIn, next_history};
-ghost use Rattle.link_io.specs.Counts.{Rose};
+ghost use Rattle.fault_types.specs.Counts.{Rose};
 
 use crate::script_farm::{ReplyFault, ScriptFarm};
 use farm_types::Memory;

@@ -1,6 +1,6 @@
 //! The lines that end in a piece.
 ghost use Rattle.std.specs.Prelude.{◌≡◌, ◌<◌, ◌≤◌, ◌++◌, ◌∷◌, ℕ, List, [], length, MatchOption, OnOk, OnErr, IsErrOf};
-ghost use Rattle.link_io.specs.Counts.{Rose};
+ghost use Rattle.fault_types.specs.Counts.{Rose};
 ghost use Rattle.farm_script.specs.LineFaults.{HasCause};
 ghost use Rattle.farm_script.specs.Images.{Grows};
 ghost use Rattle.farm_script.specs.Lines.{ended_after, rest_after};

@@ -10,8 +10,8 @@
 //! [`shown_text`] is what the farm of a store shows of itself: its own page, and that of each search.
 //!
 //! It stands on `farm_core` for the farm in memory, on `farm_store` for one whose history stands on a disk, on `farm_wire`
-//! for what a line says and how a reply is written, on `link_io` for the input and the output, on `memchr`, and on the
-//! crates of the farm's values and definitions. The layer above may use every name below.
+//! for what a line says, on `farm_answers` for the answer to it and its text, on `link_io` for the input and the output,
+//! on `memchr`, and on the crates of the farm's values and definitions. The layer above may use every name below.
 #![tactic(auto)]
 
 mod answer_line;
@@ -25,6 +25,7 @@ mod script_farm;
 mod script_run;
 mod shown;
 mod store_farm;
+mod texts;
 
 pub use founded::run_founded;
 pub use run_end::RunEnd;

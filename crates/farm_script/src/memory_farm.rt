@@ -3,13 +3,16 @@
 ghost use Rattle.std.specs.Prelude.{◌≡◌, ◌⊎◌, ◌++◌, List, IfOk, OnOk, OnErr, string_bytes};
 ghost use Rattle.farm_entry.specs.Decision.{decide};
 ghost use Rattle.farm_entry.specs.Playing.{after};
-ghost use Rattle.farm_script.specs.FarmRule.{decision_text, farm_rule};
+ghost use Rattle.farm_answers.specs.Texts.{decision_text};
+ghost use Rattle.farm_script.specs.FarmRule.{farm_rule};
 
 use crate::script_farm::{ReplyFault, ScriptFarm};
-use farm_core::{CoreFault, Farm, Prepared};
+use crate::texts::text_of;
+use farm_answers::answer_in_memory;
+use farm_core::Farm;
 use farm_entry::{Command, Entry};
 use farm_types::{Memory, Moment};
-use farm_wire::{WireFault, fault_text, line_of, refusal_text, reply_text};
+use farm_wire::{WireFault, fault_text, line_of};
 use std::alloc::Global;
 
 impl ScriptFarm for Farm {
@@ -72,14 +75,6 @@ fn answer_command(
         ⊎ (farm.new.history ≡ after farm.old.history (decide farm.old.history command.now at))) }
     ensures longer { (more : List Entry) × (farm.new.history ≡ farm.old.history ++ more) }
 {
-    match farm.prepare(command, at) {
-        Ok(Prepared::Repeat(reply)) => reply_text(alloc, &reply),
-        Ok(Prepared::Shown(reply)) => reply_text(alloc, &reply),
-        Ok(Prepared::New(entry, reply)) => {
-            farm.commit(entry);
-            reply_text(alloc, &reply)
-        }
-        Err(CoreFault::Refused(refusal)) => refusal_text(alloc, &refusal),
-        Err(CoreFault::Memory) => Err(Memory),
-    }
+    let answer = answer_in_memory(farm, command, at)?;
+    text_of(alloc, answer)
 }

@@ -3,17 +3,20 @@
 ghost use Rattle.std.specs.Prelude.{◌≡◌, ◌≢◌, ◌≤◌, ◌⊎◌, ◌++◌, [], IfOk, OnOk, IsErrOf, string_bytes};
 ghost use Rattle.farm_entry.specs.Decision.{decide};
 ghost use Rattle.farm_entry.specs.Playing.{after};
-ghost use Rattle.farm_script.specs.FarmRule.{decision_text, farm_rule};
+ghost use Rattle.farm_answers.specs.Texts.{decision_text};
+ghost use Rattle.farm_script.specs.FarmRule.{farm_rule};
 ghost use Rattle.farm_script.specs.Script.{IsPendingOf};
 ghost use Rattle.farm_script.specs.StoreFarm.{StoreGrows};
-ghost use Rattle.link_io.specs.Counts.{Rose};
+ghost use Rattle.fault_types.specs.Counts.{Rose};
 
 use crate::script_farm::{ReplyFault, ScriptFarm};
+use crate::texts::text_of;
+use farm_answers::{CommandFault, answer_stored};
 use farm_disk::Disk;
 use farm_entry::{Command, Entry};
-use farm_store::{CallFault, Store};
+use farm_store::Store;
 use farm_types::Moment;
-use farm_wire::{WireFault, fault_text, line_of, refusal_text, reply_text};
+use farm_wire::{WireFault, fault_text, line_of};
 use std::alloc::Global;
 
 impl<D: Disk> ScriptFarm for Store<D> {
@@ -96,10 +99,9 @@ fn answer_command<D: Disk>(
         ⊎ (store.new.history ≡ after store.old.history (decide store.old.history command.now at))) }
     ensures images { StoreGrows D.Disk store.old store.new }
 {
-    match store.call(alloc, command, at) {
-        Ok(reply) => Ok(reply_text(alloc, &reply)?),
-        Err(CallFault::Refused(refusal)) => Ok(refusal_text(alloc, &refusal)?),
-        Err(CallFault::StoreFault { .. }) => Err(ReplyFault::StoreFault),
-        Err(CallFault::Memory) => Err(ReplyFault::Memory),
+    match answer_stored(alloc, store, command, at) {
+        Ok(answer) => Ok(text_of(alloc, answer)?),
+        Err(CommandFault::StoreFault { .. }) => Err(ReplyFault::StoreFault),
+        Err(CommandFault::Memory) => Err(ReplyFault::Memory),
     }
 }

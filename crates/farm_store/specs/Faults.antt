@@ -1,6 +1,6 @@
 -- Why a call on a store was not answered.
 use Rattle.std.specs.Prelude.{◌≡◌, ℕ, Result, Ok, Err, ⊤}
-use Rattle.told_list.specs.Counts.{Rose}
+use Rattle.fault_types.specs.Counts.{Rose}
 use Rattle.farm_store.specs.declared.asking.CallFault.{CallFault}
 use Rattle.farm_store.specs.declared.asking.CallFault.TheVariants.{Refused, StoreFault, Memory}
 

@@ -1,8 +1,9 @@
 //! The small values of the farm, each of which holds exactly what was read: ids of commits, names, moments in time,
-//! keys of requests, the stage of a run, and want of memory as an error of its own. The limits of time zones and of
-//! days stand here too, for the layers above that share them.
+//! keys of requests, the stage of a run. The limits of time zones and of days stand here too, for the layers above that
+//! share them, and want of memory is handed on.
 //!
-//! The crate stands on `hex` for digits and on `thiserror` for the texts of its refusals, and on nothing of the farm.
+//! The crate stands on `fault_types` for want of memory, on `hex` for digits and on `thiserror` for the texts of its
+//! refusals, and on nothing of the farm.
 //! A value is made by the one call that tests its limits, so the layers above take it as legal and test nothing again.
 //! They may use every name below. What a value holds is seen through `id_bytes` and `moment_ms` of `specs/`, and a
 //! name is seen as the list of its bytes; why a text is refused is said by `id_fault` and `name_fault`. Their proofs may
@@ -13,15 +14,14 @@
 mod commit_id;
 mod key;
 pub mod laws;
-mod memory;
 mod moment;
 mod name;
 mod stage;
 mod zone;
 
 pub use commit_id::{CommitId, ID_BYTES, ID_DIGITS, IdFault};
+pub use fault_types::Memory;
 pub use key::Key;
-pub use memory::Memory;
 pub use moment::{LAST_DAY, MOMENT_MAX_MS, MOMENT_MIN_MS, Moment, MomentFault};
 pub use name::{NAME_FIRST_BYTE, NAME_LAST_BYTE, NAME_MAX_BYTES, Name, NameFault};
 pub use stage::Stage;

@@ -11,8 +11,8 @@ use Rattle.farm_wire.specs.declared.fault.WireFault.TheVariants.{BadField, BadJs
 use Rattle.farm_wire.specs.declared.field.Field.{Field}
 use Rattle.farm_wire.specs.declared.field.Field.TheVariants.{Miss}
 use Rattle.farm_wire.specs.declared.limits.TheConstants.{MAX_COMMAND_BYTES}
-use Rattle.farm_wire.specs.declared.route.Route.{Route}
-use Rattle.farm_wire.specs.declared.route.Route.TheVariants as route
+use Rattle.http_words.specs.declared.route.Route.{Route}
+use Rattle.http_words.specs.declared.route.Route.TheVariants as route
 use Rattle.farm_wire.specs.declared.verb.Verb.{Verb}
 use Rattle.farm_wire.specs.declared.verb.Verb.TheVariants as verb
 

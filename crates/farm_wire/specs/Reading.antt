@@ -15,8 +15,8 @@ use Rattle.farm_wire.specs.declared.fault.WireFault.TheVariants.{TooLong, BadJso
 use Rattle.farm_wire.specs.declared.field.Field.{Field}
 use Rattle.farm_wire.specs.declared.field.Field.TheVariants as field
 use Rattle.farm_wire.specs.declared.limits.TheConstants.{MAX_COMMAND_BYTES}
-use Rattle.farm_wire.specs.declared.route.Route.{Route}
-use Rattle.farm_wire.specs.declared.route.Route.TheVariants as route
+use Rattle.http_words.specs.declared.route.Route.{Route}
+use Rattle.http_words.specs.declared.route.Route.TheVariants as route
 use Rattle.farm_wire.specs.declared.verb.Verb.{Verb}
 use Rattle.farm_wire.specs.declared.verb.Verb.TheVariants as verb
 

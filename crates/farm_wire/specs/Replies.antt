@@ -13,6 +13,7 @@ use Rattle.farm_entry.specs.declared.reply.Reply.TheVariants as reply
 use Rattle.farm_entry.specs.declared.reply.SearchPage.{SearchPage}
 use Rattle.farm_entry.specs.declared.reply.Totals.{Totals}
 use Rattle.farm_entry.specs.declared.standing.Standing.TheVariants.{Cancelled}
+use Rattle.hex.specs.Hex.{encode_lower}
 use Rattle.serde_json.specs.View.{items_of}
 use Rattle.farm_types.specs.declared.moment.TheConstants.{LAST_DAY}
 use Rattle.farm_wire.specs.Dates.{day_text}
@@ -60,6 +61,11 @@ totals_data kind totals =
     ∷ (codes "counted", whole totals.counted)
     ∷ (codes "orders", whole totals.orders)
     ∷ [])
+
+-- a log page: the bytes of the history's entries from one on, in hexadecimal digits with letters in lower case
+unfoldable pub log_data : (from : ℕ) → (bytes : List ℕ) → Data
+log_data from bytes =
+    reply_of (codes "log") ((codes "from", whole from) ∷ (codes "entries", string (encode_lower bytes)) ∷ [])
 
 -- one of the orders that are shown
 unfoldable pub order_data : OrderLine → Data

@@ -2,8 +2,8 @@
 //! requests are read as commands, and replies, refusals and faults are written as texts.
 //!
 //! The crate stands on `farm_entry` for commands, replies and refusals, on `farm_types`, `suspect_range`, `flake_rate`
-//! and `weight_exact` for the values in them, on `revert_orders` and `jiff` for dates, on `serde_json` for JSON, on
-//! `uuid` for keys, on `hex` for ids, and on `thiserror` for the texts of its faults. The layers above may use every
+//! and `weight_exact` for the values in them, on `http_words` for routes, on `revert_orders` and `jiff` for dates, on
+//! `serde_json` for JSON, on `uuid` for keys, on `hex` for ids, and on `thiserror` for the texts of its faults. The layers above may use every
 //! name below. What a text says is defined by `line_reading` and `body_reading` of `specs/`, over the value that
 //! `serde_json` reads; what is written is `serde_json`'s text of `reply_data`, `refusal_data` and `fault_data`.
 #![tactic(auto)]
@@ -20,7 +20,6 @@ mod object;
 mod page;
 mod refusal;
 mod reply;
-mod route;
 mod standing;
 mod texts;
 mod verb;
@@ -28,7 +27,7 @@ mod verb;
 pub use command::{command_of, line_of};
 pub use fault::WireFault;
 pub use field::Field;
+pub use http_words::Route;
 pub use limits::MAX_COMMAND_BYTES;
 pub use refusal::{fault_text, refusal_text};
-pub use reply::reply_text;
-pub use route::Route;
+pub use reply::{log_text, reply_text, totals_text};

@@ -24,6 +24,7 @@ impl JsonObject {
     ghost use Rattle.serde_json.specs.Data.{no_members, object, string};
     ghost use Rattle.serde_json.specs.View.{view};
     ghost use Rattle.serde_json.specs.Written.{compact_text, has_float};
+    ghost use Rattle.hex.specs.Hex.{encode_lower};
     ghost use Rattle.farm_wire.specs.Members.{commit_value, put_all, standing_members, whole, with_member};
     ghost use Rattle.farm_wire.specs.Object.{members_in};
 
@@ -67,7 +68,15 @@ impl JsonObject {
         ensures { IfOk result (λ made. members_in made
             ≡ with_member name.now (commit_value commit.now) (members_in self)) }
     {
-        let digits = hex::encode(self.alloc, commit.bytes())?;
+        self.with_bytes(name, &commit.bytes())
+    }
+
+    /// With bytes as a member, in hexadecimal digits with letters in lower case.
+    pub(crate) fn with_bytes(self, name: &str, bytes: &[u8]) -> Result<JsonObject, Memory>
+        ensures { IfOk result (λ made. members_in made
+            ≡ with_member name.now (string (encode_lower bytes.now)) (members_in self)) }
+    {
+        let digits = hex::encode(self.alloc, bytes)?;
         self.with(name, Value::String(digits))
     }
 

@@ -7,7 +7,7 @@ ghost use Rattle.serde_json.specs.View.{items_of, view};
 ghost use Rattle.serde_json.specs.Written.{has_float};
 ghost use Rattle.farm_wire.specs.Members.{wholes};
 ghost use Rattle.farm_wire.specs.Object.{members_in};
-ghost use Rattle.farm_wire.specs.Replies.{order_data, page_data, reply_data, totals_data};
+ghost use Rattle.farm_wire.specs.Replies.{log_data, order_data, page_data, reply_data, totals_data};
 
 use crate::date::day_text;
 use crate::object::JsonObject;
@@ -57,6 +57,17 @@ pub(crate) fn totals_object(
         .with_number("ended", totals.ended)?
         .with_number("counted", totals.counted)?
         .with_number("orders", totals.orders)
+}
+
+/// A log page, as an object.
+#[tactic(auto, unfolding(crate::specs::Replies::log_data))]
+pub(crate) fn log_object(alloc: Global, from: u32, bytes: &[u8]) -> Result<JsonObject, Memory>
+    ensures { IfOk result (λ made. object (members_in made) ≡ log_data from bytes.now) }
+{
+    JsonObject::new(alloc)
+        .with_text("reply", "log")?
+        .with_number("from", from as u64)?
+        .with_bytes("entries", bytes)
 }
 
 /// All orders, as an object.

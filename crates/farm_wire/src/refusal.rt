@@ -1,6 +1,6 @@
 //! Refusals and faults as JSON.
 
-ghost use Rattle.std.specs.Prelude.{◌≡◌, IfOk, [], ◌∷◌, codes, false, string_bytes};
+ghost use Rattle.std.specs.Prelude.{◌≡◌, ◌≢◌, IfOk, [], ◌∷◌, codes, false, string_bytes};
 ghost use Rattle.serde_json.specs.Data.{no_members, object, string};
 ghost use Rattle.serde_json.specs.View.{view};
 ghost use Rattle.serde_json.specs.Written.{compact_text, has_float};
@@ -23,16 +23,17 @@ pub fn refusal_text(alloc: Global, refusal: &Refusal) -> Result<String, Memory>
     refusal_object(alloc, refusal)?.into_text()
 }
 
-/// The text of a fault, in the form of a refusal. Want of memory has one too.
+/// The text of a fault of a line or of a body, in the form of a refusal. Want of memory is none of theirs.
 #[tactic(auto, unfolding(crate::specs::Refusals::fault_data))]
 pub fn fault_text(alloc: Global, fault: &WireFault) -> Result<String, Memory>
+    requires { fault.now ≢ WireFault.Memory }
     ensures { IfOk result (λ text. string_bytes text ≡ compact_text (fault_data fault.now)) }
 {
     let object = match fault {
         WireFault::TooLong => refused(alloc, "TooLong")?,
         WireFault::BadJson => refused(alloc, "BadJson")?,
         WireFault::BadField(field) => refused(alloc, "BadField")?.with_text("field", field.name())?,
-        WireFault::Memory => refused(alloc, "Memory")?,
+        WireFault::Memory => unreachable!(),
     };
     object.into_text()
 }

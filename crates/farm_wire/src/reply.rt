@@ -1,16 +1,16 @@
 //! Replies as JSON.
 
-ghost use Rattle.std.specs.Prelude.{◌≡◌, ◌≤◌, IfOk, string_bytes};
+ghost use Rattle.std.specs.Prelude.{◌≡◌, ◌≤◌, IfOk, codes, string_bytes};
 ghost use Rattle.farm_types.specs.declared.moment.TheConstants.{LAST_DAY};
 ghost use Rattle.serde_json.specs.Data.{object};
 ghost use Rattle.serde_json.specs.Written.{compact_text};
 ghost use Rattle.farm_wire.specs.Object.{members_in};
-ghost use Rattle.farm_wire.specs.Replies.{HasDates, fate_word, reply_data, stage_word, verdict_word};
+ghost use Rattle.farm_wire.specs.Replies.{HasDates, fate_word, log_data, reply_data, stage_word, totals_data, verdict_word};
 
 use crate::date::day_text;
 use crate::object::JsonObject;
-use crate::page::{orders_object, page_object, totals_object};
-use farm_entry::{DueRun, Fate, Reply, Standing};
+use crate::page::{log_object, orders_object, page_object, totals_object};
+use farm_entry::{DueRun, Fate, Reply, Standing, Totals};
 use farm_types::{CommitId, Memory, Name, Stage};
 use std::alloc::Global;
 use weight_exact::Verdict;
@@ -21,6 +21,20 @@ pub fn reply_text(alloc: Global, reply: &Reply) -> Result<String, Memory>
     ensures { IfOk result (λ text. string_bytes text ≡ compact_text (reply_data reply.now)) }
 {
     reply_object(alloc, reply)?.into_text()
+}
+
+/// The text of the totals that were posted last, as an answer of their own.
+pub fn totals_text(alloc: Global, totals: &Totals) -> Result<String, Memory>
+    ensures { IfOk result (λ text. string_bytes text ≡ compact_text (totals_data (codes "totals") totals.now)) }
+{
+    totals_object(alloc, "totals", totals)?.into_text()
+}
+
+/// The text of a log page: the bytes of the history's entries from this one on, counted from 1, in hexadecimal digits.
+pub fn log_text(alloc: Global, from: u32, bytes: &[u8]) -> Result<String, Memory>
+    ensures { IfOk result (λ text. string_bytes text ≡ compact_text (log_data from bytes.now)) }
+{
+    log_object(alloc, from, bytes)?.into_text()
 }
 
 fn reply_object(alloc: Global, reply: &Reply) -> Result<JsonObject, Memory>

@@ -8,14 +8,14 @@ use Rattle.farm_journal.specs.declared.fault.OpeningFault.{OpeningFault}
 use Rattle.farm_journal.specs.declared.fault.OpeningFault.TheVariants as opening
 use Rattle.farm_script.specs.declared.run_end.RunEnd.{RunEnd}
 use Rattle.farm_script.specs.declared.run_end.RunEnd.TheVariants as script
-use Rattle.link_io.specs.Counts.{Rose}
+use Rattle.fault_types.specs.Counts.{Rose}
 use Rattle.finder_program.specs.RunJournal.{IsStoreFaultOf}
 use Rattle.finder_program.specs.Disks.{DiskSeen, HasStoreCause}
 use Rattle.finder_program.specs.Found.{status_of_creating}
 use Rattle.finder_program.specs.Opening.{status_of_opening}
 use Rattle.finder_program.specs.TextPut.{OutputSeen, TextPut}
 use Rattle.finder_program.specs.declared.status.Status.{Status}
-use Rattle.finder_program.specs.declared.status.Status.TheVariants.{Done, Usage, ReadFault, WriteFault, StoreFault, Damaged, Unborn, AlreadyBorn, Memory, BadInput, InputLimit}
+use Rattle.finder_program.specs.declared.status.Status.TheVariants.{StoreFault}
 
 -- of a journal that was not opened
 pub opening-cause : (fault : OpeningFault) (old new : DiskSeen) → OpeningCause fault old.faults new.faults
@@ -35,46 +35,19 @@ creating-cause creating.Memory old new cause = tt
 -- of a text that was put
 pub text-cause : (text : List ℕ) (status : Status) (before after : OutputSeen) (old new : DiskSeen)
     → TextPut text status before after → HasStoreCause status old new
-text-cause text Done before after old new put = tt
-text-cause text Usage before after old new put = tt
-text-cause text ReadFault before after old new put = tt
-text-cause text WriteFault before after old new put = tt
 text-cause text (StoreFault b a) before after old new put = absurd put
-text-cause text (Damaged o) before after old new put = tt
-text-cause text Unborn before after old new put = tt
-text-cause text AlreadyBorn before after old new put = tt
-text-cause text Memory before after old new put = tt
-text-cause text (BadInput l) before after old new put = tt
-text-cause text InputLimit before after old new put = tt
+text-cause text _ before after old new put = tt
 
 -- of a script that was run over a journal
 pub end-cause : (status : Status) (before after : ℕ) (end : RunEnd) (old new : DiskSeen)
     → IsStoreFaultOf status before after end → before ≡ old.faults → after ≡ new.faults
     → (end ≡ script.StoreFault → Rose old.faults new.faults) → HasStoreCause status old new
-end-cause Done before after end old new said first last rises = tt
-end-cause Usage before after end old new said first last rises = tt
-end-cause ReadFault before after end old new said first last rises = tt
-end-cause WriteFault before after end old new said first last rises = tt
 end-cause (StoreFault b a) before after end old new said first last rises =
     (said.0 ∙ first, said.1 ∙ last, rises said.2)
-end-cause (Damaged o) before after end old new said first last rises = tt
-end-cause Unborn before after end old new said first last rises = tt
-end-cause AlreadyBorn before after end old new said first last rises = tt
-end-cause Memory before after end old new said first last rises = tt
-end-cause (BadInput l) before after end old new said first last rises = tt
-end-cause InputLimit before after end old new said first last rises = tt
+end-cause _ before after end old new said first last rises = tt
 
 -- the same, where the count at the start is known otherwise
 pub cause-same : (status : Status) (old other new : DiskSeen) → other.faults ≡ old.faults → HasStoreCause status other new
     → HasStoreCause status old new
-cause-same Done old other new same cause = tt
-cause-same Usage old other new same cause = tt
-cause-same ReadFault old other new same cause = tt
-cause-same WriteFault old other new same cause = tt
 cause-same (StoreFault b a) old other new same cause = (cause.0 ∙ same, cause.1, subst (λ (n : ℕ). Rose n new.faults) same cause.2)
-cause-same (Damaged o) old other new same cause = tt
-cause-same Unborn old other new same cause = tt
-cause-same AlreadyBorn old other new same cause = tt
-cause-same Memory old other new same cause = tt
-cause-same (BadInput l) old other new same cause = tt
-cause-same InputLimit old other new same cause = tt
+cause-same _ old other new same cause = tt

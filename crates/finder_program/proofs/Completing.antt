@@ -18,7 +18,7 @@ use Rattle.farm_store.specs.Bytes.{StandsFor}
 use Rattle.farm_store.specs.Founded.{IsRefusedBy}
 use Rattle.farm_store.specs.Opened.{IsMissedBy}
 use Rattle.farm_types.specs.declared.moment.Moment.{Moment}
-use Rattle.link_io.specs.Counts.{Rose}
+use Rattle.fault_types.specs.Counts.{Rose}
 use Rattle.link_io.specs.Streams.{Streams}
 use Rattle.link_io.specs.declared.source.TheConstants.{INPUT_LIMIT}
 use Rattle.finder_program.specs.Disks.{DiskSeen, HasStoreCause}
@@ -28,23 +28,16 @@ use Rattle.finder_program.specs.RunJournal.{JournalRan, JournalRunCompletes, Jou
 use Rattle.finder_program.specs.Show.{JournalShown, ShowCompletes, ShowEnds}
 use Rattle.finder_program.specs.TextPut.{OutputSeen, TextPut}
 use Rattle.finder_program.specs.declared.status.Status.{Status}
-use Rattle.finder_program.specs.declared.status.Status.TheVariants.{Done, Usage, ReadFault, WriteFault, StoreFault, Damaged, Unborn, AlreadyBorn, Memory, BadInput, InputLimit}
+use Rattle.finder_program.specs.declared.status.Status.TheVariants.{Done, ReadFault, WriteFault, StoreFault, AlreadyBorn, Memory, InputLimit}
 use Rattle.finder_program.proofs.Taken.{read_front, read_whole}
 
 -- a text is put whole where the output doesn't fail
 text-completes : (text : List ℕ) (status : Status) (before after : OutputSeen) → TextPut text status before after
     → ¬ Rose before.faults after.faults → (status ≡ Memory) ⊎ (status ≡ Done)
 text-completes text Done before after put calm = inr refl
-text-completes text Usage before after put calm = absurd put
-text-completes text ReadFault before after put calm = absurd put
 text-completes text WriteFault before after put calm = absurd (calm put.0)
-text-completes text (StoreFault b a) before after put calm = absurd put
-text-completes text (Damaged o) before after put calm = absurd put
-text-completes text Unborn before after put calm = absurd put
-text-completes text AlreadyBorn before after put calm = absurd put
 text-completes text Memory before after put calm = inl refl
-text-completes text (BadInput l) before after put calm = absurd put
-text-completes text InputLimit before after put calm = absurd put
+text-completes text _ before after put calm = absurd put
 
 -- a fault of the store comes only where the disk failed
 no-store_fault : (status : Status) (b a : ℕ) (old new : DiskSeen) → status ≡ StoreFault b a
@@ -117,8 +110,6 @@ ran-completes Done end before after old new first last pending stands ends cause
     let done = ended-as Done end script.Done before after first last pending stands refl ends in
     let whole = read_whole all done.0 before.left after.left told done.1.bytes (done.1.ended refl) in
     inr (inl (omega (arith, done.2, ap length whole.1), refl))
-ran-completes Usage end before after old new first last pending stands ends cause reads writes steady all told =
-    absurd (none-some end stands)
 ran-completes ReadFault end before after old new first last pending stands ends cause reads writes steady all told =
     let failed = ended-as ReadFault end script.ReadFault before after first last pending stands refl ends in
     absurd (reads failed.0)
@@ -127,19 +118,13 @@ ran-completes WriteFault end before after old new first last pending stands ends
     absurd (writes failed.0)
 ran-completes (StoreFault b a) end before after old new first last pending stands ends cause reads writes steady all told =
     absurd (steady cause.2)
-ran-completes (Damaged o) end before after old new first last pending stands ends cause reads writes steady all told =
-    absurd (none-some end stands)
-ran-completes Unborn end before after old new first last pending stands ends cause reads writes steady all told =
-    absurd (none-some end stands)
-ran-completes AlreadyBorn end before after old new first last pending stands ends cause reads writes steady all told =
-    absurd (none-some end stands)
 ran-completes Memory end before after old new first last pending stands ends cause reads writes steady all told = inl refl
-ran-completes (BadInput l) end before after old new first last pending stands ends cause reads writes steady all told =
-    absurd (none-some end stands)
 ran-completes InputLimit end before after old new first last pending stands ends cause reads writes steady all told =
     let limit = ended-as InputLimit end script.InputLimit before after first last pending stands refl ends in
     let front = read_front all limit.0 INPUT_LIMIT before.left after.left told limit.1.bytes limit.2 in
     inr (inr (front.0, refl))
+ran-completes _ end before after old new first last pending stands ends cause reads writes steady all told =
+    absurd (none-some end stands)
 
 pub run_journal-completes : (status : Status) (before after : Streams) (old new : DiskSeen)
     → JournalRunEnds status before after old new → HasStoreCause status old new

@@ -1,5 +1,5 @@
 -- The settings that the words tell.
-use Rattle.std.proofs.Common.{◌≡◌, ◌∙◌, ℕ, ℤ, true, [], Some, ap, inr, subst, sym}
+use Rattle.std.proofs.Common.{◌≡◌, ◌∙◌, ℕ, ℤ, true, [], Option, Some, ap, inr, subst, sym}
 use Rattle.farm_disk.specs.declared.disk.Disk as disk
 use Rattle.farm_journal.specs.Layout.{is_unborn}
 use Rattle.farm_store.specs.Founded.{founding}
@@ -9,6 +9,7 @@ use Rattle.finder_program.specs.Disks.{disk_seen}
 use Rattle.finder_program.specs.TextPut.{OutputSeen, TextPut}
 use Rattle.finder_program.specs.declared.status.Status.{Status}
 use Rattle.std.proofs.lemmas.Option.{same_Some}
+use Rattle.std.specs.Option.{option_map}
 use Rattle.farm_entry.specs.Settings.{settings_daily, settings_lease_ms, settings_zone_minutes}
 use Rattle.farm_entry.specs.declared.settings.Settings.{Settings}
 use Rattle.finder_words.specs.Words.{asked_by, found}
@@ -17,12 +18,13 @@ use Rattle.finder_words.specs.declared.subcommand.Subcommand.TheVariants as sub
 use Rattle.finder_program.specs.Found.{FoundEnds, FoundLeaves, HasNumbers, founded_text}
 
 -- a subcommand that founds has the numbers that were asked for
-pub found-numbers : (read : Subcommand) (settings : Settings) (lease_ms daily : ℕ) (zone_minutes : ℤ)
-    → read ≡ sub.Found settings → Some (asked_by read) ≡ Some (found lease_ms daily zone_minutes)
+pub found-numbers : (read : Option Subcommand) (settings : Settings) (lease_ms daily : ℕ) (zone_minutes : ℤ)
+    → read ≡ Some (sub.Found settings) → option_map asked_by read ≡ Some (found lease_ms daily zone_minutes)
     → HasNumbers settings lease_ms daily zone_minutes
 found-numbers read settings lease_ms daily zone_minutes is asks =
     let same : found (settings_lease_ms settings) (settings_daily settings) (settings_zone_minutes settings)
-    ≡ found lease_ms daily zone_minutes = sym (ap asked_by is) ∙ same_Some (asked_by read) (found lease_ms daily zone_minutes) asks in
+    ≡ found lease_ms daily zone_minutes =
+    same_Some (asked_by (sub.Found settings)) (found lease_ms daily zone_minutes) (sym (ap (option_map asked_by) is) ∙ asks) in
     record { lease = cc; orders = cc; zone = cc }
 
 -- a journal that was founded, and then the text was put

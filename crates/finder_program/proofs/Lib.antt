@@ -5,3 +5,4 @@ pub mod JournalRuns
 pub mod Judging
 pub mod Putting
 pub mod Taken
+pub mod Unread

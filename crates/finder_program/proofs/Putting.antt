@@ -1,7 +1,7 @@
 -- What becomes of a text that is put.
 use Rattle.std.proofs.Common.{◌≡◌, ◌<◌, ℕ, List, length, refl, take}
 use Rattle.std.specs.Io.KnownBytes.{append_known}
-use Rattle.link_io.specs.Counts.{Rose}
+use Rattle.fault_types.specs.Counts.{Rose}
 use Rattle.link_io.specs.declared.sink.PutFault.{PutFault}
 use Rattle.link_io.specs.declared.sink.PutFault.TheVariants as put
 use Rattle.finder_program.specs.Statuses.{status_of_put}

@@ -2,9 +2,9 @@
 use Rattle.std.specs.Prelude.{◌≡◌, ℕ, Bool, ⊤}
 use Rattle.farm_disk.specs.Images.{DiskState}
 use Rattle.farm_disk.specs.declared.disk.Disk as disk
-use Rattle.link_io.specs.Counts.{Rose}
+use Rattle.fault_types.specs.Counts.{Rose}
 use Rattle.finder_program.specs.declared.status.Status.{Status}
-use Rattle.finder_program.specs.declared.status.Status.TheVariants.{Done, Usage, ReadFault, WriteFault, StoreFault, Damaged, Unborn, AlreadyBorn, Memory, BadInput, InputLimit}
+use Rattle.finder_program.specs.declared.status.Status.TheVariants.{StoreFault}
 
 -- whether it tells, what it told so far, and how often it failed
 pub record DiskSeen : Type 0 where
@@ -20,13 +20,4 @@ disk_seen meant disk = record { tells = meant.tells disk; told = meant.told disk
 abbrev pub HasStoreCause : Status → DiskSeen → DiskSeen → Type 0
 HasStoreCause (StoreFault before after) old new =
     (before ≡ old.faults) × (after ≡ new.faults) × Rose old.faults new.faults
-HasStoreCause Done old new = ⊤
-HasStoreCause Usage old new = ⊤
-HasStoreCause ReadFault old new = ⊤
-HasStoreCause WriteFault old new = ⊤
-HasStoreCause (Damaged offset) old new = ⊤
-HasStoreCause Unborn old new = ⊤
-HasStoreCause AlreadyBorn old new = ⊤
-HasStoreCause Memory old new = ⊤
-HasStoreCause (BadInput line) old new = ⊤
-HasStoreCause InputLimit old new = ⊤
+HasStoreCause _ old new = ⊤

@@ -11,7 +11,7 @@ use Rattle.farm_journal.specs.declared.fault.CreateFault.TheVariants as fault
 use Rattle.farm_store.specs.Founded.{IsRefusedBy, IsUnbornOrFounding, founding}
 use Rattle.farm_store.specs.State.{IsStored}
 use Rattle.farm_types.specs.declared.moment.Moment.{Moment}
-use Rattle.link_io.specs.Counts.{Rose}
+use Rattle.fault_types.specs.Counts.{Rose}
 use Rattle.link_io.specs.declared.clock.Clock as clock
 use Rattle.finder_program.specs.Disks.{DiskSeen}
 use Rattle.finder_program.specs.TextPut.{OutputSeen, TextPut}

@@ -8,3 +8,4 @@ pub mod Opening
 pub mod RunJournal
 pub mod Show
 pub mod Found
+pub mod Unread

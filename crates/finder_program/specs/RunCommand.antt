@@ -11,7 +11,7 @@ use Rattle.farm_script.specs.declared.run_end.RunEnd.TheVariants as script
 use Rattle.link_io.specs.Streams.{Streams}
 use Rattle.finder_program.specs.declared.memory_farm.TheConstants.{MEMORY_DAILY, MEMORY_LEASE_MS, MEMORY_ZONE_MINUTES}
 use Rattle.finder_program.specs.declared.status.Status.{Status}
-use Rattle.finder_program.specs.declared.status.Status.TheVariants.{Done, Usage, ReadFault, WriteFault, StoreFault, Damaged, Unborn, AlreadyBorn, Memory, BadInput, InputLimit}
+use Rattle.finder_program.specs.declared.status.Status.TheVariants.{Done, ReadFault, WriteFault, Memory, InputLimit}
 
 -- how a farm in memory is founded
 pub record FoundsMemoryFarm (settings : Settings) (at : Moment) : Type 0 where
@@ -23,16 +23,11 @@ pub record FoundsMemoryFarm (settings : Settings) (at : Moment) : Type 0 where
 -- how the script's run ended that a status stands for. No store can fail, and no line ends the run
 abbrev pub script_end : Status → Option RunEnd
 script_end Done = Some script.Done
-script_end Usage = None
 script_end ReadFault = Some script.ReadFault
 script_end WriteFault = Some script.WriteFault
-script_end (StoreFault faults_before faults_after) = None
-script_end (Damaged offset) = None
-script_end Unborn = None
-script_end AlreadyBorn = None
 script_end Memory = Some script.Memory
-script_end (BadInput line) = None
 script_end InputLimit = Some script.InputLimit
+script_end _ = None
 
 -- What a status says of the run of a script over a farm in memory: it stands for an end of which this is said, where the
 -- farm is founded so

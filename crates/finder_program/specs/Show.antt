@@ -5,7 +5,7 @@ use Rattle.farm_entry.specs.declared.entry.Entry.{Entry}
 use Rattle.farm_journal.specs.ReadsOnly.{ReadsOnly}
 use Rattle.farm_script.specs.Shown.{shown_text}
 use Rattle.farm_store.specs.Bytes.{StandsFor}
-use Rattle.link_io.specs.Counts.{Rose}
+use Rattle.fault_types.specs.Counts.{Rose}
 use Rattle.finder_program.specs.Disks.{DiskSeen}
 use Rattle.finder_program.specs.Opening.{IsNotOpened}
 use Rattle.finder_program.specs.TextPut.{OutputSeen, TextPut}

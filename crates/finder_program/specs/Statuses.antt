@@ -7,7 +7,7 @@ use Rattle.link_io.specs.declared.sink.PutFault.TheVariants as put
 use Rattle.finder_program.specs.declared.read_input.InputFault.{InputFault}
 use Rattle.finder_program.specs.declared.read_input.InputFault.TheVariants as input
 use Rattle.finder_program.specs.declared.status.Status.{Status}
-use Rattle.finder_program.specs.declared.status.Status.TheVariants.{Done, Usage, ReadFault, WriteFault, StoreFault, Damaged, Unborn, AlreadyBorn, Memory, BadInput, InputLimit}
+use Rattle.finder_program.specs.declared.status.Status.TheVariants.{Done, Usage, ReadFault, WriteFault, StoreFault, Damaged, Unborn, AlreadyBorn, NetFault, RunnerFault, Memory, BadInput, InputLimit, Peer}
 
 abbrev pub exit_code_of : Status → ℕ
 exit_code_of Done = 0
@@ -18,9 +18,12 @@ exit_code_of (StoreFault before after) = 5
 exit_code_of (Damaged offset) = 6
 exit_code_of Unborn = 7
 exit_code_of AlreadyBorn = 8
+exit_code_of NetFault = 9
+exit_code_of RunnerFault = 10
 exit_code_of Memory = 11
 exit_code_of (BadInput line) = 12
 exit_code_of InputLimit = 13
+exit_code_of (Peer answer) = 14
 
 -- the text of each way to end
 abbrev pub status_text : Status → List ℕ
@@ -32,9 +35,12 @@ status_text (StoreFault before after) = codes "the journal could not be used"
 status_text (Damaged offset) = codes "the journal is damaged at byte " ++ decimal offset
 status_text Unborn = codes "the journal has not been founded"
 status_text AlreadyBorn = codes "the journal is already founded"
+status_text NetFault = codes "the network failed"
+status_text RunnerFault = codes "the runner failed"
 status_text Memory = codes "out of memory"
 status_text (BadInput line) = codes "line " ++ decimal line ++ codes " is not in the written form"
 status_text InputLimit = codes "the input is too long"
+status_text (Peer answer) = codes "the service answered " ++ decimal answer
 
 -- the line on standard error, where the subcommand did not do its work
 abbrev pub error_line : Status → List ℕ

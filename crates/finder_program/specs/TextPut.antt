@@ -1,10 +1,10 @@
 -- What becomes of a text that is put to the output.
 use Rattle.std.specs.Prelude.{◌≡◌, ℕ, ◌<◌, List, length, take, Option}
 use Rattle.std.specs.Io.KnownBytes.{append_known}
-use Rattle.link_io.specs.Counts.{Rose}
+use Rattle.fault_types.specs.Counts.{Rose}
 use Rattle.link_io.specs.declared.sink.Sink as sink
 use Rattle.finder_program.specs.declared.status.Status.{Status}
-use Rattle.finder_program.specs.declared.status.Status.TheVariants.{Done, Usage, ReadFault, WriteFault, StoreFault, Damaged, Unborn, AlreadyBorn, Memory, BadInput, InputLimit}
+use Rattle.finder_program.specs.declared.status.Status.TheVariants.{Done, WriteFault, Memory}
 
 -- what contracts see of an output: the bytes that it was given, where it tells, and how often it failed
 pub record OutputSeen : Type 0 where
@@ -23,11 +23,4 @@ TextPut text WriteFault before after =
     Rose before.faults after.faults
     × ((n : ℕ) × (n < length text) × (after.written ≡ append_known before.written (take n text)))
 TextPut text Memory before after = (n : ℕ) × (after.written ≡ append_known before.written (take n text))
-TextPut text Usage before after = ⊥
-TextPut text ReadFault before after = ⊥
-TextPut text (StoreFault faults_before faults_after) before after = ⊥
-TextPut text (Damaged offset) before after = ⊥
-TextPut text Unborn before after = ⊥
-TextPut text AlreadyBorn before after = ⊥
-TextPut text (BadInput line) before after = ⊥
-TextPut text InputLimit before after = ⊥
+TextPut text _ before after = ⊥

@@ -1,16 +1,17 @@
 //! The call that the program is.
 
-ghost use Rattle.std.specs.Prelude.{◌≡◌, ◌≤◌, ◌⊎◌, ◌↔◌, ℕ, ℤ, Some, None, map, string_bytes};
+ghost use Rattle.std.specs.Prelude.{◌≡◌, ◌≤◌, ◌⊎◌, ℕ, ℤ, Some, None, false, map, string_bytes};
 ghost use Rattle.farm_entry.specs.declared.settings.Settings.{Settings};
 ghost use Rattle.link_io.specs.Streams.{streams};
-ghost use Rattle.finder_words.specs.Words.{asked, found, judge, run, run_journal, show};
-ghost use Rattle.finder_program.specs.Disks.{HasStoreCause, disk_seen};
+ghost use Rattle.finder_words.specs.Words.{asked, found, judge, run, run_journal, show, uses_network, uses_runner};
+ghost use Rattle.finder_program.specs.Disks.{DiskSeen, HasStoreCause, disk_seen};
 ghost use Rattle.finder_program.specs.Found.{FoundCompletes, HasNumbers, JournalFoundEnds};
 ghost use Rattle.finder_program.specs.JudgeCommand.{JudgeCompletes, JudgeEnds};
 ghost use Rattle.finder_program.specs.RunCommand.{MemoryRunCompletes, MemoryRunEnds};
 ghost use Rattle.finder_program.specs.RunJournal.{JournalRunCompletes, JournalRunEnds};
 ghost use Rattle.finder_program.specs.Show.{ShowCompletes, ShowEnds};
-ghost use Rattle.finder_program.specs.TextPut.{output_seen};
+ghost use Rattle.finder_program.specs.TextPut.{OutputSeen, output_seen};
+ghost use Rattle.finder_program.specs.Unread.{IsUnread};
 
 use crate::found_command::found_command;
 use crate::judge_command::judge_command;
@@ -19,24 +20,53 @@ use crate::run_journal::run_journal;
 use crate::show_command::show_command;
 use crate::status::Status;
 use farm_disk::Disk;
+use farm_types::Memory;
 use finder_words::{Subcommand, read_subcommand};
 use link_io::{Clock, Sink, Source};
+use net_io::Network;
 use std::alloc::Global;
+use std::sync::Wait;
+use std::thread::Threads;
+use worker_io::{KeySource, Runner};
 
-/// Runs the subcommand that the words name, over the objects that it is handed, and gives the disk back. `words` are the
-/// program's words without its own name; `disk` is that of the journal which they name.
-pub fn finder<S: Source, K: Sink, D: Disk, C: Clock>(
+/// Runs the subcommand that the words name, over the objects that it is handed, and gives the disk and the network back.
+/// `rt` starts threads and waits; `words` are the program's words without its own name; `disk` is that of the journal
+/// which they name, `network` the connections at the address, and `runner` runs the tests.
+pub fn finder<
+    H: Threads + Wait + Sync,
+    S: Source,
+    K: Sink,
+    D: Disk + Drop + Send,
+    C: Clock + Sync,
+    N: Network + Drop + Send,
+    R: Runner,
+    Q: KeySource,
+>(
+    rt: &H,
     alloc: Global,
     words: &[String],
     input: &mut S,
     output: &mut K,
     disk: D,
     clock: &C,
-) -> (Status, D)
-    // Words that name no subcommand are refused, and nothing is read or written then.
-    ensures usage { (result.0 ≡ Status.Usage) ↔ (asked (map string_bytes words.now) ≡ None) }
-    ensures untouched { result.0 ≡ Status.Usage
+    network: N,
+    runner: &mut R,
+    keys: &mut Q,
+) -> (Status, D, N)
+where
+    N::End: Send,
+    // Usage is answered just where the words ask for nothing, unless memory is wanting to read them. Nothing is read or
+    // written then.
+    ensures usage { result.0 ≡ Status.Usage → asked (map string_bytes words.now) ≡ None }
+    ensures refused { asked (map string_bytes words.now) ≡ None
+        → (result.0 ≡ Status.Usage) ⊎ (result.0 ≡ Status.Memory) }
+    ensures untouched { asked (map string_bytes words.now) ≡ None
         → (input.new ≡ input.old) × (output.new ≡ output.old) × (result.1 ≡ disk) }
+
+    // A subcommand that has no use for the network, for the runner or for keys leaves them as they are.
+    ensures no_network { uses_network (asked (map string_bytes words.now)) ≡ false → result.2 ≡ network }
+    ensures no_runner { uses_runner (asked (map string_bytes words.now)) ≡ false
+        → (runner.new ≡ runner.old) × (keys.new ≡ keys.old) }
 
     // What each status of `judge` says, and that an input in its form is answered.
     ensures judge { asked (map string_bytes words.now) ≡ Some judge →
@@ -52,7 +82,7 @@ pub fn finder<S: Source, K: Sink, D: Disk, C: Clock>(
     ensures run { asked (map string_bytes words.now) ≡ Some run →
         let before = streams S.Source K.Sink input.old output.old in
         let after = streams S.Source K.Sink input.new output.new in
-        MemoryRunEnds result.0 before after }
+        IsUnread result.0 before after ⊎ MemoryRunEnds result.0 before after }
     ensures run_completes { asked (map string_bytes words.now) ≡ Some run →
         let before = streams S.Source K.Sink input.old output.old in
         let after = streams S.Source K.Sink input.new output.new in
@@ -67,9 +97,10 @@ pub fn finder<S: Source, K: Sink, D: Disk, C: Clock>(
         → asked (map string_bytes words.now) ≡ Some (found lease_ms daily zone_minutes) →
         let before = output_seen K.Sink output.old in
         let after = output_seen K.Sink output.new in
-        (settings : Settings) × HasNumbers settings lease_ms daily zone_minutes
+        IsUnread {V = OutputSeen × DiskSeen} result.0 (before, disk_seen D.Disk disk) (after, disk_seen D.Disk result.1)
+        ⊎ ((settings : Settings) × HasNumbers settings lease_ms daily zone_minutes
         × JournalFoundEnds C.Clock clock.now settings result.0 before after
-        (disk_seen D.Disk disk) (disk_seen D.Disk result.1) }
+        (disk_seen D.Disk disk) (disk_seen D.Disk result.1)) }
     ensures found_completes { (lease_ms daily : ℕ) (zone_minutes : ℤ)
         → asked (map string_bytes words.now) ≡ Some (found lease_ms daily zone_minutes) →
         let before = output_seen K.Sink output.old in
@@ -103,12 +134,22 @@ pub fn finder<S: Source, K: Sink, D: Disk, C: Clock>(
     ensures tells { D.tells result.1 ≡ D.tells disk }
     ensures never_falls { D.count disk ≤ D.count result.1 }
 {
-    match read_subcommand(words) {
-        Some(Subcommand::Judge) => (judge_command(alloc, input, output), disk),
-        Some(Subcommand::Run) => (run_command(alloc, input, output), disk),
-        Some(Subcommand::Found(settings)) => found_command(alloc, settings, output, disk, clock),
-        Some(Subcommand::Show) => show_command(alloc, output, disk),
-        Some(Subcommand::RunJournal) => run_journal(alloc, input, output, disk),
-        None => (Status::Usage, disk),
+    match read_subcommand(alloc, words) {
+        Ok(Some(Subcommand::Judge)) => (judge_command(alloc, input, output), disk, network),
+        Ok(Some(Subcommand::Run)) => (run_command(alloc, input, output), disk, network),
+        Ok(Some(Subcommand::Found(settings))) => {
+            let (status, disk) = found_command(alloc, settings, output, disk, clock);
+            (status, disk, network)
+        }
+        Ok(Some(Subcommand::Show)) => {
+            let (status, disk) = show_command(alloc, output, disk);
+            (status, disk, network)
+        }
+        Ok(Some(Subcommand::RunJournal)) => {
+            let (status, disk) = run_journal(alloc, input, output, disk);
+            (status, disk, network)
+        }
+        Ok(None) => (Status::Usage, disk, network),
+        Err(Memory) => (Status::Memory, disk, network),
     }
 }

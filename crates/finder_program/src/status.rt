@@ -34,12 +34,18 @@ pub enum Status {
     Unborn,
     /// The journal is founded already.
     AlreadyBorn,
+    /// The network failed.
+    NetFault,
+    /// The runner failed.
+    RunnerFault,
     /// Out of memory.
     Memory,
     /// The line with this number, counted from 1, is the first outside the form.
     BadInput(u64),
     /// The input has no end within [`link_io::INPUT_LIMIT`] bytes.
     InputLimit,
+    /// The service gave an answer that a worker has no use for: its HTTP status, or 0 where no whole answer came.
+    Peer(u16),
 }
 
 impl Status {
@@ -58,9 +64,12 @@ impl Status {
             Status::Damaged(_) => 6,
             Status::Unborn => 7,
             Status::AlreadyBorn => 8,
+            Status::NetFault => 9,
+            Status::RunnerFault => 10,
             Status::Memory => 11,
             Status::BadInput(_) => 12,
             Status::InputLimit => 13,
+            Status::Peer(_) => 14,
         }
     }
 
@@ -98,9 +107,12 @@ impl fmt::Display for Status {
             Status::Damaged(offset) => write!(f, "the journal is damaged at byte {offset}"),
             Status::Unborn => write!(f, "the journal has not been founded"),
             Status::AlreadyBorn => write!(f, "the journal is already founded"),
+            Status::NetFault => write!(f, "the network failed"),
+            Status::RunnerFault => write!(f, "the runner failed"),
             Status::Memory => write!(f, "out of memory"),
             Status::BadInput(line) => write!(f, "line {line} is not in the written form"),
             Status::InputLimit => write!(f, "the input is too long"),
+            Status::Peer(answer) => write!(f, "the service answered {answer}"),
         }
     }
 }

@@ -5,6 +5,8 @@ use farm_disk::{DiskFail, MemDisk};
 use finder_program::Status;
 use std::alloc::{AllocError, Global};
 use std::io;
+use std::sync::Wait;
+use std::thread::Threads;
 
 /// How many calls the disk has in a run of the whole script: three to open it, and four for each entry.
 const CALLS: u64 = 51;
@@ -24,19 +26,24 @@ fn lines_in(text: &[u8]) -> usize {
 }
 
 /// Whether a script run over a journal again gives these replies.
-fn goes_on(
+fn goes_on<H: Print + Threads + Wait + Sync>(
+    rt: &H,
     alloc: Global,
     journal: &[u8],
     script: &str,
     replies: &[u8],
 ) -> Result<bool, AllocError> {
-    let ended = play_calm(alloc, calm_call("run J", script.as_bytes()), journal)?;
+    let ended = play_calm(rt, alloc, calm_call("run J", script.as_bytes()), journal)?;
     Ok(ended.status == Status::Done && ended.written.as_slice() == replies)
 }
 
 /// Prints how many entries an image holds: what its farm's page shows, as it stands there.
-fn print_entries(rt: &impl Print, alloc: Global, image: &[u8]) -> io::Result<()> {
-    let shown = play_calm(alloc, calm_call("show J", b""), image)?;
+fn print_entries<H: Print + Threads + Wait + Sync>(
+    rt: &H,
+    alloc: Global,
+    image: &[u8],
+) -> io::Result<()> {
+    let shown = play_calm(rt, alloc, calm_call("show J", b""), image)?;
     if shown.status != Status::Done {
         return print!(rt; " [{}]", shown.status);
     }
@@ -49,8 +56,8 @@ fn print_entries(rt: &impl Print, alloc: Global, image: &[u8]) -> io::Result<()>
 }
 
 /// Plays the script where one call of the disk fails, and prints what it comes to.
-fn print_fault(
-    rt: &impl Print,
+fn print_fault<H: Print + Threads + Wait + Sync>(
+    rt: &H,
     alloc: Global,
     journal: &[u8],
     script: &str,
@@ -58,7 +65,7 @@ fn print_fault(
     fail: DiskFail,
 ) -> io::Result<()> {
     let disk = MemDisk::of(Vec::from_slice(alloc, journal)?, vec![in alloc; fail]?);
-    let ended = play(alloc, calm_call("run J", script.as_bytes()), disk)?;
+    let ended = play(rt, alloc, calm_call("run J", script.as_bytes()), disk)?;
     print!(rt;
         "{}, {} replies; entries",
         ended.status,
@@ -69,7 +76,7 @@ fn print_fault(
             return Err(io::Error::from(io::ErrorKind::OutOfMemory));
         };
         print_entries(rt, alloc, &image)?;
-        if again && !goes_on(alloc, &image, script, replies)? {
+        if again && !goes_on(rt, alloc, &image, script, replies)? {
             print!(rt; " and other replies")?;
         }
     }
@@ -82,11 +89,15 @@ fn print_fault(
 
 /// Founds a journal, plays the script over it, and then once for each call of the disk and each number of bytes that
 /// goes through in it, where that call fails.
-pub(crate) fn print_faults(rt: &impl Print, alloc: Global, script: &str) -> io::Result<()> {
-    let founded = play_calm(alloc, calm_call("found J 60000 10 east:0", b""), b"")?;
+pub(crate) fn print_faults<H: Print + Threads + Wait + Sync>(
+    rt: &H,
+    alloc: Global,
+    script: &str,
+) -> io::Result<()> {
+    let founded = play_calm(rt, alloc, calm_call("found J 60000 10 east:0", b""), b"")?;
     let journal = founded.disk.bytes();
     println!(rt; "{}: {} bytes", founded.status, journal.len())?;
-    let whole = play_calm(alloc, calm_call("run J", script.as_bytes()), journal)?;
+    let whole = play_calm(rt, alloc, calm_call("run J", script.as_bytes()), journal)?;
     println!(rt; "{}: {} replies", whole.status, lines_in(&whole.written))?;
     for call in 1..=CALLS {
         for (kept, name) in [(0, "0"), (1, "1"), (u32::MAX, "all")] {

@@ -37,6 +37,8 @@ use statuses::print_statuses;
 use std::alloc::Global;
 use std::io;
 use std::process::ExitCode;
+use std::sync::Wait;
+use std::thread::Threads;
 use texts::{bytes_of, filled, letters, number_of, suspects, word};
 
 /// The sizes of the pieces that an input is given in.
@@ -46,8 +48,12 @@ const PIECES: [usize; 3] = [1, 7, 8_192];
 const SCRIPT: &[u8] = b"{\"at\":86400000,\"do\":\"farm\"}";
 
 // Prints what a call over no journal wrote, and how it ended, where it didn't end well.
-fn play_once(rt: &impl Print, alloc: Global, asked: Call) -> io::Result<()> {
-    let ended = play_calm(alloc, asked, b"")?;
+fn play_once<H: Print + Threads + Wait + Sync>(
+    rt: &H,
+    alloc: Global,
+    asked: Call,
+) -> io::Result<()> {
+    let ended = play_calm(rt, alloc, asked, b"")?;
     print!(rt; "{}", ended.text())?;
     if ended.status == Status::Done {
         Ok(())
@@ -57,12 +63,17 @@ fn play_once(rt: &impl Print, alloc: Global, asked: Call) -> io::Result<()> {
 }
 
 // The same where the input is given whole, and again in pieces, which change nothing.
-fn play_whole(rt: &impl Print, alloc: Global, command: &str, input: &[u8]) -> io::Result<()> {
+fn play_whole<H: Print + Threads + Wait + Sync>(
+    rt: &H,
+    alloc: Global,
+    command: &str,
+    input: &[u8],
+) -> io::Result<()> {
     let asked = calm_call(command, input);
     play_once(rt, alloc, asked)?;
-    let whole = play_calm(alloc, asked, b"")?;
+    let whole = play_calm(rt, alloc, asked, b"")?;
     for piece in PIECES {
-        let ended = play_calm(alloc, Call { piece, ..asked }, b"")?;
+        let ended = play_calm(rt, alloc, Call { piece, ..asked }, b"")?;
         if ended.status != whole.status || ended.written != whole.written {
             println!(rt; "in pieces of {piece} bytes: another answer")?;
         }
@@ -70,8 +81,8 @@ fn play_whole(rt: &impl Print, alloc: Global, command: &str, input: &[u8]) -> io
     Ok(())
 }
 
-fn play_filled(
-    rt: &impl Print,
+fn play_filled<H: Print + Threads + Wait + Sync>(
+    rt: &H,
     alloc: Global,
     command: &str,
     text: &str,
@@ -80,14 +91,18 @@ fn play_filled(
     play_whole(rt, alloc, command, &filled(alloc, text, filling)?)
 }
 
-fn play_to_stop(rt: &impl Print, alloc: Global, asked: Call) -> io::Result<()> {
-    let ended = play_calm(alloc, asked, b"")?;
+fn play_to_stop<H: Print + Threads + Wait + Sync>(
+    rt: &H,
+    alloc: Global,
+    asked: Call,
+) -> io::Result<()> {
+    let ended = play_calm(rt, alloc, asked, b"")?;
     println!(rt; "{}[{}]", ended.text(), ended.status)
 }
 
 // A case of `judge` or `run`.
-fn play_command(
-    rt: &impl Print,
+fn play_command<H: Print + Threads + Wait + Sync>(
+    rt: &H,
     alloc: Global,
     command: &str,
     setting: &str,
@@ -128,8 +143,12 @@ fn play_command(
     }
 }
 
-fn play_words(rt: &impl Print, alloc: Global, line: &str) -> io::Result<()> {
-    let ended = play_calm(alloc, calm_call(line, b"{}"), b"0")?;
+fn play_words<H: Print + Threads + Wait + Sync>(
+    rt: &H,
+    alloc: Global,
+    line: &str,
+) -> io::Result<()> {
+    let ended = play_calm(rt, alloc, calm_call(line, b"{}"), b"0")?;
     println!(rt;
         "{line:?}: {}, {} bytes written, {} on the disk",
         ended.status,
@@ -138,8 +157,13 @@ fn play_words(rt: &impl Print, alloc: Global, line: &str) -> io::Result<()> {
     )
 }
 
-fn play_journal(rt: &impl Print, alloc: Global, journal: &[u8], line: &str) -> io::Result<()> {
-    let ended = play_calm(alloc, calm_call(line, SCRIPT), journal)?;
+fn play_journal<H: Print + Threads + Wait + Sync>(
+    rt: &H,
+    alloc: Global,
+    journal: &[u8],
+    line: &str,
+) -> io::Result<()> {
+    let ended = play_calm(rt, alloc, calm_call(line, SCRIPT), journal)?;
     println!(rt; "{line}: {}", ended.status)?;
     print!(rt; "{}", ended.text())?;
     if ended.disk.bytes() == journal {
@@ -149,7 +173,12 @@ fn play_journal(rt: &impl Print, alloc: Global, journal: &[u8], line: &str) -> i
     }
 }
 
-fn play_case(rt: &impl Print, alloc: Global, setting: &str, text: &str) -> io::Result<()> {
+fn play_case<H: Print + Threads + Wait + Sync>(
+    rt: &H,
+    alloc: Global,
+    setting: &str,
+    text: &str,
+) -> io::Result<()> {
     let (name, rest) = word(setting);
     match name {
         "words" => {
@@ -171,7 +200,11 @@ fn play_case(rt: &impl Print, alloc: Global, setting: &str, text: &str) -> io::R
     }
 }
 
-fn play_cases(rt: &impl Print, alloc: Global, cases: &str) -> io::Result<()> {
+fn play_cases<H: Print + Threads + Wait + Sync>(
+    rt: &H,
+    alloc: Global,
+    cases: &str,
+) -> io::Result<()> {
     for case in cases.split("\n# ") {
         let (head, text) = case.split_once('\n').unwrap_or((case, ""));
         let (setting, _) = head.split_once(": ").unwrap_or((head, ""));
@@ -181,15 +214,13 @@ fn play_cases(rt: &impl Print, alloc: Global, cases: &str) -> io::Result<()> {
     Ok(())
 }
 
-fn play_input(rt: HostRuntime) -> io::Result<()> {
-    let text = io::read_to_string(rt.alloc(), rt.reader())?;
-    let cases = text.as_str().strip_prefix("# ").unwrap_or("");
-    play_cases(&rt, rt.alloc(), cases.strip_suffix("\n").unwrap_or(cases))
-}
-
 fn main(rt: HostRuntime) -> ExitCode {
-    match play_input(rt) {
-        Ok(()) => run_process(rt),
+    let Ok(text) = io::read_to_string(rt.alloc(), rt.reader()) else {
+        return ExitCode::FAILURE;
+    };
+    let cases = text.as_str().strip_prefix("# ").unwrap_or("");
+    match play_cases(&rt, rt.alloc(), cases.strip_suffix("\n").unwrap_or(cases)) {
+        Ok(()) => run_process(rt, &rt),
         Err(_) => ExitCode::FAILURE,
     }
 }

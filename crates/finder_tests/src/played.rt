@@ -5,7 +5,11 @@ use farm_disk::{CalmDisk, Disk};
 use farm_types::{MOMENT_MIN_MS, Moment};
 use finder_program::{Status, finder};
 use link_io::{MemClock, MemSource};
+use net_io::MemNetwork;
 use std::alloc::{AllocError, Global};
+use std::sync::Wait;
+use std::thread::Threads;
+use worker_io::{ListKeys, ListRunner};
 
 /// What a call is given beside a disk: its words, with a space between two of them; the input, in pieces of a size, where
 /// 0 is no bound, of which the take with a number fails, where 0 is none; and where the output stops.
@@ -75,7 +79,8 @@ fn source_of(alloc: Global, call: Call) -> Result<MemSource, AllocError> {
 }
 
 /// Makes a call.
-pub(crate) fn play<D: Disk + Drop>(
+pub(crate) fn play<H: Threads + Wait + Sync, D: Disk + Drop + Send>(
+    rt: &H,
     alloc: Global,
     call: Call,
     disk: D,
@@ -83,13 +88,17 @@ pub(crate) fn play<D: Disk + Drop>(
     let words = words_of(alloc, call.words)?;
     let mut input = source_of(alloc, call)?;
     let mut output = Output::of(alloc, call.stop);
-    let (status, disk) = finder(
+    let (status, disk, _) = finder(
+        rt,
         alloc,
         &words,
         &mut input,
         &mut output,
         disk,
         &first_moment(),
+        MemNetwork::of(Vec::new(alloc), Vec::new(alloc), Vec::new(alloc)),
+        &mut ListRunner::of(Vec::new(alloc), Vec::new(alloc)),
+        &mut ListKeys::of(Vec::new(alloc)),
     );
     Ok(Played {
         status,
@@ -99,10 +108,11 @@ pub(crate) fn play<D: Disk + Drop>(
 }
 
 /// Makes a call over a journal in memory, on a disk that never fails.
-pub(crate) fn play_calm(
+pub(crate) fn play_calm<H: Threads + Wait + Sync>(
+    rt: &H,
     alloc: Global,
     call: Call,
     journal: &[u8],
 ) -> Result<Played<CalmDisk>, AllocError> {
-    play(alloc, call, calm_disk(alloc, journal)?)
+    play(rt, alloc, call, calm_disk(alloc, journal)?)
 }

@@ -5,7 +5,7 @@ use judge::JudgeFault;
 use std::alloc::Global;
 use std::io;
 
-const STATUSES: [Status; 12] = [
+const STATUSES: [Status; 15] = [
     Status::Done,
     Status::Usage,
     Status::ReadFault,
@@ -17,10 +17,13 @@ const STATUSES: [Status; 12] = [
     Status::Damaged(29),
     Status::Unborn,
     Status::AlreadyBorn,
+    Status::NetFault,
+    Status::RunnerFault,
     Status::Memory,
     Status::BadInput(1),
     Status::BadInput(u64::MAX),
     Status::InputLimit,
+    Status::Peer(409),
 ];
 
 /// Prints each status with its number and the line that it writes, and the faults of the judge.

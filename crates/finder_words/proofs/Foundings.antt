@@ -12,7 +12,7 @@ use Rattle.farm_entry.specs.Settings.{daily_fault, lease_fault, settings_fault, 
 use Rattle.farm_entry.specs.declared.settings.SettingsFault.{SettingsFault}
 use Rattle.farm_entry.specs.declared.settings.SettingsFault.TheVariants.{Zone}
 use Rattle.farm_types.specs.declared.zone.TheConstants.{ZONE_MAX_MINUTES, ZONE_MIN_MINUTES}
-use Rattle.finder_words.specs.Words.{Asked, found, founding_asked, zone_named}
+use Rattle.finder_words.specs.Words.{found, founding_asked, zone_named}
 
 -- a fault at the end is a fault of all
 last-fault : (a b : Option SettingsFault) (f : SettingsFault) → is_none (option_or a (option_or b (Some f))) ≡ false

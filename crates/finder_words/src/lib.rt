@@ -1,11 +1,11 @@
 //! The words that the program is called with: which subcommand they name, with its numbers, and which journal.
 //!
 //! `asked` of `specs/Words` says what a list of words asks for, if it asks for anything; [`read_subcommand`] reads just
-//! that, and [`read_places`] gives the path of the journal. A word that begins with a dash names nothing, and neither do words
-//! of which one is missing or one too many.
+//! that, and [`read_places`] gives the path of the journal. A word that is empty or begins with a dash asks for nothing,
+//! and neither do words of which one is missing or one too many, or in which a number is out of its range.
 //!
-//! The crate stands on `decimal_text` for numbers, on `farm_entry` for the settings of a farm and their limits, and on
-//! `farm_types`. The layer above may use every name below.
+//! The crate stands on `word_matches`, by which `clap` says which words fit a command, on `decimal_text` for numbers, on
+//! `farm_entry` for the settings of a farm and their limits, and on `farm_types`. The layer above may use every name below.
 #![tactic(auto)]
 
 mod places;

@@ -1,21 +1,17 @@
 //! The subcommand that the program's words name.
 
-ghost use Rattle.std.specs.Prelude.{◌≡◌, ◌≤◌, ◌^◌, ℕ, ℤ, pos, Some, IfSome, IfNone, map, string_bytes};
+ghost use Rattle.std.specs.Prelude.{◌≡◌, ◌≤◌, ◌^◌, ℕ, ℤ, pos, Some, IfOk, IfSome, IfNone, map, string_bytes};
 ghost use Rattle.std.specs.Option.{option_map};
 ghost use Rattle.farm_entry.specs.Limits.{IsZone};
 ghost use Rattle.decimal_text.specs.Decimals.{number};
-ghost use Rattle.finder_words.specs.Words.{
-  asked,
-  asked_alone,
-  asked_by,
-  asked_with,
-  founding_asked,
-  names_journal,
-  zone_named,
-};
+ghost use Rattle.finder_words.specs.Words.{asked, asked_by, asked_of, founding_asked, zone_named};
+ghost use Rattle.word_matches.specs.Forms.{words_of};
 
 use decimal_text::number;
 use farm_entry::Settings;
+use farm_types::Memory;
+use std::alloc::Global;
+use word_matches::{Matched, match_words};
 
 /// A subcommand of the program.
 #[derive(Clone, Copy, Debug, PartialEq, Eq)]
@@ -33,60 +29,43 @@ pub enum Subcommand {
 }
 
 /// The subcommand that these words name, if they name one.
-pub fn read_subcommand(words: &[String]) -> Option<Subcommand>
-    ensures { option_map asked_by result ≡ asked (map string_bytes words.now) }
+///
+/// # Errors
+///
+/// [`Memory`].
+pub fn read_subcommand(alloc: Global, words: &[String]) -> Result<Option<Subcommand>, Memory>
+    ensures { IfOk result (λ subcommand. option_map asked_by subcommand ≡ asked (map string_bytes words.now)) }
 {
-    match words {
-        [word] => read_alone(word.as_str()),
-        [word, journal] => read_of_journal(word.as_str(), journal.as_str()),
-        [word, journal, lease_ms, daily, zone] => {
-            if word.as_str() == "found" && is_journal(journal.as_str()) {
-                let settings = read_settings(lease_ms.as_str(), daily.as_str(), zone.as_str())?;
-                Some(Subcommand::Found(settings))
-            } else {
-                None
-            }
-        }
-        _ => None,
+    match match_words(alloc, words)? {
+        Some(matched) => Ok(read_matched(matched)),
+        None => Ok(None),
     }
 }
 
-/// The subcommand that a word alone names.
-fn read_alone(word: &str) -> Option<Subcommand>
-    ensures { option_map asked_by result ≡ asked_alone word.now }
+/// The subcommand that matched words name, where each number is in its range.
+pub(crate) fn read_matched(matched: Matched) -> Option<Subcommand>
+    ensures { option_map asked_by result ≡ asked_of (words_of matched.entry) }
 {
-    if word == "judge" {
-        Some(Subcommand::Judge)
-    } else if word == "run" {
-        Some(Subcommand::Run)
-    } else {
-        None
+    match matched {
+        Matched::Judge => Some(Subcommand::Judge),
+        Matched::Run => Some(Subcommand::Run),
+        Matched::RunJournal { .. } => Some(Subcommand::RunJournal),
+        Matched::Found {
+            lease_ms,
+            daily,
+            zone,
+            ..
+        } => read_founding(lease_ms, daily, zone),
+        Matched::Show { .. } => Some(Subcommand::Show),
     }
 }
 
-/// The subcommand that a word before the name of a journal names.
-fn read_of_journal(word: &str, journal: &str) -> Option<Subcommand>
-    ensures { option_map asked_by result ≡ asked_with word.now journal.now }
+/// `found` with the settings that three words write, if they write settings.
+fn read_founding(lease_ms: &str, daily: &str, zone: &str) -> Option<Subcommand>
+    ensures { option_map asked_by result
+        ≡ founding_asked (number lease_ms.now) (number daily.now) (zone_named zone.now) }
 {
-    if !is_journal(journal) {
-        None
-    } else if word == "show" {
-        Some(Subcommand::Show)
-    } else if word == "run" {
-        Some(Subcommand::RunJournal)
-    } else {
-        None
-    }
-}
-
-/// Whether a word may name a journal: it isn't empty, and doesn't begin with a dash.
-fn is_journal(word: &str) -> bool
-    ensures { result ≡ names_journal word.now }
-{
-    match word.as_bytes() {
-        [] | [b'-', ..] => false,
-        _ => true,
-    }
+    Some(Subcommand::Found(read_settings(lease_ms, daily, zone)?))
 }
 
 /// The settings that three words write, if they write settings.

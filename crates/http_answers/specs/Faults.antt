@@ -12,6 +12,7 @@ use Rattle.http_words.specs.declared.fault.PathField.TheVariants as field
 unfoldable pub bad_field_text : PathField → List ℕ
 bad_field_text field.Run = codes "{\"field\":\"run\",\"refused\":\"BadField\"}"
 bad_field_text field.Search = codes "{\"field\":\"search\",\"refused\":\"BadField\"}"
+bad_field_text field.From = codes "{\"field\":\"from\",\"refused\":\"BadField\"}"
 
 -- the body of the answer to a fault
 unfoldable pub fault_text : Fault → List ℕ

@@ -1,7 +1,7 @@
 //! One answer.
 ghost use Rattle.std.specs.Prelude.{◌≡◌, ◌<◌, ◌≤◌, ℕ, OnOk, OnErr, IsErrOf, length, take};
 ghost use Rattle.std.specs.Io.KnownBytes.{append_known};
-ghost use Rattle.link_io.specs.Counts.{Rose};
+ghost use Rattle.fault_types.specs.Counts.{Rose};
 ghost use Rattle.http_answers.specs.Answers.{allow_line, answer_bytes, body_put, close_line, interim_bytes};
 
 use crate::lines::{closing_line, interim, methods_line};

@@ -42,6 +42,7 @@ fn bad_field_text(field: PathField) -> &'static [u8]
     match field {
         PathField::Run => br#"{"field":"run","refused":"BadField"}"#,
         PathField::Search => br#"{"field":"search","refused":"BadField"}"#,
+        PathField::From => br#"{"field":"from","refused":"BadField"}"#,
     }
 }
 

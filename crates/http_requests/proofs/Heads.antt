@@ -1,11 +1,11 @@
 -- The head at the front of some bytes: it is one, and it stays whatever follows.
-use Rattle.std.proofs.Common.{ℕ, ◌≡◌, ◌+◌, ◌-◌, ◌<◌, ◌≤◌, true, false, List, [], ◌++◌, length, take, drop, sym, ap, subst, ◌∙◌, append-nil, length-append, arith, ⊎_elim}
+use Rattle.std.proofs.Common.{ℕ, ◌≡◌, ◌+◌, ◌-◌, ◌<◌, ◌≤◌, true, false, List, [], ◌∷◌, ◌++◌, length, take, drop, sym, ap, subst, ◌∙◌, append-nil, length-append, arith, ⊎_elim}
 use Rattle.std.specs.List.{list_all}
 use Rattle.std.proofs.Math.Seq.{take-append-add}
 use Rattle.std.proofs.lemmas.Bool.{cases_lt, and_parts, false≢true}
 use Rattle.std.proofs.lemmas.List.{take-append-le, take_all, take-append-drop, length-take}
 use Rattle.std.proofs.lemmas.List.Folds.{list_all-append}
-use Rattle.httparse.specs.Grammar.{RequestHead, ReadsRequest, print_request, print_blank}
+use Rattle.httparse.specs.Grammar.{RequestHead, ReadsRequest, print_request, print_blank, print_end, print_section, print_version}
 use Rattle.httparse.proofs.GrammarLemmas.{request_unique, ReadsRequest-append, print_request-append}
 use Rattle.http_requests.specs.Items.{HasHead, IsIdle, head_size, is_line_end}
 use Rattle.http_words.specs.declared.limits.TheConstants.{MAX_HEAD_BYTES}
@@ -44,6 +44,14 @@ HasHead-size bytes head has =
     let cut = length-take MAX_HEAD_BYTES bytes in
     let parts = length-append (print_request head) has.rest in
     (omega (arith, same, cut, parts), omega (arith, same, cut, parts))
+
+-- a head has a byte or more
+pub head_size-some : (head : RequestHead) → 0 < head_size head
+head_size-some head =
+    let whole = ap length (print_request-append head []) in
+    let method = head.target ++ 32 ∷ (print_version head.minor ++ (print_end head.line_end ++ (print_section head.fields head.last ++ []))) in
+    let front = length-append (print_blank head.blank) (head.method ++ 32 ∷ method) in
+    omega (arith, whole, front, length-append head.method (32 ∷ method), length-append (print_request head) [])
 
 -- a head holds a space, which ends no line
 pub HasHead-busy : (bytes : List ℕ) (head : RequestHead) → HasHead bytes head → list_all is_line_end bytes ≡ true → ⊥

@@ -10,11 +10,11 @@ use Rattle.http_requests.specs.Items.{Item, IsIdle, HasHead, IsRequest, IsNext, 
 use Rattle.http_requests.specs.Laws.{IsSettled}
 use Rattle.http_words.specs.declared.fault.Fault.{Fault}
 use Rattle.http_words.specs.declared.fault.Fault.TheVariants as fault
-use Rattle.http_requests.proofs.Heads.{HasHead-append, HasHead-unique, HasHead-size, HasHead-busy}
+use Rattle.http_requests.proofs.Heads.{HasHead-append, HasHead-unique, HasHead-size, HasHead-busy, head_size-some}
 
 -- ---- one list
 
-next-unique : (bytes : List ℕ) (a b : Item) → IsNext bytes a → IsNext bytes b → a ≡ b
+pub next-unique : (bytes : List ℕ) (a b : Item) → IsNext bytes a → IsNext bytes b → a ≡ b
 next-unique bytes a b (inl x) (inl y) =
     let same = HasHead-unique bytes x.head y.head x.has y.has in
     x.item_is ∙ ap (λ (head : RequestHead). item_of head (drop (head_size head) bytes)) same ∙ sym y.item_is
@@ -22,7 +22,7 @@ next-unique bytes a b (inl x) (inr y) = absurd (y.none x.head x.has)
 next-unique bytes a b (inr x) (inl y) = absurd (x.none y.head y.has)
 next-unique bytes a b (inr x) (inr y) = x.item_is ∙ sym y.item_is
 
-idle-alone : (bytes : List ℕ) (item : Item) → IsIdle bytes → IsNext bytes item → ⊥
+pub idle-alone : (bytes : List ℕ) (item : Item) → IsIdle bytes → IsNext bytes item → ⊥
 idle-alone bytes item idle (inl x) = HasHead-busy bytes x.head x.has idle.blank
 idle-alone bytes item idle (inr x) = x.busy idle
 
@@ -140,6 +140,17 @@ open-append bytes more item (inl x) stays =
       omega (arith, sizes, room),
     )
 open-append bytes more item (inr x) stays = absurd (both_closed item.closes (ap (λ (i : Item). i.closes) x.item_is) stays)
+
+-- an item that doesn't close takes a byte or more
+pub open-some : (bytes : List ℕ) (item : Item) → IsNext bytes item → item.closes ≡ false → 0 < item.size
+open-some bytes item (inl x) stays =
+    let body = open-body bytes item x stays in
+    let here = x.item_is ∙ item_of-whole x.head body.0 (drop (head_size x.head) bytes) body.1 body.2 in
+    let sizes : item.size ≡ head_size x.head + body.0 =
+    ap (λ (i : Item). i.size) here ∙ whole_item-size x.head body.0 (drop (head_size x.head) bytes)
+    in
+    omega (arith, sizes, head_size-some x.head)
+open-some bytes item (inr x) stays = absurd (both_closed item.closes (ap (λ (i : Item). i.closes) x.item_is) stays)
 
 -- The items of longer bytes are the same, where the one that closes is.
 pub items-append : (bytes more : List ℕ) (items : List Item) → Items bytes items closed → IsSettled bytes items → Items (bytes ++ more) items closed

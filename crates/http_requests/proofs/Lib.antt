@@ -1,4 +1,8 @@
+pub mod FrontLaws
 pub mod Heads
+pub mod Inputs
 pub mod ItemLaws
 pub mod Parts
+pub mod Places
+pub mod Read
 pub mod Says

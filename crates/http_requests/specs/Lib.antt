@@ -1,6 +1,10 @@
 pub mod Fields
 pub mod Framing
+pub mod Fronts
 pub mod Heads
 pub mod Items
 pub mod Laws
+pub mod Looks
 pub mod Next
+pub mod Places
+pub mod Readings

@@ -1,13 +1,15 @@
 -- What a reader of a connection may say of the bytes that it holds, while more may follow.
-use Rattle.std.specs.Prelude.{ℕ, ◌+◌, ◌<◌, ◌≤◌, ◌≡◌, ◌⊎◌, Bool, true, false, IsTrue, List, [], ◌++◌, length, slice_range, Ok, Err}
+use Rattle.std.specs.Prelude.{ℕ, ◌+◌, ◌*◌, ◌<◌, ◌≤◌, ◌≡◌, ◌⊎◌, Bool, true, false, IsTrue, List, [], ◌++◌, length, take, drop, slice_range, Ok, Err}
 use Rattle.std.specs.List.{list_all}
 use Rattle.httparse.specs.Grammar.{RequestHead, MayBecomeRequest}
 use Rattle.http_requests.specs.Fields.{fields_of}
 use Rattle.http_requests.specs.Framing.{wants_interim}
 use Rattle.http_requests.specs.Items.{Item, IsNext, IsIdle, HasHead, head_size, body_of, is_line_end}
+use Rattle.http_requests.specs.Readings.{IsReading}
 use Rattle.http_words.specs.declared.fault.Fault.{Fault}
 use Rattle.http_words.specs.declared.limits.TheConstants.{MAX_HEAD_BYTES, MAX_BODY_BYTES}
 use Rattle.http_requests.specs.declared.next.Awaited.{Awaited}
+use Rattle.http_requests.specs.declared.next.Found.{Found}
 use Rattle.http_requests.specs.declared.next.Next.{Next}
 use Rattle.http_requests.specs.declared.next.Next.TheVariants as next
 use Rattle.http_requests.specs.declared.request.Request.{Request}
@@ -48,12 +50,19 @@ pub record IsNextFor (ended : Bool) (held : List ℕ) (request : Request) : Type
 abbrev pub HasNoHeadFor : Bool → List ℕ → Type 0
 HasNoHeadFor ended held = (more : List ℕ) → MayFollow ended more → (head : RequestHead) → ¬ (HasHead (held ++ more) head)
 
--- No whole head is held, fewer bytes than a head may have are, and one may still come of them.
+-- more than half of the bytes held may become a head
+pub record MayHaveCome (held : List ℕ) : Type 0 where
+  pub count : ℕ
+  pub half : length held < 2 * count
+  pub may : MayBecomeRequest (take count held)
+
+-- No whole head is held, fewer bytes than a head may have are, and one may still come of them, or might have of
+-- more than half of them.
 pub record AwaitsHead (ended : Bool) (held : List ℕ) : Type 0 where
   pub open_ : ended ≡ false
   pub few : length held < MAX_HEAD_BYTES
   pub none : (head : RequestHead) → ¬ (HasHead held head)
-  pub may_come : IsTrue (list_all is_line_end held) ⊎ MayBecomeRequest held
+  pub may_come : IsTrue (list_all is_line_end held) ⊎ MayHaveCome held
 
 -- A head is held, and its body isn't whole.
 pub record AwaitsBody (ended : Bool) (held : List ℕ) (awaited : Awaited) : Type 0 where
@@ -73,3 +82,15 @@ Says ended held next.More = AwaitsHead ended held
 Says ended held (next.Body awaited) = AwaitsBody ended held awaited
 Says ended held (next.Request request) = IsNextFor ended held request
 Says ended held next.End = IsTrue ended × IsIdle held
+
+-- what is left of the bytes held, once that was answered
+abbrev pub left_of : List ℕ → Next → List ℕ
+left_of held next.More = held
+left_of held (next.Body awaited) = held
+left_of held (next.Request request) = drop request.size held
+left_of held next.End = held
+
+-- that comes next, and what is kept is of the bytes that are left
+pub record IsFound (ended : Bool) (held : List ℕ) (found : Found) : Type 0 where
+  pub says : Says ended held found.next
+  pub keeps : IsReading found.reading (left_of held found.next)

@@ -1,17 +1,15 @@
 //! What a head comes to.
-ghost use Rattle.std.specs.Prelude.{◌≡◌, ◌≤◌, ◌+◌, List, ℕ, length, take};
+ghost use Rattle.std.specs.Prelude.{◌≡◌, ◌≤◌};
 ghost use Rattle.std.specs.Str.{IsUtf8};
 ghost use Rattle.httparse.specs.Grammar.{RequestHead};
 ghost use Rattle.httparse.specs.Spans.{IsRequestAt, IsRequestWithin};
 ghost use Rattle.http_fields.specs.Fields.{field_texts};
 ghost use Rattle.http_requests.specs.Framing.{is_head_method, wants_interim, closes_after};
 ghost use Rattle.http_requests.specs.Heads.{IsHeadOf};
-ghost use Rattle.http_requests.specs.Items.{HasHead};
-ghost use Rattle.http_requests.specs.Next.{Says};
+ghost use Rattle.http_requests.specs.Readings.{Becomes};
 
 use crate::framing::body_length;
 use crate::head::Head;
-use crate::next::{Awaited, Next};
 use crate::request::Request;
 use http_fields::Fields;
 use http_routes::Pages;
@@ -38,7 +36,7 @@ impl<'b> Head<'b> {
     }
 
     #[tactic(auto, unfolding(crate::specs::Framing::is_head_method))]
-    fn is_head(&self) -> bool
+    pub(crate) fn is_head(&self) -> bool
         ensures { result ≡ is_head_method self.now.method.now }
     {
         self.method == b"HEAD".as_slice()
@@ -58,33 +56,21 @@ impl<'b> Head<'b> {
         self.minor == 0 || self.fields.has_close()
     }
 
-    /// What comes next, where so many bytes are held. The target is a text, as that of every head is.
-    pub(crate) fn next(&self, pages: &Pages, held: usize, ended: bool) -> Next
+    /// What the head becomes: the request, once its body is whole, or the fault for which no body is read. The target is a
+    /// text, as that of every head is.
+    pub(crate) fn becomes(&self, pages: &Pages) -> Result<Request, Fault>
         requires short { self.now.size ≤ MAX_HEAD_BYTES }
         requires text { IsUtf8 self.now.target.now }
-        ensures { (head : RequestHead) (bytes : List ℕ) → IsHeadOf self.now head → HasHead bytes head
-            → length bytes ≡ held → Says ended bytes result }
+        ensures { (head : RequestHead) → IsHeadOf self.now head → Becomes head result }
     {
-        let len = match body_length(self.method, self.minor, &self.fields) {
-            Ok(len) => len,
-            Err(fault) => return Next::Request(Request::refused(false, self.is_head(), fault)),
-        };
-        let size = self.size + len;
-        let interim = self.wants_interim(len);
-        if held < size {
-            if ended {
-                let refused = Request::refused(interim, self.is_head(), Fault::BadRequest);
-                return Next::Request(refused);
-            }
-            return Next::Body(Awaited { interim, size });
-        }
-        Next::Request(Request {
-            interim,
+        let len = body_length(self.method, self.minor, &self.fields)?;
+        Ok(Request {
+            interim: self.wants_interim(len),
             withheld: self.is_head(),
             closes: self.closes(),
             asks: pages.endpoint_of(self.method, self.target),
             body: self.size,
-            size,
+            size: self.size + len,
         })
     }
 }

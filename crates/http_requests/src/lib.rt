@@ -14,8 +14,14 @@ mod framing;
 mod front;
 mod head;
 pub mod laws;
+mod look;
 mod next;
+mod place;
+mod reading;
 mod request;
+mod whole;
 
 pub use next::{Awaited, Next, next_of};
+pub use reading::Reading;
 pub use request::Request;
+pub use whole::every_input_has_items;

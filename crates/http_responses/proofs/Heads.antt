@@ -19,6 +19,11 @@ take-short zero xs = omega arith
 take-short (suc n) [] = omega arith
 take-short (suc n) (x ∷ xs) = let rest = take-short n xs in omega (arith, rest)
 
+pub take-few : {X : Type 0} (n : ℕ) (xs : List X) → length (take n xs) ≤ n
+take-few zero xs = omega arith
+take-few (suc n) [] = omega arith
+take-few (suc n) (x ∷ xs) = let rest = take-few n xs in omega (arith, rest)
+
 pub HasHead-more : (held more : List ℕ) (h : ResponseHead) → HasHead held h → HasHead (held ++ more) h
 HasHead-more held more h has =
     let front = front-more MAX_HEAD_BYTES held more in

@@ -1,5 +1,5 @@
 -- What may be said of bytes by the head with which they begin, or where they begin with none.
-use Rattle.std.proofs.Common.{◌≡◌, ◌+◌, ◌-◌, ◌<◌, ◌≤◌, ℕ, Bool, true, false, List, [], ◌∷◌, ◌++◌, length, map, take, drop, nat_lt, All, le_trans, slice_range, if◌then◌else◌, Option, Some, None, Ok, refl, sym, ap, subst, ◌∙◌, inl, inr, arith}
+use Rattle.std.proofs.Common.{◌≡◌, ◌+◌, ◌-◌, ◌<◌, ◌≤◌, ℕ, Bool, true, false, List, [], ◌∷◌, ◌++◌, length, map, take, drop, nat_lt, All, le_trans, slice_range, length-append, append-nil, if◌then◌else◌, Option, Some, None, Ok, refl, sym, ap, subst, ◌∙◌, inl, inr, arith}
 use Rattle.std.proofs.lemmas.Bool.Decides.{nat_tests}
 use Rattle.std.proofs.lemmas.List.{drop-append-le, length-drop, length-map, take-append-le, take_all}
 use Rattle.std.proofs.lemmas.List.Elements.{All-weaker}
@@ -77,15 +77,19 @@ unframed held h has final none more status body is =
     none-some of_h.len (sym none ∙ of_h.framed)
 
 cut : (held : List ℕ) (h : ResponseHead) (len : ℕ) → HasHead held h → is_interim h ≡ false → body_length h ≡ Some len →
-    length held < head_size h + len → IsUnfinished held
+    length held < head_size h + len → IsUnfinished held (head_size h + len)
 cut held h len has final framed short = record {
-  none = λ status body is.
-      let of_h = final-of held h body has final is.interims is.head is.is in
+  ahead = short;
+  none = λ more status body few is.
+      let has_more = HasHead-more held more h has in
+      let of_h = final-of (held ++ more) h body has_more final is.interims is.head is.is in
       let lens : len ≡ of_h.len = same_Some len of_h.len (sym framed ∙ of_h.framed) in
-      let there : of_h.len ≤ length (drop (head_size h) held) = of_h.there in
-      let behind : length (drop (head_size h) held) ≡ length held - head_size h = length-drop (head_size h) held in
+      let there : of_h.len ≤ length (drop (head_size h) (held ++ more)) = of_h.there in
+      let behind : length (drop (head_size h) (held ++ more)) ≡ length (held ++ more) - head_size h =
+      length-drop (head_size h) (held ++ more) in
+      let both : length (held ++ more) ≡ length held + length more = length-append held more in
       let within = head-within held h has in
-      absurd (omega (arith, lens, there, behind, within, short));
+      absurd (omega (arith, lens, there, behind, both, within, few));
   begun = inr (record { head = h; has = has; final = final; len = len; framed = framed; short = short });
 }
 
@@ -111,7 +115,7 @@ whole held h len has final framed enough more =
 
 says-body : (held : List ℕ) (h : ResponseHead) (len : ℕ) → HasHead held h → is_interim h ≡ false → body_length h ≡ Some len →
     (b : Bool) → nat_lt (length held - head_size h) len ≡ b →
-    Says held (if b then More else Whole (record { status = status_code h; body = head_size h; end = head_size h + len }))
+    Says held (if b then More (head_size h + len) else Whole (record { status = status_code h; body = head_size h; end = head_size h + len }))
 says-body held h len has final framed true test =
     let within = head-within held h has in
     let short : length held - head_size h < len = grind (arith, nat_tests, test) in
@@ -144,10 +148,18 @@ headless : (bytes : List ℕ) → HasNoResponse (take MAX_HEAD_BYTES bytes) → 
 headless bytes none status body is =
     let first = first-head bytes is.interims is.head body is.is in none first.0 first.1.rest first.1.reads
 
+no-more : (more : List ℕ) → length more < 1 → more ≡ []
+no-more [] few = refl
+no-more (x ∷ more) few = absurd (omega arith)
+
 pub says-more : (held : List ℕ) → length held < MAX_HEAD_BYTES → HasNoResponse (take MAX_HEAD_BYTES held) →
-    MayBecomeResponse (take MAX_HEAD_BYTES held) → Says held More
-says-more held short none may = record {
-  none = headless held none;
+    MayBecomeResponse (take MAX_HEAD_BYTES held) → (size : ℕ) → size ≡ length held + 1 → Says held (More size)
+says-more held short none may size next = record {
+  ahead = omega arith;
+  none = λ more status body few.
+      let nothing : more ≡ [] = no-more more (omega arith) in
+      subst (λ (l : List ℕ). ¬ IsWhole l status body) (sym (ap (λ (l : List ℕ). held ++ l) nothing ∙ append-nil held))
+      (headless held none status body);
   begun = inl (short, subst MayBecomeResponse (take_all MAX_HEAD_BYTES held (omega arith)) may);
 }
 

@@ -21,10 +21,12 @@ pub record IsCut (held : List ℕ) : Type 0 where
 abbrev pub IsBegun : List ℕ → Type 0
 IsBegun held = ((length held < MAX_HEAD_BYTES) × MayBecomeResponse held) ⊎ IsCut held
 
--- no response is whole yet, and one has begun
-pub record IsUnfinished (held : List ℕ) : Type 0 where
-  pub none : (status : ℕ) (body : List ℕ) → ¬ IsWhole held status body
+-- no response is whole yet, one has begun, and none is whole before so many bytes are held
+pub record IsUnfinished (held : List ℕ) (size : ℕ) : Type 0 where
   pub begun : IsBegun held
+  pub ahead : length held < size
+  pub none : (more : List ℕ) (status : ℕ) (body : List ℕ) →
+      length held + length more < size → ¬ IsWhole (held ++ more) status body
 
 -- so many bytes stand before the response, whatever follows
 pub record IsBefore (held : List ℕ) (size : ℕ) : Type 0 where
@@ -34,7 +36,7 @@ pub record IsBefore (held : List ℕ) (size : ℕ) : Type 0 where
       IsWhole (held ++ more) status body ↔ IsWhole (drop size held ++ more) status body
 
 abbrev pub Says : List ℕ → Progress → Type 0
-Says held More = IsUnfinished held
+Says held (More size) = IsUnfinished held size
 Says held (Interim size) = IsBefore held size
 Says held (Whole r) =
     (r.body ≤ r.end) × (r.end ≤ length held)
@@ -45,7 +47,7 @@ Says held Never = (more : List ℕ) (status : ℕ) (body : List ℕ) → ¬ IsWh
 abbrev pub behind_final : (status size : ℕ) → Option ℕ → (held : ℕ) → Progress
 behind_final status size None held = Never
 behind_final status size (Some len) held =
-    if nat_lt (held - size) len then More else Whole (record { status = status; body = size; end = size + len })
+    if nat_lt (held - size) len then More (size + len) else Whole (record { status = status; body = size; end = size + len })
 
 -- what stands at the front of so many bytes that begin with a head of this status and size
 abbrev pub progress_of : (status size : ℕ) → Option ℕ → (held : ℕ) → Progress

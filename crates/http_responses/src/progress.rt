@@ -3,8 +3,8 @@
 /// What stands at the front of the bytes held.
 #[derive(Clone, Copy, Debug, PartialEq, Eq)]
 pub enum Progress {
-    /// No response is whole yet.
-    More,
+    /// No response is whole yet, nor will one be before so many bytes are held, which is more than there are now.
+    More(usize),
     /// An interim response of so many bytes: the response begins behind it.
     Interim(usize),
     /// A whole response.

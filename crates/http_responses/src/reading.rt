@@ -4,6 +4,7 @@ ghost use Rattle.httparse.specs.Spans.{IsHeaderWithin, header_bytes};
 ghost use Rattle.http_fields.specs.Lengths.{stated_length};
 ghost use Rattle.http_responses.specs.Framing.{length_by};
 ghost use Rattle.http_responses.specs.Reading.{Says, progress_of};
+ghost use Rattle.http_words.specs.declared.limits.TheConstants.{MAX_HEAD_BYTES};
 
 use crate::fields::body_length;
 use crate::interim::INTERIM_STATUS;
@@ -23,7 +24,7 @@ pub fn read_response(held: &[u8]) -> Progress
         Ok(Status::Complete(head)) => behind_head(front, &spans[..head.headers], &head, held.len()),
         Ok(Status::Partial) => {
             if held.len() < MAX_HEAD_BYTES {
-                Progress::More
+                Progress::More(held.len() + 1)
             } else {
                 Progress::Never
             }
@@ -47,6 +48,7 @@ fn front_of(held: &[u8]) -> &[u8]
 fn behind_head(front: &[u8], spans: &[HeaderSpan], head: &ResponseSpans, held: usize) -> Progress
     requires fields { All (IsHeaderWithin (length front.now)) spans.now }
     requires within { head.now.len ≤ held }
+    requires short { head.now.len ≤ MAX_HEAD_BYTES }
     ensures { result ≡ progress_of head.now.code head.now.len
         (length_by (stated_length (map (header_bytes front.now) spans.now))) held }
 {
@@ -56,7 +58,7 @@ fn behind_head(front: &[u8], spans: &[HeaderSpan], head: &ResponseSpans, held: u
     let bytes = front;
     match body_length(&Fields { bytes, spans }) {
         None => Progress::Never,
-        Some(length) if held - head.len < length => Progress::More,
+        Some(length) if held - head.len < length => Progress::More(head.len + length),
         Some(length) => Progress::Whole(Response {
             status: head.code,
             body: head.len,

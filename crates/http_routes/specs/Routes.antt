@@ -13,7 +13,6 @@ use Rattle.http_words.specs.declared.fault.Fault.{Fault}
 use Rattle.http_words.specs.declared.fault.Fault.TheVariants as fault
 use Rattle.http_words.specs.declared.fault.PathField.{PathField}
 use Rattle.http_words.specs.declared.fault.PathField.TheVariants as field
-use Rattle.http_words.specs.declared.route.Route.{Route}
 use Rattle.http_words.specs.declared.route.Route.TheVariants as route
 use Rattle.path_table.specs.Segments.{Segment, literal, parameter, parts, row_in}
 
@@ -33,6 +32,7 @@ path_table =
     ∷ (below (literal (codes "farm") ∷ []), page.Farm)
     ∷ (below (literal (codes "orders") ∷ []), page.Orders)
     ∷ (below (literal (codes "totals") ∷ []), page.Totals)
+    ∷ (below (literal (codes "log") ∷ parameter ∷ []), page.Log)
     ∷ []
 
 -- the row in which a path stands
@@ -54,41 +54,43 @@ allow_of page.Search = allow.GetAndHead
 allow_of page.Farm = allow.GetAndHead
 allow_of page.Orders = allow.GetAndHead
 allow_of page.Totals = allow.GetAndHead
+allow_of page.Log = allow.GetAndHead
 
 -- a method is among those allowed
 abbrev pub allows : Allow → List ℕ → Bool
 allows allow.Post method = bytes_eq method (codes "POST")
 allows allow.GetAndHead method = bytes_eq method (codes "GET") || bytes_eq method (codes "HEAD")
 
--- the greatest number of a run or a search
+-- the greatest number in a path
 abbrev pub last_number : ℕ
 last_number = 2 ^ 32 - 1
 
--- the same number, where it is one of a run or a search
+-- the same number, where it is one of those in paths
 abbrev pub from_one : Option ℕ → Option ℕ
 from_one None = None
 from_one (Some n) = if nat_lt 0 n && nat_le n last_number then Some n else None
 
--- the number of a run or a search that a text writes, without zeros in front
+-- the number in a path that a text writes, without zeros in front
 unfoldable pub path_number : List ℕ → Option ℕ
 path_number text = from_one (number text)
 
--- the route of a number, or the fault that names it
-abbrev pub numbered : PathField → (ℕ → Route) → Option ℕ → Result Endpoint Fault
-numbered name route None = Err (fault.BadField name)
-numbered name route (Some n) = Ok (endpoint.Command (route n))
+-- what is asked for by a number, or the fault that names it
+abbrev pub numbered : PathField → (ℕ → Endpoint) → Option ℕ → Result Endpoint Fault
+numbered name asked None = Err (fault.BadField name)
+numbered name asked (Some n) = Ok (asked n)
 
 -- what a row with the text of its number asks for
 abbrev pub endpoint_at : Page → List ℕ → Result Endpoint Fault
 endpoint_at page.Searches text = Ok (endpoint.Command route.Open)
 endpoint_at page.Leases text = Ok (endpoint.Command route.Lease)
-endpoint_at page.Report text = numbered field.Run route.Report (path_number text)
-endpoint_at page.Cancel text = numbered field.Search route.Cancel (path_number text)
+endpoint_at page.Report text = numbered field.Run (λ run. endpoint.Command (route.Report run)) (path_number text)
+endpoint_at page.Cancel text = numbered field.Search (λ search. endpoint.Command (route.Cancel search)) (path_number text)
 endpoint_at page.Reverts text = Ok (endpoint.Command route.Revert)
-endpoint_at page.Search text = numbered field.Search route.Search (path_number text)
+endpoint_at page.Search text = numbered field.Search (λ search. endpoint.Command (route.Search search)) (path_number text)
 endpoint_at page.Farm text = Ok (endpoint.Command route.Farm)
 endpoint_at page.Orders text = Ok (endpoint.Command route.Orders)
 endpoint_at page.Totals text = Ok endpoint.Totals
+endpoint_at page.Log text = numbered field.From endpoint.Log (path_number text)
 
 -- first the path has to stand in the table, then the method has to be one of its row, then the number has to be one
 abbrev pub endpoint_by : Option Page → List ℕ → List ℕ → Result Endpoint Fault

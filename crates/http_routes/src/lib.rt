@@ -1,12 +1,13 @@
-//! What requests ask for: the path table of the service, in a router, and the endpoint of a request by its method and target.
+//! What requests ask for: the path table of the service, in a router, and the endpoint of a request by its method and
+//! target.
 //!
-//! [`Pages`] is filled once and then shared. Which row a path stands in, which methods the row allows and which number the
-//! path has to hold is defined over the path's parts in `specs/Routes`, and `specs/Paths` says what of a target is its path. A
-//! new row is a line of `path_table`, one of `Pages::new` and one of `endpoint_at`.
+//! [`Pages`] is filled once and then shared. Which row a path stands in, which methods the row allows and which number
+//! the path has to hold is defined over the path's parts in `specs/Routes`, and `specs/Paths` says what of a target is
+//! its path. A new row is a line of `path_table`, one of `Pages::new` and one of `endpoint_at`.
 //!
-//! The crate stands on `matchit` for the router, on `path_table` for what a router of a table finds, on `http_words` for what
-//! is asked for and refused, on `http_fields` for texts without regard to case, on `decimal_text` for numbers, and on
-//! `farm_types` for want of memory. The layers above may use every name below.
+//! The crate stands on `matchit` for the router, on `path_table` for what a router of a table finds, on `http_words`
+//! for what is asked for and refused, on `http_fields` for texts without regard to case, on `decimal_text` for numbers,
+//! and on `farm_types` for want of memory. The layers above may use every name below.
 #![tactic(auto)]
 
 mod numbers;

@@ -16,6 +16,7 @@ pub(crate) enum Page {
     Farm,
     Orders,
     Totals,
+    Log,
 }
 
 impl Page {
@@ -27,7 +28,8 @@ impl Page {
             Page::Searches | Page::Leases | Page::Report | Page::Cancel | Page::Reverts => {
                 Allow::Post
             }
-            Page::Search | Page::Farm | Page::Orders | Page::Totals => Allow::GetAndHead,
+            Page::Search | Page::Farm | Page::Orders | Page::Totals | Page::Log =>
+                Allow::GetAndHead,
         }
     }
 }

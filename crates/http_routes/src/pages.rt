@@ -35,6 +35,7 @@ impl Pages {
         add_route(&mut router, "/v1/farm", Page::Farm)?;
         add_route(&mut router, "/v1/orders", Page::Orders)?;
         add_route(&mut router, "/v1/totals", Page::Totals)?;
+        add_route(&mut router, "/v1/log/{from}", Page::Log)?;
         Ok(Pages { router })
     }
 
@@ -48,8 +49,8 @@ impl Pages {
         }
     }
 
-    /// What a request asks for by its method and target, or why it asks for nothing. The target has to be a text, as that of
-    /// every head is.
+    /// What a request asks for by its method and target, or why it asks for nothing. The target has to be a text, as
+    /// that of every head is.
     #[tactic(auto, unfolding(crate::specs::Routes::endpoint_of))]
     pub fn endpoint_of(&self, method: &[u8], target: &[u8]) -> Result<Endpoint, Fault>
         requires { IsUtf8 target.now }
@@ -88,6 +89,10 @@ fn endpoint_at(page: Page, path: &str) -> Result<Endpoint, Fault>
         Page::Search => match number_of(path) {
             Some(search) => Ok(Endpoint::Command(Route::Search(search))),
             None => Err(Fault::BadField(PathField::Search)),
+        },
+        Page::Log => match number_of(path) {
+            Some(from) => Ok(Endpoint::Log(from)),
+            None => Err(Fault::BadField(PathField::From)),
         },
     }
 }

@@ -10,7 +10,7 @@ use link_io::{MemSink, Sink};
 use std::alloc::Global;
 use std::io;
 
-const FAULTS: [Fault; 9] = [
+const FAULTS: [Fault; 10] = [
     Fault::BadRequest,
     Fault::NotImplemented,
     Fault::TooLarge,
@@ -20,6 +20,7 @@ const FAULTS: [Fault; 9] = [
     Fault::MethodNotAllowed(Allow::GetAndHead),
     Fault::BadField(PathField::Run),
     Fault::BadField(PathField::Search),
+    Fault::BadField(PathField::From),
 ];
 
 const STATUSES: [StatusCode; 11] = [

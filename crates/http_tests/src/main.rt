@@ -3,7 +3,8 @@
 //!
 //! - `line` and the line of a script, `spelled` and one in which parts are repeated, as below, or `bytes` and a line's
 //!   bytes as hexadecimal digits; `body ROUTE NUMBER` and the body of a request, in which parts may be repeated;
-//! - a word for a reply, and its fields in order, a culprit behind a slash, as `opened 1 31 verifying/1`; `refusals` and
+//! - a word for a reply, and its fields in order, a culprit behind a slash, as `opened 1 31 verifying/1`; `log`, the number
+//!   of an entry and bytes as below; `refusals` and
 //!   `wire_faults`, whose texts are printed each on a line;
 //! - `held`, `whole`, `prefixes` or `response` and bytes: what comes next of a connection of which these are held, or are
 //!   all, or of each of their prefixes, and what response stands at their front. `\r`, `\n` and `\t` stand for control

@@ -1,9 +1,11 @@
 //! The text of each reply that shows something.
 
+use crate::refusals::print_text;
 use crate::replies::{print_reply, standing_of};
-use crate::texts::{number_at, number_of, word_at};
+use crate::texts::{bytes_of, number_at, number_of, word, word_at};
 use farm_entry::{OrderLine, OrderPage, Reply, SearchPage, Shares, Totals};
 use farm_types::{CommitId, Memory, Name};
+use farm_wire::{log_text, totals_text};
 use std::alloc::Global;
 use std::io;
 
@@ -38,9 +40,9 @@ pub(crate) fn print_page(rt: &impl Print, alloc: Global, text: &str) -> io::Resu
     }
 }
 
-/// Prints the totals of a farm, in the order of their fields.
-pub(crate) fn print_totals(rt: &impl Print, alloc: Global, text: &str) -> io::Result<()> {
-    let totals = Totals {
+// The totals of a farm, in the order of their fields.
+fn totals_of(text: &str) -> Totals {
+    Totals {
         entries: u64::from(number_at(text, 0)),
         searches: u64::from(number_at(text, 1)),
         searching: u64::from(number_at(text, 2)),
@@ -49,8 +51,24 @@ pub(crate) fn print_totals(rt: &impl Print, alloc: Global, text: &str) -> io::Re
         ended: u64::from(number_at(text, 5)),
         counted: u64::from(number_at(text, 6)),
         orders: u64::from(number_at(text, 7)),
-    };
-    print_reply(rt, alloc, &Reply::Farm(totals))
+    }
+}
+
+/// Prints the totals of a farm, as a command's reply.
+pub(crate) fn print_totals(rt: &impl Print, alloc: Global, text: &str) -> io::Result<()> {
+    print_reply(rt, alloc, &Reply::Farm(totals_of(text)))
+}
+
+/// Prints the totals that were posted, as an answer of their own.
+pub(crate) fn print_posted(rt: &impl Print, alloc: Global, text: &str) -> io::Result<()> {
+    print_text(rt, totals_text(alloc, &totals_of(text)))
+}
+
+/// Prints the log page from this entry on, with these bytes.
+pub(crate) fn print_log(rt: &impl Print, alloc: Global, text: &str) -> io::Result<()> {
+    let (from, bytes) = word(text);
+    let bytes = bytes_of(alloc, bytes)?;
+    print_text(rt, log_text(alloc, number_of(from), &bytes))
 }
 
 /// Prints the page of no orders.

@@ -37,12 +37,11 @@ const REFUSALS: [Refusal; 23] = [
     Refusal::SearchEnded(Standing::Inconclusive),
 ];
 
-const FAULTS: [WireFault; 5] = [
+const FAULTS: [WireFault; 4] = [
     WireFault::TooLong,
     WireFault::BadJson,
     WireFault::BadField(Field::At),
     WireFault::BadField(Field::From),
-    WireFault::Memory,
 ];
 
 /// Prints a text that was written.
@@ -55,7 +54,12 @@ pub(crate) fn print_text(rt: &impl Print, text: Result<String, Memory>) -> io::R
 
 /// Prints the text of a fault.
 pub(crate) fn print_fault(rt: &impl Print, alloc: Global, fault: &WireFault) -> io::Result<()> {
-    print_text(rt, fault_text(alloc, fault))
+    match fault {
+        WireFault::Memory => println!(rt; "{fault}"),
+        WireFault::TooLong | WireFault::BadJson | WireFault::BadField(_) => {
+            print_text(rt, fault_text(alloc, fault))
+        }
+    }
 }
 
 /// Prints the texts of the refusals.

@@ -2,7 +2,9 @@
 
 ghost use Rattle.farm_wire.specs.Replies.{HasDates};
 
-use crate::pages::{print_no_orders, print_order, print_page, print_totals};
+use crate::pages::{
+    print_log, print_no_orders, print_order, print_page, print_posted, print_totals,
+};
 use crate::refusals::print_text;
 use crate::texts::{number_at, word_at};
 use farm_entry::{Fate, Reply, Standing};
@@ -126,6 +128,8 @@ pub(crate) fn play_reply(rt: &impl Print, alloc: Global, name: &str, text: &str)
         "ordered" => print_ordered(rt, alloc, text),
         "page" => print_page(rt, alloc, text),
         "totals" => print_totals(rt, alloc, text),
+        "posted" => print_posted(rt, alloc, text),
+        "log" => print_log(rt, alloc, text),
         "no_orders" => print_no_orders(rt, alloc),
         _ => print_order(rt, alloc, text),
     }

@@ -1,17 +1,32 @@
 //! Requests and responses, as they are read from the bytes that are held.
+ghost use Rattle.http_requests.specs.Readings.{IsReading};
 
 use crate::texts::{bytes_of, print_found};
-use http_requests::{Next, next_of};
+use http_requests::{Next, Reading, next_of};
 use http_responses::read_response;
 use http_routes::Pages;
 use std::alloc::Global;
 use std::io;
 
-// Prints what comes next of each prefix but the whole, wherever it differs from what comes of the one before it.
+// What comes next of bytes of which some were read before. What comes next of longer ones is read anew behind a request.
+fn read_on(pages: &Pages, reading: &mut Reading, held: &[u8]) -> Next
+    requires { IsReading reading.old held.now }
+    ensures { IsReading reading.new held.now }
+{
+    let next = next_of(pages, reading, held, false);
+    if let Next::Request(_) = next {
+        *reading = Reading::new();
+    }
+    next
+}
+
+// Prints what comes next of each prefix but the whole, wherever it differs from what comes of the one before it. The prefixes
+// are read one after the other, as bytes that come one by one.
 fn print_prefixes(rt: &impl Print, pages: &Pages, bytes: &[u8]) -> io::Result<()> {
     let mut last = Next::End;
+    let mut reading = Reading::new();
     for end in 0..bytes.len() {
-        let next = next_of(pages, &bytes[..end], false);
+        let next = read_on(pages, &mut reading, &bytes[..end]);
         if next != last {
             print!(rt; "from {end} bytes on {next:?}; ")?;
             last = next;
@@ -28,8 +43,8 @@ pub(crate) fn play_bytes(rt: &impl Print, alloc: Global, name: &str, text: &str)
         return println!(rt; "out of memory");
     };
     match name {
-        "held" => print_found(rt, next_of(&pages, &bytes, false)),
-        "whole" => print_found(rt, next_of(&pages, &bytes, true)),
+        "held" => print_found(rt, next_of(&pages, &mut Reading::new(), &bytes, false)),
+        "whole" => print_found(rt, next_of(&pages, &mut Reading::new(), &bytes, true)),
         "prefixes" => print_prefixes(rt, &pages, &bytes),
         _ => print_found(rt, read_response(&bytes)),
     }

@@ -9,4 +9,6 @@ pub enum Endpoint {
     Command(Route),
     /// To show the totals that were posted last.
     Totals,
+    /// To hand on the history's entries from this one on, counted from 1.
+    Log(u32),
 }

@@ -16,6 +16,8 @@ pub enum PathField {
     Run,
     /// The number of a search.
     Search,
+    /// The number of the first entry of a log page.
+    From,
 }
 
 /// Why a request is answered without a command.

@@ -1,4 +1,3 @@
-pub mod Counts
 pub mod FaultPlan
 pub mod Intake
 pub mod Links

@@ -3,7 +3,7 @@
 //! behind them: which bytes a call moved, that a call which failed moved none, that a call on one half of a link keeps
 //! what the other half has done, and that each failure is counted. Code above is generic over them and proved once.
 //!
-//! The crate stands on `farm_types` for moments. The layers above may use
+//! The crate stands on `farm_types` for moments and on `fault_types` for counts. The layers above may use
 //! - the traits with their answers, `take_piece`, which gives the bytes of one take, and `put_all`, which puts a whole
 //!   slice;
 //! - `MemSource`, `MemSink` and `MemLink`, which tell their bytes to contracts, and fail at the calls that they are told
@@ -12,7 +12,7 @@
 //!   `SystemClock`: the trusted edge, since no contract says which bytes the system itself gives or takes, or what its
 //!   clock shows.
 //!
-//! Clauses above cite `specs/` (`Counts`, `Took`, `Put`, `Intake`, `Links`, `Streams`, `Telling`, `FaultPlan`, `Pieces`),
+//! Clauses above cite `specs/` (`Took`, `Put`, `Intake`, `Links`, `Streams`, `Telling`, `FaultPlan`, `Pieces`),
 //! and proofs above the lemmas of `proofs/Told`.
 #![tactic(auto)]
 

@@ -13,7 +13,7 @@ ghost use Rattle.std.specs.Prelude.{
   refl,
 };
 ghost use Rattle.std.specs.Io.KnownBytes.{Appends, Consumes, IsAtEnd, Keeps};
-ghost use Rattle.link_io.specs.Counts.{Rose};
+ghost use Rattle.fault_types.specs.Counts.{Rose};
 ghost use Rattle.link_io.specs.Took.{IfTook, OnTookFailed, is_end};
 ghost use Rattle.link_io.specs.Put.{IfPut, OnPutFailed};
 ghost use Rattle.link_io.specs.Standard.{link_stream, link_ended, link_faults};

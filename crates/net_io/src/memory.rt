@@ -1,6 +1,6 @@
 //! A network in memory.
 ghost use Rattle.std.specs.Prelude.{◌≡◌, ◌≤◌, ◌↔◌, ◌⊎◌, ◌∷◌, [], List, Some};
-ghost use Rattle.link_io.specs.Counts.{Rose, next_count, count_with};
+ghost use Rattle.fault_types.specs.Counts.{Rose, next_count, count_with};
 ghost use Rattle.link_io.specs.FaultPlan.{fresh_plan, NextFails, plan_after_success, plan_after_fault};
 ghost use Rattle.link_io.specs.MemLink.{LinkInMemory, afresh};
 ghost use Rattle.net_io.specs.Answers.{IfAccepted, OnEnd, OnAcceptFailed, IfConnected, OnConnectFailed};

@@ -1,6 +1,6 @@
 //! Where links come from.
 ghost use Rattle.std.specs.Prelude.{◌≡◌, ◌≤◌, ℕ, List, Option, false, IfSome};
-ghost use Rattle.link_io.specs.Counts.{Rose, count_with};
+ghost use Rattle.fault_types.specs.Counts.{Rose, count_with};
 ghost use Rattle.link_io.specs.Links.{link_state, fresh_link};
 ghost use Rattle.link_io.specs.Telling.{add_told};
 ghost use Rattle.net_io.specs.Answers.{IfAccepted, OnAcceptFailed, IfConnected, OnConnectFailed};

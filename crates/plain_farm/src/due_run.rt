@@ -29,7 +29,7 @@ use weight_exact::Run;
 pub fn is_open(history: &[Entry], moment: Moment, lease: LeasedRun) -> bool
     ensures { result ≡ is_open history.now (moment_ms moment) lease }
 {
-    !is_reported(history, lease.run) && moment.ms() < lease.deadline
+    moment.ms() < lease.deadline && !is_reported(history, lease.run)
 }
 
 /// The open leases of a search at a stage.

@@ -17,7 +17,7 @@ use Rattle.farm_store.specs.declared.asking.CallFault.{CallFault}
 use Rattle.farm_store.specs.declared.asking.CallFault.TheVariants.{Refused, StoreFault, Memory}
 use Rattle.list_prefix.specs.Prefix.{IsPrefix}
 use Rattle.list_prefix.proofs.Prefixes.{IsPrefix-append, IsPrefix-length, IsPrefix-refl, IsPrefix-trans}
-use Rattle.told_list.specs.Counts.{last_count}
+use Rattle.fault_types.specs.Counts.{last_count}
 use Rattle.turn_lock.specs.Known.{MayRise}
 use Rattle.turn_lock.specs.Places.{ArePlaces}
 use Rattle.turn_lock.proofs.PlaceLists.{ArePlaces-range_with_len}

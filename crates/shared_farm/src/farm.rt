@@ -1,5 +1,6 @@
 //! The shared farm.
-ghost use Rattle.std.specs.Prelude.{◌≡◌, ◌≤◌, ◌+◌, [], ◌∷◌, true, Some, IfOk, IfErr, length, max};
+ghost use Rattle.std.specs.Prelude.{◌≡◌, ◌≤◌, ◌<◌, ◌↔◌, ◌+◌, [], ◌∷◌, true, Some, IfOk, IfErr, length, max};
+ghost use Rattle.entry_codec.specs.LogPage.{log_page};
 ghost use Rattle.farm_entry.specs.Legal.{IsLegal};
 ghost use Rattle.farm_store.specs.Answering.{as_batch};
 ghost use Rattle.farm_store.specs.declared.asking.TheConstants.{MAX_BATCH};
@@ -194,6 +195,39 @@ impl<D: Disk> SharedFarm<D> {
         let reader = turn.value.reader();
         self.lock.back(turn, pass);
         reader
+    }
+
+    /// The bytes of a log page: the spelling of the most entries of the history, from this one on, counted from 1, that
+    /// have together at most `LOG_PAGE_BYTES` of `entry_codec`. There are none exactly where the history has fewer
+    /// entries. The history is that of a turn which changes nothing, and which the pass has then seen; entries that
+    /// are pending aren't in it.
+    ///
+    /// # Errors
+    ///
+    /// [`Memory`].
+    pub fn tail<R: Wait>(
+        &self,
+        rt: &R,
+        alloc: Global,
+        pass: &mut Pass,
+        from: u32,
+    ) -> Result<Vec<u8>, Memory>
+        requires ready { IsReady self.now pass.old }
+        requires from { 1 ≤ from }
+        ensures ready { IsReady self.now pass.new }
+        ensures page { IfOk result (λ bytes. bytes.items ≡ log_page from pass.new.seen) }
+        ensures none { IfOk result (λ bytes. (bytes.items ≡ []) ↔ (length pass.new.seen < from)) }
+        ensures longer { IsPrefix pass.old.seen pass.new.seen }
+        ensures legal { IsLegal pass.new.seen }
+        ensures look { IsLook pass.old pass.new }
+        ensures settled { StaysSettled pass.old pass.new }
+        ensures mine { pass.new.mine ≡ pass.old.mine }
+        ensures faults { pass.old.faults ≤ pass.new.faults }
+    {
+        let turn = self.lock.turn(rt, pass);
+        let page = turn.value.tail(alloc, from);
+        self.lock.back(turn, pass);
+        page
     }
 
     /// The store. Where a turn is out that was never given back, it waits and doesn't return.

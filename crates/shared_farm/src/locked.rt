@@ -1,6 +1,7 @@
 //! What the lock of a shared farm holds.
-ghost use Rattle.std.specs.Prelude.{◌≡◌, ◌≤◌, ◌+◌, [], true, List, ℕ, IfOk, length};
+ghost use Rattle.std.specs.Prelude.{◌≡◌, ◌≤◌, ◌<◌, ◌↔◌, ◌+◌, [], true, List, ℕ, IfOk, length};
 ghost use Rattle.std.specs.Arc.{arc_value};
+ghost use Rattle.entry_codec.specs.LogPage.{log_page};
 ghost use Rattle.farm_entry.specs.Legal.{IsLegal};
 ghost use Rattle.farm_entry.specs.declared.entry.Entry.{Entry};
 ghost use Rattle.farm_store.specs.Answering.{BatchSays, CallSays};
@@ -10,6 +11,7 @@ ghost use Rattle.list_prefix.specs.Prefix.{IsPrefix};
 ghost use Rattle.turn_lock.specs.Known.{MayRise};
 
 use crate::reader::TotalsReader;
+use entry_codec::write_log_page;
 use farm_board::{Board, BoardPass};
 use farm_disk::Disk;
 use farm_entry::{Command, Reply};
@@ -79,6 +81,16 @@ impl<D: Disk> Locked<D> {
         self.board
             .post(&mut self.posting, totals, self.store.history());
         result
+    }
+
+    /// The bytes of a log page of the history.
+    pub fn tail(&self, alloc: Global, from: u32) -> Result<Vec<u8>, Memory>
+        requires { 1 ≤ from }
+        ensures legal { IsLegal self.now.store.history }
+        ensures page { IfOk result (λ bytes. bytes.items ≡ log_page from self.now.store.history) }
+        ensures none { IfOk result (λ bytes. (bytes.items ≡ []) ↔ (length self.now.store.history < from)) }
+    {
+        write_log_page(alloc, self.store.history(), from)
     }
 
     /// A reader that has seen the whole history.

@@ -1,6 +1,6 @@
 //! Connections over TCP.
 ghost use Rattle.std.specs.Prelude.{◌≡◌, None, IfOk};
-ghost use Rattle.link_io.specs.Counts.{Rose, count_with};
+ghost use Rattle.fault_types.specs.Counts.{Rose, count_with};
 ghost use Rattle.link_io.specs.Standard.{link_ended, link_faults};
 ghost use Rattle.net_io.specs.Answers.{IfAccepted, OnAcceptFailed, IfConnected, OnConnectFailed};
 ghost use Rattle.tcp_net.specs.Tcp.{network_faults};

@@ -4,15 +4,16 @@
 //! `specs/` holds the inference's definitions over plain lists of runs: priors, the likelihood of a run, weights,
 //! shares, the bar, floor and load, the budget and the plan. Here stand the public laws over them (`laws`) and the
 //! exact arithmetic that the belief of a search is computed with: `budget`, `Powers`, `Sums` and the counter `Steps`.
-//! It stands on `flake_rate`. The layer above may cite every definition, takes products from `times` alone, and may cite
-//! the lemmas of `proofs/`, by topic: `FactorNumbers` and `Likelihoods` (the four numbers), `Floors` (floor and load),
+//! It stands on `flake_rate` and `fault_types`.
+//!
+//! The layer above may cite every definition, takes products from `times` alone, and may cite the lemmas of `proofs/`,
+//! by topic: `FactorNumbers` and `Likelihoods` (the four numbers), `Floors` (floor and load),
 //! `SumTo` and `Reweighed` (cumulative sums), `Cancels`, `Shares` (the bar), `Plans`, `Priors`, `Budgets` and `Powering`.
 #![tactic(auto)]
 
 mod factors;
 pub mod laws;
 mod limits;
-mod memory;
 mod power_table;
 mod powers;
 mod run;
@@ -21,8 +22,8 @@ mod steps;
 mod sums;
 
 pub use factors::{Factors, MAX_FACTOR};
+pub use fault_types::Memory;
 pub use limits::{BASIS_POINTS, MAX_CALM, MAX_SUSPECTS, MAX_WEIGHT, MAX_WIDTH};
-pub use memory::Memory;
 pub use powers::{Counts, Powers};
 pub use run::{Run, Verdict};
 pub use run_budget::{MAX_BUDGET, MAX_PRIOR_TOTAL, MIN_BUDGET, MIN_PRIOR_TOTAL, budget};

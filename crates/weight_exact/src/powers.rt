@@ -4,8 +4,8 @@ ghost use Rattle.std.specs.Prelude.{◌≡◌, ◌+◌, ◌*◌, ◌^◌, ◌<�
 ghost use Rattle.weight_exact.specs.Factors.{factors_of};
 ghost use Rattle.weight_exact.specs.Powers.{count_of, product};
 
+use crate::Memory;
 use crate::factors::Factors;
-use crate::memory::Memory;
 use crate::power_table::PowerTable;
 use crate::steps::Steps;
 use flake_rate::{Miss, Rate};

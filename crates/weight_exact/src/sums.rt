@@ -3,7 +3,7 @@
 ghost use Rattle.std.specs.Prelude.{◌≡◌, ◌+◌, ◌-◌, ◌*◌, ◌^◌, ◌<◌, ◌≤◌, ℕ, length, slice_index, slice_set, replicate, IfOk};
 ghost use Rattle.weight_exact.specs.Cumulative.{AreSumsOf, AreRising, reweighed, reweighed_total};
 
-use crate::memory::Memory;
+use crate::Memory;
 use crate::steps::Steps;
 use std::alloc::Global;
 use std::marker::Model;

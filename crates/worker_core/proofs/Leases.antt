@@ -96,6 +96,11 @@ all-steps core (event ∷ events) way =
 started : (runs : ℕ) → 1 ≤ runs → IsOnWay (core_start runs)
 started runs some = record { leases = some; spent = tt }
 
+-- what a worker took and what it may still take make up what it was started for
+pub taken-and-left : (runs : ℕ) (events : List Event) → 1 ≤ runs →
+    leases_taken (core_start runs) events + (core_after (core_start runs) events).left ≡ runs
+taken-and-left runs events some = (all-steps (core_start runs) events (started runs some)).counts
+
 pub at-most : (runs : ℕ) (events : List Event) → 1 ≤ runs → leases_taken (core_start runs) events ≤ runs
 at-most runs events some =
     let all = (all-steps (core_start runs) events (started runs some)).counts in omega (arith, all)

@@ -1,2 +1,3 @@
 pub mod Origins
 pub mod Leases
+pub mod Reports

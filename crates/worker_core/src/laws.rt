@@ -1,9 +1,10 @@
 //! What a worker does, over single events and whole lists of them. A function here does nothing: its contract is the law.
 
-ghost use Rattle.std.specs.Prelude.{◌≡◌, ◌⊎◌, ℕ, ◌≤◌, List, [], ◌∷◌, Some};
+ghost use Rattle.std.specs.Prelude.{◌≡◌, ◌⊎◌, ℕ, ◌≤◌, ◌≢◌, List, [], ◌∷◌, Some};
 ghost use Rattle.worker_core.specs.Core.{Core};
 ghost use Rattle.worker_core.specs.Leases.{leases_taken};
 ghost use Rattle.worker_core.specs.Origins.{Asked, ComesFrom, Reported};
+ghost use Rattle.worker_core.specs.Reports.{reports_noted};
 ghost use Rattle.worker_core.specs.Steps.{core_after, core_start, core_step};
 
 use crate::{Action, End, Event};
@@ -29,4 +30,14 @@ pub fn leases_are_limited()
     ensures limit { (runs : ℕ) (events : List Event) → 1 ≤ runs
         → (core_after (core_start runs) events).last ≡ Some (Action.Stop End.Limit)
         → leases_taken (core_start runs) events ≡ runs }
+{}
+
+/// A worker has at most as many reports noted as it took leases, and exactly as many where it stops but for a request that
+/// was lost: each lease that it took was reported, and the farm noted it.
+pub fn leases_are_reported()
+    ensures most { (runs : ℕ) (events : List Event)
+        → reports_noted (core_start runs) events ≤ leases_taken (core_start runs) events }
+    ensures all { (runs : ℕ) (events : List Event) (end : End)
+        → (core_after (core_start runs) events).last ≡ Some (Action.Stop end) → ((status : ℕ) → end ≢ End.Peer status)
+        → reports_noted (core_start runs) events ≡ leases_taken (core_start runs) events }
 {}

@@ -1,7 +1,7 @@
 //! The state of a worker.
 
 ghost use Rattle.std.specs.Prelude.{◌≡◌, ◌-◌, ◌==◌, ◌≤◌, if◌then◌else◌, Some};
-ghost use Rattle.worker_core.specs.Core.{HasLeases};
+ghost use Rattle.worker_core.specs.Core.{HasLeases, IsCore};
 ghost use Rattle.worker_core.specs.Steps.{act, core_start, core_step, lose};
 
 use crate::{Action, End, Event};
@@ -39,6 +39,14 @@ impl WorkerCore {
             lost: 0,
             last: None,
         }
+    }
+
+    /// How many leases it may still take.
+    pub fn left(&self) -> u32
+        ensures left { result ≡ self.now.left }
+        ensures core { IsCore self.now.left self.now.lost self.now.last }
+    {
+        self.left
     }
 
     /// What the worker does after an event. The first action is to draw a key, whatever the event. After that, an event that

@@ -1,6 +1,6 @@
 //! A runner in memory.
 ghost use Rattle.std.specs.Prelude.{◌≡◌, ◌↔◌, ◌⊎◌, ◌∷◌, [], Some};
-ghost use Rattle.link_io.specs.Counts.{Rose, next_count};
+ghost use Rattle.fault_types.specs.Counts.{Rose, next_count};
 ghost use Rattle.link_io.specs.FaultPlan.{fresh_plan, NextFails, plan_after_success, plan_after_fault};
 ghost use Rattle.worker_io.specs.Runs.{asked, IfVerdict, OnRunFailed};
 

@@ -1,6 +1,6 @@
 //! Where verdicts come from.
 ghost use Rattle.std.specs.Prelude.{◌≡◌, ◌≤◌, ℕ, List, Option};
-ghost use Rattle.link_io.specs.Counts.{Rose};
+ghost use Rattle.fault_types.specs.Counts.{Rose};
 ghost use Rattle.link_io.specs.Telling.{add_told};
 ghost use Rattle.worker_io.specs.Runs.{Asked, asked, OnRunFailed};
 

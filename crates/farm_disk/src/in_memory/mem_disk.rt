@@ -23,7 +23,7 @@ ghost use Rattle.std.specs.Prelude.{
   slice_index,
   unwrap_or,
 };
-ghost use Rattle.told_list.specs.Counts.{Rose};
+ghost use Rattle.fault_types.specs.Counts.{Rose};
 ghost use Rattle.farm_disk.specs.Images.{sync, write, overwritten, IsImage};
 ghost use Rattle.farm_disk.specs.DiskFault.{kept_next, plan_after};
 ghost use Rattle.farm_disk.specs.Certain.{certain};

@@ -14,7 +14,7 @@ ghost use Rattle.std.specs.Prelude.{
   min,
   refl,
 };
-ghost use Rattle.link_io.specs.Counts.{Rose, next_count};
+ghost use Rattle.fault_types.specs.Counts.{Rose, next_count};
 ghost use Rattle.link_io.specs.Took.{IfTook, OnTookFailed};
 ghost use Rattle.link_io.specs.Put.{IfPut, OnPutFailed};
 ghost use Rattle.link_io.specs.Pieces.{piece_room};

@@ -1,43 +1,12 @@
-use Rattle.std.proofs.Common.{◌≡◌, ◌++◌, ◌∷◌, List, [], length, subst}
-use Rattle.farm_core.specs.Outcome.{IsPrepared}
-use Rattle.farm_core.specs.declared.prepared.Prepared.{Prepared}
-use Rattle.farm_core.specs.declared.prepared.Prepared.TheVariants.{New, Repeat, Shown}
-use Rattle.farm_types.specs.declared.moment.Moment.{Moment}
-use Rattle.farm_entry.specs.declared.command.Command.{Command}
-use Rattle.farm_entry.specs.declared.entry.Entry.{Entry}
-use Rattle.farm_entry.specs.Legal.{IsLegal}
-use Rattle.farm_laws.proofs.Induct.{IsLegal-push}
-use Rattle.farm_laws.proofs.Recorded.{recorded}
-use Rattle.farm_script.proofs.Dates.{reply-dates, shown-dates}
+use Rattle.std.proofs.Common.{◌∙◌}
+use Rattle.std.proofs.lemmas.Result.{IfOk-weaker}
+use Rattle.farm_entry.specs.Decision.{decide}
+use Rattle.farm_answers.proofs.Answers.{answer-text}
 use Rattle.farm_script.proofs.memory_farm.answer_command.Goals as goal
 
--- what is known of what was prepared, once it is known which it is
-as_prepared : (H : List Entry) (q : Command) (m : Moment) (found is : Prepared) → found ≡ is → IsPrepared H q m found
-    → IsPrepared H q m is
-as_prepared H q m found is same prepared = subst (λ (p : Prepared). IsPrepared H q m p) same prepared
-
-pub reply_text-requires : goal.reply_text-requires
-reply_text-requires c =
+pub returns-clause-reply : goal.returns-clause-reply
+returns-clause-reply c =
     let H = c.args.farm.now.history in
-    let legal : IsLegal H = subst IsLegal c.prepare.ensures.history c.prepare.ensures.legal in
-    let first = as_prepared H c.args.command.now c.args.at c.in-Ok-Repeat.field-0 (Repeat c.in-Ok-Repeat.reply)
-    c.in-Ok-Repeat.field-0-is c.in-Ok-Repeat.ensures.prepared in
-    reply-dates H first.0 c.in-Ok-Repeat.reply legal first.2
-
-pub reply_text-requires-in-Ok-Shown : goal.reply_text-requires-in-Ok-Shown
-reply_text-requires-in-Ok-Shown c =
-    let H = c.args.farm.now.history in
-    let legal : IsLegal H = subst IsLegal c.prepare.ensures.history c.prepare.ensures.legal in
-    let shown = as_prepared H c.args.command.now c.args.at c.in-Ok-Shown.field-0 (Shown c.in-Ok-Shown.reply)
-    c.in-Ok-Shown.field-0-is c.in-Ok-Shown.ensures.prepared in
-    shown-dates H c.args.command.now c.args.at c.in-Ok-Shown.reply legal shown
-
-pub reply_text-requires-in-Ok-New : goal.reply_text-requires-in-Ok-New
-reply_text-requires-in-Ok-New c =
-    let H = c.args.farm.now.history in
-    let e = c.in-Ok-New.entry in
-    let legal : IsLegal H = subst IsLegal c.prepare.ensures.history c.prepare.ensures.legal in
-    let made = as_prepared H c.args.command.now c.args.at c.in-Ok-New.field-0 (New e c.in-Ok-New.reply)
-    c.in-Ok-New.field-0-is c.in-Ok-New.ensures.prepared in
-    let longer = IsLegal-push H e legal (recorded H c.args.command.now c.args.at e made.0) in
-    reply-dates (H ++ e ∷ []) (length H) c.in-Ok-New.reply longer made.1
+    let q = c.args.command.now in
+    IfOk-weaker c.text_of.result _ _
+    (λ text is. is ∙ answer-text H (decide H q c.args.at) c.in_ok-answer.answer c.in_ok-answer.ensures.answer) c.text_of.ensures

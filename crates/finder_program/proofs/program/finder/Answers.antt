@@ -1,34 +1,48 @@
-use Rattle.std.proofs.Common.{◌∙◌}
+use Rattle.std.proofs.Common.{◌∙◌, Some, ap, inl, inr, refl}
+use Rattle.farm_script.specs.declared.run_end.RunEnd.TheVariants as script
 use Rattle.finder_program.specs.Disks.{disk_seen}
 use Rattle.finder_program.specs.TextPut.{output_seen}
 use Rattle.link_io.specs.Streams.{streams}
 use Rattle.finder_program.proofs.Completing.{found-completes, run_journal-completes, show-completes}
 use Rattle.finder_program.proofs.Foundings.{found-numbers}
+use Rattle.finder_program.proofs.Unread.{unread-not_opened}
 use Rattle.finder_program.proofs.program.finder.Goals as goal
 
-pub returns-in-Some-Found-clause-found : goal.returns-in-Some-Found-clause-found
-returns-in-Some-Found-clause-found g c = λ lease_ms daily zone_minutes is. (
-  c.in-Some-Found.settings,
-  found-numbers c.in-Some-Found.field-0 c.in-Some-Found.settings lease_ms daily zone_minutes
-      c.in-Some-Found.field-0-is (c.in-Some-Found.ensures ∙ is),
-  c.found_command.ensures.ends,
+pub returns-in-Ok-Some-Found-clause-found : goal.returns-in-Ok-Some-Found-clause-found
+returns-in-Ok-Some-Found-clause-found g c = λ lease_ms daily zone_minutes is. inr (
+  c.in-Ok-Some-Found.settings,
+  found-numbers c.in-Ok-Some-Found.field-0 c.in-Ok-Some-Found.settings lease_ms daily zone_minutes
+      (c.in-Ok-Some-Found.field-0-is ∙ ap (λ s. Some s) c.in-Ok-Some-Found.field-0-0-is) (c.in-Ok-Some-Found.ensures ∙ is),
+  c.found_command-status.ensures.ends,
 )
 
-pub returns-in-Some-Found-clause-found_completes : goal.returns-in-Some-Found-clause-found_completes
-returns-in-Some-Found-clause-found_completes g c = λ lease_ms daily zone_minutes is.
-    let ends = c.found_command.ensures.ends in
-    found-completes c.in-Some-Found.settings ends.0 c.found_command.result.0 (output_seen g.K.Sink c.args.output.now)
-    (output_seen g.K.Sink c.found_command.new.output) (disk_seen g.D.Disk c.args.disk)
-    (disk_seen g.D.Disk c.found_command.result.1) ends.3 c.found_command.ensures.cause
+pub returns-in-Ok-Some-Found-clause-found_completes : goal.returns-in-Ok-Some-Found-clause-found_completes
+returns-in-Ok-Some-Found-clause-found_completes g c = λ lease_ms daily zone_minutes is.
+    let found = c.found_command-status in
+    let ends = found.ensures.ends in
+    found-completes c.in-Ok-Some-Found.settings ends.0 found.result.0 (output_seen g.K.Sink c.args.output.now)
+    (output_seen g.K.Sink found.new.output) (disk_seen g.D.Disk c.args.disk) (disk_seen g.D.Disk found.result.1) ends.3
+    found.ensures.cause
 
-pub returns-in-Some-Show-clause-show_completes : goal.returns-in-Some-Show-clause-show_completes
-returns-in-Some-Show-clause-show_completes g c = λ is.
-    show-completes c.show_command.result.0 (output_seen g.K.Sink c.args.output.now)
-    (output_seen g.K.Sink c.show_command.new.output) (disk_seen g.D.Disk c.args.disk)
-    (disk_seen g.D.Disk c.show_command.result.1) c.show_command.ensures.ends c.show_command.ensures.cause
+pub returns-in-Ok-Some-Show-clause-show_completes : goal.returns-in-Ok-Some-Show-clause-show_completes
+returns-in-Ok-Some-Show-clause-show_completes g c = λ is.
+    let shown = c.show_command-status in
+    show-completes shown.result.0 (output_seen g.K.Sink c.args.output.now) (output_seen g.K.Sink shown.new.output)
+    (disk_seen g.D.Disk c.args.disk) (disk_seen g.D.Disk shown.result.1) shown.ensures.ends shown.ensures.cause
 
-pub returns-in-Some-RunJournal-clause-run_journal_completes : goal.returns-in-Some-RunJournal-clause-run_journal_completes
-returns-in-Some-RunJournal-clause-run_journal_completes g c = λ is.
-    run_journal-completes c.run_journal.result.0 (streams g.S.Source g.K.Sink c.args.input.now c.args.output.now)
-    (streams g.S.Source g.K.Sink c.run_journal.new.input c.run_journal.new.output) (disk_seen g.D.Disk c.args.disk)
-    (disk_seen g.D.Disk c.run_journal.result.1) c.run_journal.ensures.ends c.run_journal.ensures.cause
+pub returns-in-Ok-Some-RunJournal-clause-run_journal_completes : goal.returns-in-Ok-Some-RunJournal-clause-run_journal_completes
+returns-in-Ok-Some-RunJournal-clause-run_journal_completes g c = λ is.
+    let ran = c.run_journal-status in
+    run_journal-completes ran.result.0 (streams g.S.Source g.K.Sink c.args.input.now c.args.output.now)
+    (streams g.S.Source g.K.Sink ran.new.input ran.new.output) (disk_seen g.D.Disk c.args.disk)
+    (disk_seen g.D.Disk ran.result.1) ran.ensures.ends ran.ensures.cause
+
+-- where memory was wanting to read the words
+pub returns-in-Err-clause-run_completes : goal.returns-in-Err-clause-run_completes
+returns-in-Err-clause-run_completes g c = λ is. (script.Memory, refl, λ reads writes all told. inl refl)
+
+pub returns-in-Err-clause-show : goal.returns-in-Err-clause-show
+returns-in-Err-clause-show g c = λ is. inl (unread-not_opened _ _)
+
+pub returns-in-Err-clause-run_journal : goal.returns-in-Err-clause-run_journal
+returns-in-Err-clause-run_journal g c = λ is. inl (unread-not_opened _ _)

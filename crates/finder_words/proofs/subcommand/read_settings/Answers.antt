@@ -1,8 +1,8 @@
-use Rattle.std.proofs.Common.{◌≡◌, ◌∙◌, ap, sym, None, Option}
+use Rattle.std.proofs.Common.{◌∙◌, ap, sym, Option}
 use Rattle.std.specs.Option.{option_map}
 use Rattle.farm_entry.specs.declared.settings.Settings.{Settings}
 use Rattle.decimal_text.specs.Decimals.{number}
-use Rattle.finder_words.specs.Words.{Asked, asked_by, zone_named}
+use Rattle.finder_words.specs.Words.{asked_by, zone_named}
 use Rattle.finder_words.specs.declared.subcommand.Subcommand.TheVariants as sub
 use Rattle.finder_words.proofs.Foundings.{founding-no_zone}
 use Rattle.finder_words.proofs.subcommand.read_settings.Goals as goal

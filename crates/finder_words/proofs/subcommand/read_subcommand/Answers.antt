@@ -1,17 +1,17 @@
-use Rattle.std.proofs.Common.{◌≡◌, ℕ, length, map, sym, arith}
-use Rattle.std.proofs.lemmas.List.{length-map}
-use Rattle.std.specs.Prelude.{string_bytes}
-use Rattle.finder_words.proofs.WordLists.{asked-between, asked-many}
+use Rattle.std.proofs.Common.{◌∙◌, None, ap, map, string_bytes, sym}
+use Rattle.std.specs.Option.{option_map}
+use Rattle.finder_words.specs.Words.{asked_of}
+use Rattle.finder_words.proofs.Fitting.{words-matched, words-unmatched}
+use Rattle.word_matches.specs.Forms.{words_of}
 use Rattle.finder_words.proofs.subcommand.read_subcommand.Goals as goal
 
-pub returns-in_default-2 : goal.returns-in_default-2
-returns-in_default-2 c =
-    let words = map string_bytes c.args.words.now in
-    let as_many : length words ≡ length c.args.words.now = length-map c.args.words.now string_bytes in
-    sym (asked-between words (omega (arith, as_many, c.in_default.len_at_least)) (omega (arith, as_many, c.in_default.len_below)))
+pub returns-in-Some : goal.returns-in-Some
+returns-in-Some c =
+    c.read_matched.ensures
+    ∙ words-matched asked_of None (words_of c.in-Some.matched) (map string_bytes c.args.words.now)
+    (ap (option_map words_of) (sym c.in-Some.is) ∙ c.in_ok-matched.ensures)
 
-pub returns-in_default-3 : goal.returns-in_default-3
-returns-in_default-3 c =
-    let words = map string_bytes c.args.words.now in
-    let as_many : length words ≡ length c.args.words.now = length-map c.args.words.now string_bytes in
-    sym (asked-many words (omega (arith, as_many, c.in_default.len_at_least)))
+pub returns-in-None : goal.returns-in-None
+returns-in-None c =
+    words-unmatched asked_of None (map string_bytes c.args.words.now)
+    (ap (option_map words_of) (sym c.in-None.is) ∙ c.in_ok-matched.ensures)

@@ -9,3 +9,7 @@ returns-in-Run c = sym (ap bad_field_text c.in-Run.is)
 pub returns-in-Search : goal.returns-in-Search
 unfolding bad_field_text
 returns-in-Search c = sym (ap bad_field_text c.in-Search.is)
+
+pub returns-in-From : goal.returns-in-From
+unfolding bad_field_text
+returns-in-From c = sym (ap bad_field_text c.in-From.is)

@@ -38,6 +38,10 @@ pub add_route-requires-9 : goal.add_route-requires-9
 unfolding matchit_on_literals
 add_route-requires-9 c = rw (c.in_ok-add_route-8.ensures, c.in_ok-add_route-7.ensures, c.in_ok-add_route-6.ensures, c.in_ok-add_route-5.ensures, c.in_ok-add_route-4.ensures, c.in_ok-add_route-3.ensures, c.in_ok-add_route-2.ensures, c.in_ok-add_route.ensures, c.new-router.ensures) refl
 
+pub add_route-requires-10 : goal.add_route-requires-10
+unfolding matchit_on_literals
+add_route-requires-10 c = rw (c.in_ok-add_route-9.ensures, c.in_ok-add_route-8.ensures, c.in_ok-add_route-7.ensures, c.in_ok-add_route-6.ensures, c.in_ok-add_route-5.ensures, c.in_ok-add_route-4.ensures, c.in_ok-add_route-3.ensures, c.in_ok-add_route-2.ensures, c.in_ok-add_route.ensures, c.new-router.ensures) refl
+
 pub invariant_of-result : goal.invariant_of-result
 unfolding matchit_on_literals
-invariant_of-result c = record { filled = rw (c.in_ok-add_route-9.ensures, c.in_ok-add_route-8.ensures, c.in_ok-add_route-7.ensures, c.in_ok-add_route-6.ensures, c.in_ok-add_route-5.ensures, c.in_ok-add_route-4.ensures, c.in_ok-add_route-3.ensures, c.in_ok-add_route-2.ensures, c.in_ok-add_route.ensures, c.new-router.ensures) refl }
+invariant_of-result c = record { filled = rw (c.in_ok-add_route-10.ensures, c.in_ok-add_route-9.ensures, c.in_ok-add_route-8.ensures, c.in_ok-add_route-7.ensures, c.in_ok-add_route-6.ensures, c.in_ok-add_route-5.ensures, c.in_ok-add_route-4.ensures, c.in_ok-add_route-3.ensures, c.in_ok-add_route-2.ensures, c.in_ok-add_route.ensures, c.new-router.ensures) refl }

@@ -1,0 +1,9 @@
+pub mod Progress
+pub mod Moments
+pub mod Transcripts
+pub mod Answers
+pub mod Batches
+pub mod Loop
+pub mod Serving
+pub mod Short
+pub mod Further

@@ -1,0 +1,11 @@
+pub mod Marks
+pub mod Moments
+pub mod Kinds
+pub mod Outcomes
+pub mod Answers
+pub mod Progress
+pub mod Steps
+pub mod Batches
+pub mod Held
+pub mod Serving
+pub mod Worked

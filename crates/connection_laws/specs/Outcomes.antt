@@ -1,0 +1,34 @@
+-- What items come to.
+use Rattle.std.specs.Prelude.{ℕ, Bool, List}
+use Rattle.farm_entry.specs.declared.entry.Entry.{Entry}
+use Rattle.farm_store.specs.declared.asking.Answer.{Answer}
+use Rattle.farm_store.specs.declared.asking.Ask.{Ask}
+use Rattle.farm_wire.specs.declared.fault.WireFault.{WireFault}
+use Rattle.http_words.specs.declared.fault.Fault.{Fault}
+
+-- What an item came to. A command is asked at a history, which is that of the farm as its turn began and its repair left
+-- it, with the new entries of the commands before it in its batch.
+pub data Outcome : Type 0 where
+  -- it is a fault
+  faulted : Fault → Outcome
+  -- its body is no command
+  misread : WireFault → Outcome
+  -- the farm answered its command
+  answered : (at : List Entry) → Ask → Answer → Outcome
+  -- it got the totals of a history
+  counted : (at : List Entry) → Outcome
+  -- it got a page of a history, from an entry on
+  copied : (at : List Entry) → (from : ℕ) → Outcome
+  -- the disk failed in the call with its command, from one count to another: the first of a batch
+  failed : (at : List Entry) → Ask → (before count : ℕ) → Outcome
+  -- the same in the same call: one more of the batch
+  failed_too : Ask → Outcome
+  -- memory was wanting before its command was known
+  unread : Outcome
+  -- memory was wanting in the call with its command
+  uncalled : (at : List Entry) → Ask → Outcome
+
+-- what an item came to, and whether there was memory for the text that says so
+pub record Step : Type 0 where
+  pub outcome : Outcome
+  pub written : Bool

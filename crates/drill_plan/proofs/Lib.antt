@@ -1,0 +1,4 @@
+mod Apart
+mod Asked
+mod Openings
+mod Taken

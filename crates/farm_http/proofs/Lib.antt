@@ -1,0 +1,12 @@
+pub mod Turns
+pub mod Serving
+pub mod BatchSteps
+pub mod Gathering
+pub mod Dates
+pub mod Puts
+pub mod Asked
+pub mod Work
+pub mod Receiving
+pub mod Single
+pub mod LogPage
+pub mod Handed

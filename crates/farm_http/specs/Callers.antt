@@ -1,0 +1,26 @@
+-- What the caller of a connection knows of the farm.
+use Rattle.std.specs.Prelude.{◌≡◌, ◌++◌, List}
+use Rattle.connection_laws.specs.Marks.{Mark}
+use Rattle.connection_laws.specs.Outcomes.{Step}
+use Rattle.connection_laws.specs.Progress.{Progress, IsWithin, progress_after, recorded_places}
+use Rattle.farm_entry.specs.declared.entry.Entry.{Entry}
+use Rattle.turn_lock.specs.Known.{Known}
+
+-- what a pass and a reader know
+pub record Caller : Type 0 where
+  pub pass : Known
+  pub read : List Entry
+
+abbrev pub caller : Known → List Entry → Caller
+caller pass read = record { pass = pass; read = read }
+
+-- what is seen of a farm by a pass
+abbrev pub mark_of : Known → Mark
+mark_of pass = record { seen = pass.seen; faults = pass.faults }
+
+-- Items came to these steps: all that is carried past them is within what the pass has seen, the pass keeps the places of
+-- what their commands recorded, and the reader has seen the history of the last totals.
+pub record IsAfter (c : Progress) (steps : List Step) (old new : Caller) : Type 0 where
+  pub within : IsWithin (progress_after c steps) (mark_of new.pass)
+  pub places : new.pass.mine ≡ old.pass.mine ++ recorded_places steps
+  pub counted : new.read ≡ (progress_after c steps).totals

@@ -1,0 +1,61 @@
+-- How far a connection has come, between two of its items, and what its serving came to.
+use Rattle.std.specs.Prelude.{ℕ, ◌≡◌, ◌≤◌, ◌<◌, ◌+◌, ◌-◌, ◌*◌, true, List, ◌++◌, length, Option, Some, None, Result, Ok, Err, if◌then◌else◌}
+use Rattle.connection_laws.specs.Answers.{interim_of}
+use Rattle.http_requests.specs.Fronts.{behind}
+use Rattle.connection_laws.specs.Held.{IsSoFar}
+use Rattle.connection_laws.specs.Outcomes.{Step}
+use Rattle.connection_laws.specs.Progress.{Progress}
+use Rattle.connection_laws.specs.Marks.{Mark}
+use Rattle.connection_laws.specs.Serving.{HasPassed, IsServed, IsStopped}
+use Rattle.connection_laws.specs.declared.served.Served.{Served}
+use Rattle.connection_laws.specs.declared.served.ServeFault.{ServeFault}
+use Rattle.connection_laws.specs.declared.served.Why.{Why}
+use Rattle.farm_entry.specs.declared.entry.Entry.{Entry}
+use Rattle.farm_types.specs.declared.moment.Moment.{Moment}
+use Rattle.http_requests.specs.Items.{Item, Items, End}
+use Rattle.link_io.specs.Links.{LinkState}
+use Rattle.link_io.specs.declared.source.TheConstants.{INPUT_LIMIT}
+use Rattle.farm_http.specs.Callers.{Caller, IsAfter, mark_of}
+use Rattle.farm_http.specs.Received.{ReceivedState, AsksInterim}
+
+-- Of what was taken, the items so far were answered whole, none of them closes, and what is behind them is held. An interim
+-- answer may be out for the one at the front.
+pub record IsServing (start : Progress) (clock : Moment → Type 0) (old new : Caller) (before now : LinkState) (r : ReceivedState)
+    (requests : ℕ) : Type 0 where
+  pub taken : List ℕ
+  pub put : List ℕ
+  pub items : List Item
+  pub steps : List Step
+  pub so_far : IsSoFar start clock taken put items steps
+  pub passed : HasPassed before now taken (put ++ interim_of r.interim)
+  pub held : r.held ≡ behind taken items
+  pub size : r.taken ≡ length taken
+  pub most : r.taken ≤ INPUT_LIMIT
+  pub ends : r.ended ≡ true → now.ended ≡ true
+  pub interim : r.interim ≡ true → AsksInterim r.held
+  pub after : IsAfter start steps old new
+  pub requests_are : requests ≡ length items
+  pub few : requests + length r.held ≤ r.taken
+
+-- What the serving came to, by its answer and by the bytes that are held in the end: after a fault it takes the list of the
+-- items of these.
+abbrev pub HasServed : Result Served ServeFault → (held : List ℕ) → Progress → Mark → (Moment → Type 0) → (old new : LinkState)
+    → (mine kept : List ℕ) → List Entry → Type 0
+HasServed (Ok served) held start final clock old new mine kept read = IsServed served start final clock old new mine kept read
+HasServed (Err fault) held start final clock old new mine kept read =
+    (items : List Item) (end : End) → Items held items end → IsStopped start final clock old new mine kept read
+
+-- how much may still be done, which falls with each turn of the loop
+abbrev pub work_left : ReceivedState → ℕ
+work_left r = 2 * (INPUT_LIMIT - r.taken) + length r.held + (if r.ended then 0 else 1)
+
+-- What a turn of the loop came to: it goes on, and less is left to do than there was; or it has ended; or a fault stopped it.
+abbrev pub GoesOn : Progress → (Moment → Type 0) → (old : Caller) → (before : LinkState) → (work : ℕ) → Result (Option Why) ServeFault
+    → (new : Caller) → (now : LinkState) → ReceivedState → (requests : ℕ) → Type 0
+GoesOn start clock old before work (Ok None) new now r requests =
+    IsServing start clock old new before now r requests × (work_left r < work)
+GoesOn start clock old before work (Ok (Some why)) new now r requests =
+    HasServed (Ok (record { requests = requests; why = why })) r.held start (mark_of new.pass) clock before now old.pass.mine
+    new.pass.mine new.read
+GoesOn start clock old before work (Err fault) new now r requests =
+    HasServed (Err fault) r.held start (mark_of new.pass) clock before now old.pass.mine new.pass.mine new.read

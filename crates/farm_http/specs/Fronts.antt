@@ -1,0 +1,65 @@
+-- What the items at the front of the bytes held came to.
+use Rattle.std.specs.Prelude.{ℕ, ◌≡◌, ◌≤◌, Bool, true, false, List, ◌++◌, length, drop, Option, Result, Ok, Err}
+use Rattle.std.specs.Io.KnownBytes.{append_known}
+use Rattle.connection_laws.specs.Answers.{interim_of, transcript}
+use Rattle.http_requests.specs.Fronts.{Fronts, Opens, behind}
+use Rattle.connection_laws.specs.Outcomes.{Step}
+use Rattle.connection_laws.specs.Progress.{Progress}
+use Rattle.connection_laws.specs.Steps.{AreSteps}
+use Rattle.connection_laws.specs.declared.served.ServeFault.{ServeFault}
+use Rattle.farm_types.specs.declared.moment.Moment.{Moment}
+use Rattle.http_requests.specs.Items.{Item, Items, closed}
+use Rattle.http_requests.specs.Next.{MayFollow}
+use Rattle.list_prefix.specs.Prefix.{IsPrefix}
+use Rattle.farm_http.specs.Callers.{Caller, IsAfter}
+use Rattle.farm_http.specs.declared.front.Answered.{Answered}
+
+-- These items stand at the front of the bytes, and none of them closes: they take so many bytes, at least one each.
+pub record AreOpen (held : List ℕ) (items : List Item) (size : ℕ) : Type 0 where
+  pub open_ : Opens held items
+  pub rest : behind held items ≡ drop size held
+  pub within : size ≤ length held
+  pub few : length items ≤ size
+
+-- these are all items of the bytes, and the last one closes, whatever follows
+abbrev pub AreClosing : (complete : Bool) → List ℕ → List Item → Type 0
+AreClosing complete held items = (more : List ℕ) → MayFollow complete more → Items (held ++ more) items closed
+
+-- the one or the other
+abbrev pub AreFront : (complete : Bool) → List ℕ → List Item → Answered → Type 0
+AreFront complete held items done =
+    (done.closes ≡ true → AreClosing complete held items) × (done.closes ≡ false → AreOpen held items done.size)
+
+-- Items at the front were answered whole.
+pub record AreAnswered (clock : Moment → Type 0) (c : Progress) (complete : Bool) (held : List ℕ) (out : Bool) (put : List ℕ)
+    (old new : Caller) (done : Answered) : Type 0 where
+  pub items : List Item
+  pub steps : List Step
+  pub some : 1 ≤ length items
+  pub front : AreFront complete held items done
+  pub are_steps : AreSteps clock c items steps
+  pub after : IsAfter c steps old new
+  pub put_is : interim_of out ++ put ≡ transcript items steps
+  pub requests : done.requests ≡ length items
+
+-- A part of the answers to items at the front was put.
+pub record ArePartly (clock : Moment → Type 0) (c : Progress) (held : List ℕ) (out : Bool) (put : List ℕ) (old new : Caller) : Type 0 where
+  pub items : List Item
+  pub steps : List Step
+  pub front : Fronts held items
+  pub are_steps : AreSteps clock c items steps
+  pub after : IsAfter c steps old new
+  pub begins : IsPrefix (interim_of out ++ put) (transcript items steps)
+
+abbrev pub FrontBy : (Moment → Type 0) → Progress → (complete : Bool) → List ℕ → (out : Bool) → List ℕ → (old new : Caller)
+    → Result Answered ServeFault → Type 0
+FrontBy clock c complete held out put old new (Ok done) = AreAnswered clock c complete held out put old new done
+FrontBy clock c complete held out put old new (Err fault) = ArePartly clock c held out put old new
+
+-- What answering the items at the front came to, from what is carried to them: the bytes that were put, and the steps that
+-- the items came to.
+pub record FrontSays (clock : Moment → Type 0) (c : Progress) (complete : Bool) (held : List ℕ) (out : Bool)
+    (before now : Option (List ℕ)) (old new : Caller) (result : Result Answered ServeFault) : Type 0 where
+  pub put : List ℕ
+  pub puts : now ≡ append_known before put
+  pub says : FrontBy clock c complete held out put old new result

@@ -1,0 +1,178 @@
+//! Commands that stand whole at the front of the bytes held.
+ghost use Rattle.std.specs.Prelude.{◌≡◌, ◌≤◌, ◌<◌, ◌+◌, ◌^◌, ◌++◌, ◌∷◌, [], IfSome, true, false, length, Ok};
+ghost use Rattle.http_requests.specs.Next.{IsNextFor, item_in};
+ghost use Rattle.connection_laws.specs.Kinds.{commands, kind_of};
+ghost use Rattle.connection_laws.specs.Moments.{MayGive};
+ghost use Rattle.farm_store.specs.declared.asking.TheConstants.{MAX_BATCH};
+ghost use Rattle.farm_http.specs.Batches.{IsBatch};
+
+use farm_entry::Command;
+use farm_store::{Ask, MAX_BATCH};
+use farm_wire::command_of;
+use http_requests::{Next, Reading, Request, next_of};
+use http_routes::Pages;
+use http_words::Endpoint;
+use link_io::Clock;
+use std::alloc::Global;
+use std::marker::Model;
+
+/// The commands of a batch, at least one, the request of each, and how many of the bytes held the requests take.
+#[derive(Drop)]
+pub(crate) struct Batch {
+    asks: Vec<Ask>,
+    requests: [Request; MAX_BATCH],
+    last: Request,
+    size: usize,
+}
+
+impl Model for Batch {
+    ghost use Rattle.std.specs.Prelude.{◌≤◌, length, take};
+    ghost use Rattle.farm_store.specs.declared.asking.TheConstants.{MAX_BATCH};
+    ghost use Rattle.farm_http.specs.Batches.{BatchState};
+
+    ghost Value = { BatchState };
+
+    ghost view = { λ b. record {
+      asks = b.asks.items;
+      requests = take (length b.asks.items) b.requests;
+      size = b.size;
+      closes = b.last.closes;
+    } };
+
+    ghost invariant = { λ b. (1 ≤ length b.asks.items) × (length b.asks.items ≤ MAX_BATCH) };
+}
+
+impl Batch {
+    /// A batch of one command, unless memory is wanting for it.
+    pub fn of(alloc: Global, first: &Request, ask: Ask) -> Option<Batch>
+        ensures { IfSome result (λ batch. batch ≡ record {
+          asks = ask ∷ [];
+          requests = first.now ∷ [];
+          size = first.now.size;
+          closes = first.now.closes;
+        }) }
+    {
+        let mut asks = Vec::new(alloc);
+        if asks.push(ask).is_err() {
+            return None;
+        }
+        Some(Batch {
+            asks,
+            requests: [*first; MAX_BATCH],
+            last: *first,
+            size: first.size,
+        })
+    }
+
+    /// The commands, with their moments.
+    pub fn asks(&self) -> &[Ask]
+        ensures value { result.now ≡ self.now.asks }
+        ensures some { 1 ≤ length result.now }
+        ensures few { length result.now ≤ MAX_BATCH }
+    {
+        &self.asks
+    }
+
+    /// The request of each command.
+    pub fn requests(&self) -> &[Request]
+        ensures value { result.now ≡ self.now.requests }
+        ensures each { length result.now ≡ length self.now.asks }
+    {
+        &self.requests[..self.asks.len()]
+    }
+
+    /// How many of the bytes held the requests take.
+    pub fn size(&self) -> usize
+        ensures { result ≡ self.now.size }
+    {
+        self.size
+    }
+
+    /// Whether the last request closes the connection.
+    pub fn closes(&self) -> bool
+        ensures { result ≡ self.now.closes }
+    {
+        self.last.closes
+    }
+
+    /// Whether one command more may be in it.
+    fn is_open(&self) -> bool
+        ensures { result ≡ true → (length self.now.asks + 1 ≤ MAX_BATCH) × (self.now.closes ≡ false) }
+    {
+        self.asks.len() < MAX_BATCH && !self.last.closes
+    }
+
+    /// Adds a command, and says whether there was memory for it.
+    fn add(&mut self, request: &Request, ask: Ask) -> bool
+        requires room { length self.old.asks + 1 ≤ MAX_BATCH }
+        requires size { self.old.size + request.now.size < 2 ^ 64 }
+        ensures added { result ≡ true → self.new ≡ record {
+          asks = self.old.asks ++ ask ∷ [];
+          requests = self.old.requests ++ request.now ∷ [];
+          size = self.old.size + request.now.size;
+          closes = request.now.closes;
+        } }
+        ensures kept { result ≡ false → self.new ≡ self.old }
+    {
+        let place = self.asks.len();
+        if self.asks.push(ask).is_err() {
+            return false;
+        }
+        self.requests[place] = *request;
+        self.last = *request;
+        self.size += request.size;
+        true
+    }
+
+    /// Adds the commands that stand whole in the bytes held behind those of the batch, as many as may share a turn: it ends
+    /// before a request that is none, or whose interim answer has to be put, before a body that is no command or for which
+    /// memory is wanting, and after a request that closes the connection. Each is asked at a moment that the clock gives now.
+    pub fn gather<C: Clock>(
+        &mut self,
+        alloc: Global,
+        pages: &Pages,
+        clock: &C,
+        held: &[u8],
+        complete: bool,
+    )
+        requires { IsBatch (MayGive C.Clock clock.now) complete held.now self.old }
+        ensures { IsBatch (MayGive C.Clock clock.now) complete held.now self.new }
+    {
+        while self.is_open() {
+            let rest = &held[self.size..];
+            let Some((request, command)) = next_command(alloc, pages, rest, complete) else {
+                return;
+            };
+            let at = clock.now();
+            if !self.add(&request, Ask { command, at }) {
+                return;
+            }
+        }
+    }
+}
+
+/// The request at the front of the bytes, where it is whole, has no interim answer, and its body is a command.
+fn next_command(
+    alloc: Global,
+    pages: &Pages,
+    held: &[u8],
+    complete: bool,
+) -> Option<(Request, Command)>
+    ensures next { IfSome result (λ found. IsNextFor complete held.now found.0) }
+    ensures at_once { IfSome result (λ found. found.0.interim ≡ false) }
+    ensures asks { IfSome result (λ found. kind_of (item_in held.now found.0) ≡ commands (Ok found.1)) }
+{
+    let Next::Request(request) = next_of(pages, &mut Reading::new(), held, complete) else {
+        return None;
+    };
+    if request.interim {
+        return None;
+    }
+    let Ok(Endpoint::Command(route)) = request.asks else {
+        return None;
+    };
+    match command_of(alloc, &route, &held[request.body..request.size]) {
+        Ok(command) => Some((request, command)),
+        Err(_) => None,
+    }
+}

@@ -1,0 +1,206 @@
+//! Commands asked of the farm, and their answers put.
+ghost use Rattle.std.specs.Prelude.{◌≡◌, ◌≢◌, ◌≤◌, Bool, List, All, Ok, length, map, true};
+ghost use Rattle.fault_types.specs.Counts.{Rose};
+ghost use Rattle.turn_lock.specs.Known.{IsReady};
+ghost use Rattle.http_requests.specs.Next.{IsNextFor};
+ghost use Rattle.connection_laws.specs.Answers.{no_memory, response_of};
+ghost use Rattle.connection_laws.specs.Moments.{MayGive};
+ghost use Rattle.connection_laws.specs.Outcomes.{misread};
+ghost use Rattle.connection_laws.specs.Progress.{Progress, IsWithin};
+ghost use Rattle.farm_answers.specs.Texts.{AnswerHasDates};
+ghost use Rattle.farm_http.specs.Bytes.{OutSays, PutSays, farm_response, farm_responses, request_bytes, requests_bytes, said};
+ghost use Rattle.farm_http.specs.Callers.{mark_of};
+ghost use Rattle.farm_http.specs.Faults.{OnLinkFault};
+ghost use Rattle.farm_http.specs.Fronts.{FrontSays};
+ghost use Rattle.farm_http.specs.Received.{is_complete};
+ghost use Rattle.farm_http.specs.Turns.{IsBatchPut};
+
+use crate::batch::Batch;
+use crate::front::Answered;
+use crate::received::Received;
+use crate::responses::{Says, put_behind, put_out, put_response};
+use connection_laws::ServeFault;
+use farm_answers::{answer_status, answer_text};
+use farm_disk::Disk;
+use farm_store::{Answer, Ask, CallFault};
+use farm_wire::{WireFault, command_of, fault_text};
+use gathered_sink::Gathered;
+use http_answers::store_fault_text;
+use http_requests::Request;
+use http_routes::Pages;
+use http_words::{Endpoint, Route, StatusCode};
+use link_io::{Clock, Link, Sink};
+use shared_farm::{Pass, SharedFarm};
+use std::alloc::Global;
+use std::sync::Wait;
+
+/// Answers the command at the front, and with it those behind it that may share its turn.
+pub(crate) fn answer_commands<R: Wait, L: Link, D: Disk, C: Clock>(
+    rt: &R,
+    alloc: Global,
+    pages: &Pages,
+    shared: &SharedFarm<D>,
+    pass: &mut Pass,
+    link: &mut L,
+    clock: &C,
+    received: &Received,
+    first: &Request,
+    route: Route,
+) -> Result<Answered, ServeFault>
+    requires ready { IsReady shared.now pass.old }
+    requires next { IsNextFor (is_complete received.now) received.now.held first.now }
+    requires asks { first.now.asks ≡ Ok (Endpoint.Command route) }
+    requires interim { received.now.interim ≡ first.now.interim }
+    ensures ready { IsReady shared.now pass.new }
+    ensures says { (c : Progress) → IsWithin c (mark_of pass.old)
+        → FrontSays (MayGive C.Clock clock.now) c (is_complete received.now) received.now.held received.now.interim
+        (L.Sink.written link.old) (L.Sink.written link.new) (record { pass = pass.old; read = c.totals })
+        (record { pass = pass.new; read = c.totals }) result }
+    ensures aside { L.Sink.aside link.new ≡ L.Sink.aside link.old }
+    ensures cause { OnLinkFault result (Rose (L.Sink.count link.old) (L.Sink.count link.new)) }
+    ensures never_falls { L.Sink.count link.old ≤ L.Sink.count link.new }
+{
+    let held = received.held();
+    let command = match command_of(alloc, &route, &held[first.body..first.size]) {
+        Ok(command) => command,
+        Err(fault) => {
+            answer_misread(alloc, link, first, &fault)?;
+            return Ok(Answered::one(first));
+        }
+    };
+    let at = clock.now();
+    let Some(mut batch) = Batch::of(alloc, first, Ask { command, at }) else {
+        put_response(link, first, &Says::no_memory())?;
+        return Ok(Answered::one(first));
+    };
+    batch.gather(alloc, pages, clock, held, received.is_complete());
+    answer_batch(rt, alloc, shared, pass, link, &batch)?;
+    Ok(Answered {
+        requests: batch.asks().len() as u64,
+        size: batch.size(),
+        closes: batch.closes(),
+    })
+}
+
+/// Answers a request whose body is no command, or for whose reading memory was wanting.
+fn answer_misread<K: Sink>(
+    alloc: Global,
+    link: &mut K,
+    request: &Request,
+    fault: &WireFault,
+) -> Result<(), ServeFault>
+    ensures misread { fault.now ≢ WireFault.Memory → (written : Bool) × PutSays
+        (request_bytes request.now (response_of (record { outcome = misread fault.now; written = written })))
+        (K.written link.old) (K.written link.new) result }
+    ensures unread { fault.now ≡ WireFault.Memory
+        → PutSays (request_bytes request.now no_memory) (K.written link.old) (K.written link.new) result }
+    ensures aside { K.aside link.new ≡ K.aside link.old }
+    ensures cause { OnLinkFault result (Rose (K.count link.old) (K.count link.new)) }
+    ensures never_falls { K.count link.old ≤ K.count link.new }
+{
+    if *fault == WireFault::Memory {
+        return put_response(link, request, &Says::no_memory());
+    }
+    match fault_text(alloc, fault) {
+        Ok(text) => {
+            let says = Says::plain(StatusCode::BadRequest, text.as_bytes());
+            put_response(link, request, &says)
+        }
+        Err(_) => put_response(link, request, &Says::no_memory()),
+    }
+}
+
+/// Asks the farm for a batch at one turn, and puts its answers.
+fn answer_batch<R: Wait, L: Link, D: Disk>(
+    rt: &R,
+    alloc: Global,
+    shared: &SharedFarm<D>,
+    pass: &mut Pass,
+    link: &mut L,
+    batch: &Batch,
+) -> Result<(), ServeFault>
+    requires ready { IsReady shared.now pass.old }
+    ensures ready { IsReady shared.now pass.new }
+    ensures faults { pass.old.faults ≤ pass.new.faults }
+    ensures says { IsBatchPut D.count batch.now.asks batch.now.requests pass.old pass.new (L.Sink.written link.old)
+        (L.Sink.written link.new) result }
+    ensures aside { L.Sink.aside link.new ≡ L.Sink.aside link.old }
+    ensures cause { OnLinkFault result (Rose (L.Sink.count link.old) (L.Sink.count link.new)) }
+    ensures never_falls { L.Sink.count link.old ≤ L.Sink.count link.new }
+{
+    match shared.call_batch(rt, alloc, pass, batch.asks()) {
+        Ok(answers) => put_answers(alloc, link, batch.requests(), answers.as_slice()),
+        Err(CallFault::StoreFault { .. }) => {
+            let says = Says::plain(StatusCode::Unavailable, store_fault_text());
+            put_each(link, batch.requests(), &says)
+        }
+        Err(_) => put_each(link, batch.requests(), &Says::no_memory()),
+    }
+}
+
+/// Puts the answers of the farm, one for each request, in as few puts as there is room for.
+fn put_answers<K: Sink>(
+    alloc: Global,
+    link: &mut K,
+    requests: &[Request],
+    answers: &[Answer],
+) -> Result<(), ServeFault>
+    requires each { length answers.now ≡ length requests.now }
+    requires dates { All AnswerHasDates answers.now }
+    ensures says { (written : List Bool) × (length written ≡ length answers.now)
+        × PutSays (requests_bytes requests.now (farm_responses answers.now written)) (K.written link.old)
+        (K.written link.new) result }
+    ensures aside { K.aside link.new ≡ K.aside link.old }
+    ensures cause { OnLinkFault result (Rose (K.count link.old) (K.count link.new)) }
+    ensures never_falls { K.count link.old ≤ K.count link.new }
+{
+    let mut out = Gathered::new();
+    let mut place = 0;
+    while place < requests.len() {
+        put_farm_answer(alloc, &mut out, link, &requests[place], &answers[place])?;
+        place += 1;
+    }
+    put_out(&mut out, link)
+}
+
+/// Puts an answer of the farm behind those that are gathered.
+fn put_farm_answer<K: Sink>(
+    alloc: Global,
+    out: &mut Gathered,
+    link: &mut K,
+    request: &Request,
+    answer: &Answer,
+) -> Result<(), ServeFault>
+    requires dates { AnswerHasDates answer.now }
+    ensures says { (written : Bool) × OutSays (request_bytes request.now (farm_response answer.now written))
+        (record { sent = K.written link.old; held = out.old })
+        (record { sent = K.written link.new; held = out.new }) result }
+    ensures aside { K.aside link.new ≡ K.aside link.old }
+    ensures cause { OnLinkFault result (Rose (K.count link.old) (K.count link.new)) }
+    ensures never_falls { K.count link.old ≤ K.count link.new }
+{
+    match answer_text(alloc, answer) {
+        Ok(text) => {
+            let says = Says::plain(answer_status(answer), text.as_bytes());
+            put_behind(out, link, request, &says)
+        }
+        Err(_) => put_behind(out, link, request, &Says::no_memory()),
+    }
+}
+
+/// Puts the same answer to each request, in as few puts as there is room for.
+fn put_each<K: Sink>(link: &mut K, requests: &[Request], says: &Says) -> Result<(), ServeFault>
+    ensures says { PutSays (requests_bytes requests.now (map (λ _. said says.now) requests.now))
+        (K.written link.old) (K.written link.new) result }
+    ensures aside { K.aside link.new ≡ K.aside link.old }
+    ensures cause { OnLinkFault result (Rose (K.count link.old) (K.count link.new)) }
+    ensures never_falls { K.count link.old ≤ K.count link.new }
+{
+    let mut out = Gathered::new();
+    let mut place = 0;
+    while place < requests.len() {
+        put_behind(&mut out, link, &requests[place], says)?;
+        place += 1;
+    }
+    put_out(&mut out, link)
+}

@@ -1,0 +1,144 @@
+//! The requests at the front of the bytes held, answered.
+ghost use Rattle.std.specs.Prelude.{◌≡◌, ◌≤◌, Bool, true};
+ghost use Rattle.fault_types.specs.Counts.{Rose};
+ghost use Rattle.turn_lock.specs.Known.{IsReady};
+ghost use Rattle.http_requests.specs.Next.{IsNextFor};
+ghost use Rattle.connection_laws.specs.Moments.{MayGive};
+ghost use Rattle.connection_laws.specs.Progress.{Progress, IsWithin};
+ghost use Rattle.farm_entry.specs.Legal.{IsLegal};
+ghost use Rattle.list_prefix.specs.Prefix.{IsPrefix};
+ghost use Rattle.connection_laws.specs.Answers.{response_of, response_to};
+ghost use Rattle.connection_laws.specs.Outcomes.{counted, faulted};
+ghost use Rattle.farm_http.specs.Bytes.{PutSays, request_bytes};
+ghost use Rattle.farm_http.specs.Callers.{mark_of};
+ghost use Rattle.farm_http.specs.Faults.{OnLinkFault};
+ghost use Rattle.farm_http.specs.Fronts.{FrontSays};
+ghost use Rattle.farm_http.specs.Received.{is_complete};
+
+use crate::commands::answer_commands;
+use crate::log_page::answer_log;
+use crate::received::Received;
+use crate::responses::{Says, put_response};
+use connection_laws::ServeFault;
+use farm_disk::Disk;
+use farm_wire::totals_text;
+use http_answers::{fault_allow, fault_status, fault_text};
+use http_requests::Request;
+use http_routes::Pages;
+use http_words::{Endpoint, Fault, StatusCode};
+use link_io::{Clock, Link, Sink};
+use shared_farm::{Pass, SharedFarm, TotalsReader};
+use std::alloc::Global;
+use std::sync::Wait;
+
+/// Some requests at the front were answered.
+#[derive(Clone, Copy)]
+pub(crate) struct Answered {
+    /// How many.
+    pub requests: u64,
+    /// How many of the bytes held they take.
+    pub size: usize,
+    /// Whether the last one closes the connection.
+    pub closes: bool,
+}
+
+impl Answered {
+    /// This request was answered.
+    pub fn one(request: &Request) -> Answered
+        ensures requests { result.requests ≡ 1 }
+        ensures size { result.size ≡ request.now.size }
+        ensures closes { result.closes ≡ request.now.closes }
+    {
+        Answered {
+            requests: 1,
+            size: request.size,
+            closes: request.closes,
+        }
+    }
+}
+
+/// Answers the request at the front, and with it the commands behind it that may share its turn.
+pub(crate) fn answer_front<R: Wait, L: Link, D: Disk, C: Clock>(
+    rt: &R,
+    alloc: Global,
+    pages: &Pages,
+    shared: &SharedFarm<D>,
+    pass: &mut Pass,
+    reader: &mut TotalsReader,
+    link: &mut L,
+    clock: &C,
+    received: &Received,
+    first: &Request,
+) -> Result<Answered, ServeFault>
+    requires ready { IsReady shared.now pass.old }
+    requires next { IsNextFor (is_complete received.now) received.now.held first.now }
+    requires interim { received.now.interim ≡ first.now.interim }
+    ensures ready { IsReady shared.now pass.new }
+    ensures says { (c : Progress) → IsWithin c (mark_of pass.old) → reader.old ≡ c.totals
+        → FrontSays (MayGive C.Clock clock.now) c (is_complete received.now) received.now.held received.now.interim
+        (L.Sink.written link.old) (L.Sink.written link.new) (record { pass = pass.old; read = reader.old })
+        (record { pass = pass.new; read = reader.new }) result }
+    ensures aside { L.Sink.aside link.new ≡ L.Sink.aside link.old }
+    ensures cause { OnLinkFault result (Rose (L.Sink.count link.old) (L.Sink.count link.new)) }
+    ensures never_falls { L.Sink.count link.old ≤ L.Sink.count link.new }
+{
+    match first.asks {
+        Ok(Endpoint::Command(route)) => answer_commands(
+            rt, alloc, pages, shared, pass, link, clock, received, first, route,
+        ),
+        Ok(Endpoint::Totals) => {
+            answer_totals(alloc, reader, link, first)?;
+            Ok(Answered::one(first))
+        }
+        Ok(Endpoint::Log(from)) => {
+            answer_log(rt, alloc, shared, pass, link, first, from)?;
+            Ok(Answered::one(first))
+        }
+        Err(fault) => {
+            answer_fault(link, first, fault)?;
+            Ok(Answered::one(first))
+        }
+    }
+}
+
+/// Answers a fault of a request.
+fn answer_fault<K: Sink>(link: &mut K, request: &Request, fault: Fault) -> Result<(), ServeFault>
+    ensures says { PutSays (request_bytes request.now (response_to (faulted fault))) (K.written link.old)
+        (K.written link.new) result }
+    ensures aside { K.aside link.new ≡ K.aside link.old }
+    ensures cause { OnLinkFault result (Rose (K.count link.old) (K.count link.new)) }
+    ensures never_falls { K.count link.old ≤ K.count link.new }
+{
+    let says = Says {
+        status: fault_status(fault),
+        allow: fault_allow(fault),
+        body: fault_text(fault),
+    };
+    put_response(link, request, &says)
+}
+
+/// Answers a request for the totals that were posted last.
+fn answer_totals<K: Sink>(
+    alloc: Global,
+    reader: &mut TotalsReader,
+    link: &mut K,
+    request: &Request,
+) -> Result<(), ServeFault>
+    ensures longer { IsPrefix reader.old reader.new }
+    ensures legal { IsLegal reader.new }
+    ensures says { (written : Bool) × PutSays
+        (request_bytes request.now (response_of (record { outcome = counted reader.new; written = written })))
+        (K.written link.old) (K.written link.new) result }
+    ensures aside { K.aside link.new ≡ K.aside link.old }
+    ensures cause { OnLinkFault result (Rose (K.count link.old) (K.count link.new)) }
+    ensures never_falls { K.count link.old ≤ K.count link.new }
+{
+    let totals = reader.totals();
+    match totals_text(alloc, &totals) {
+        Ok(text) => {
+            let says = Says::plain(StatusCode::Ok, text.as_bytes());
+            put_response(link, request, &says)
+        }
+        Err(_) => put_response(link, request, &Says::no_memory()),
+    }
+}

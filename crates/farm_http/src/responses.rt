@@ -1,0 +1,131 @@
+//! The answers to requests, gathered and put to a link.
+ghost use Rattle.std.specs.Prelude.{◌≡◌, ◌≤◌, ◌++◌, [], true, false, OnOk};
+ghost use Rattle.fault_types.specs.Counts.{Rose};
+ghost use Rattle.http_answers.specs.Answers.{answer_bytes};
+ghost use Rattle.connection_laws.specs.Answers.{no_memory, plain};
+ghost use Rattle.farm_http.specs.Bytes.{OutSays, PutSays, request_bytes, said};
+ghost use Rattle.farm_http.specs.Faults.{OnLinkFault};
+
+use crate::fault_answers::unput;
+use connection_laws::ServeFault;
+use gathered_sink::Gathered;
+use http_answers::{Answer, memory_text, put_answer};
+use http_requests::Request;
+use http_words::{Allow, StatusCode};
+use link_io::Sink;
+
+/// What an answer says, apart from how it is put.
+#[derive(Clone, Copy)]
+pub(crate) struct Says<'b> {
+    pub status: StatusCode,
+    /// The methods that it names.
+    pub allow: Option<Allow>,
+    /// Its body in JSON.
+    pub body: &'b [u8],
+}
+
+impl<'b> Says<'b> {
+    /// An answer that names no methods.
+    pub fn plain(status: StatusCode, body: &'b [u8]) -> Says<'b>
+        ensures { said result ≡ plain status body.now }
+    {
+        Says {
+            status,
+            allow: None,
+            body,
+        }
+    }
+
+    /// Memory was wanting.
+    pub fn no_memory() -> Says<'static>
+        ensures { said result ≡ no_memory }
+    {
+        Says::plain(StatusCode::NoStorage, memory_text())
+    }
+
+    /// The answer to a request.
+    fn answer_to(&self, request: &Request) -> Answer<'b>
+        ensures { answer_bytes result ≡ request_bytes request.now (said self.now) }
+    {
+        Answer {
+            status: self.status,
+            allow: self.allow,
+            closes: request.closes,
+            withheld: request.withheld,
+            body: self.body,
+        }
+    }
+}
+
+/// Gathers an answer, where there is room for the whole of it.
+fn gather(out: &mut Gathered, answer: &Answer) -> bool
+    ensures gathered { result ≡ true → out.new ≡ out.old ++ answer_bytes answer.now }
+    ensures kept { result ≡ false → out.new ≡ out.old }
+{
+    let held = out.len();
+    if put_answer(out, answer).is_ok() {
+        return true;
+    }
+    out.truncate(held);
+    false
+}
+
+/// Puts all that is gathered.
+pub(crate) fn put_out<K: Sink>(out: &mut Gathered, link: &mut K) -> Result<(), ServeFault>
+    ensures says { OutSays [] (record { sent = K.written link.old; held = out.old })
+        (record { sent = K.written link.new; held = out.new }) result }
+    ensures empty { OnOk result (out.new ≡ []) }
+    ensures aside { K.aside link.new ≡ K.aside link.old }
+    ensures cause { OnLinkFault result (Rose (K.count link.old) (K.count link.new)) }
+    ensures never_falls { K.count link.old ≤ K.count link.new }
+{
+    match out.put_on(link) {
+        Ok(()) => Ok(()),
+        Err(fault) => Err(unput(fault)),
+    }
+}
+
+/// Puts the answer to a request behind those that are gathered: it is gathered too, and without room for it those before it
+/// are put first. One that is too long to be gathered is put itself. Its interim answer, where it has one, is out.
+pub(crate) fn put_behind<K: Sink>(
+    out: &mut Gathered,
+    link: &mut K,
+    request: &Request,
+    says: &Says,
+) -> Result<(), ServeFault>
+    ensures says { OutSays (request_bytes request.now (said says.now))
+        (record { sent = K.written link.old; held = out.old })
+        (record { sent = K.written link.new; held = out.new }) result }
+    ensures aside { K.aside link.new ≡ K.aside link.old }
+    ensures cause { OnLinkFault result (Rose (K.count link.old) (K.count link.new)) }
+    ensures never_falls { K.count link.old ≤ K.count link.new }
+{
+    let answer = says.answer_to(request);
+    if gather(out, &answer) {
+        return Ok(());
+    }
+    put_out(out, link)?;
+    if gather(out, &answer) {
+        return Ok(());
+    }
+    match put_answer(link, &answer) {
+        Ok(()) => Ok(()),
+        Err(fault) => Err(unput(fault)),
+    }
+}
+
+/// Puts the answer to a request. Its interim answer, where it has one, is out.
+pub(crate) fn put_response<K: Sink>(
+    link: &mut K,
+    request: &Request,
+    says: &Says,
+) -> Result<(), ServeFault>
+    ensures says { PutSays (request_bytes request.now (said says.now)) (K.written link.old) (K.written link.new) result }
+    ensures aside { K.aside link.new ≡ K.aside link.old }
+    ensures cause { OnLinkFault result (Rose (K.count link.old) (K.count link.new)) }
+    ensures never_falls { K.count link.old ≤ K.count link.new }
+{
+    let mut out = Gathered::new();
+    put_behind(&mut out, link, request, says)?;
+    put_out(&mut out, link)
+}

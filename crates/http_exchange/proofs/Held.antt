@@ -1,0 +1,102 @@
+-- What is held of the bytes that were taken, and what they come to.
+use Rattle.std.proofs.Common.{◌≡◌, ◌+◌, ◌<◌, ◌≤◌, ◌↔◌, ◌⊎◌, ℕ, Bool, true, false, List, [], ◌++◌, length, drop, slice_range, Result, IfOk, IfErr, Ok, Err, refl, sym, ap, subst, ◌∙◌, inl, inr, append_assoc, append-nil, length-append, length-drop, arith}
+use Rattle.http_responses.specs.Reading.{IsBefore, IsUnfinished, Says}
+use Rattle.http_responses.specs.Whole.{IsWhole}
+use Rattle.http_responses.specs.declared.progress.Progress.TheVariants as progress
+use Rattle.http_responses.specs.declared.progress.Response.{Response}
+use Rattle.link_io.specs.declared.source.TheConstants.{INPUT_LIMIT}
+use Rattle.http_exchange.specs.Received.{IsHeld, IsOver, IsTaken, ReceivedBytes, TakesUntil, nothing_received}
+use Rattle.http_exchange.specs.Responses.{ComesTo, HasNone, IsBroken, NeverHasOne}
+use Rattle.http_exchange.specs.declared.response.NoResponse.{NoResponse}
+use Rattle.http_exchange.specs.declared.response.NoResponse.TheVariants.{Broken, Failed, Memory}
+use Rattle.http_exchange.specs.declared.response.Response as made
+
+pub held-first : IsHeld [] nothing_received
+held-first = record { taken = refl; same = λ more status body. ((λ (w : IsWhole more status body). w), (λ (w : IsWhole more status body). w)) }
+
+-- a response at the front is the same in both lists
+same-now : (bytes : List ℕ) (r : ReceivedBytes) → IsHeld bytes r → (status : ℕ) (body : List ℕ) → IsWhole bytes status body ↔ IsWhole r.held status body
+same-now bytes r held status body =
+    subst (λ (l : List ℕ). IsWhole l status body ↔ IsWhole r.held status body) (append-nil bytes)
+    (subst (λ (l : List ℕ). IsWhole (bytes ++ []) status body ↔ IsWhole l status body) (append-nil r.held)
+    (held.same [] status body))
+
+-- an interim response is passed over
+pub held-past : (bytes : List ℕ) (r : ReceivedBytes) (size : ℕ) → IsHeld bytes r → IsBefore r.held size →
+    IsHeld bytes (record r { held = drop size r.held })
+held-past bytes r size held before = record {
+  taken = held.taken;
+  same = λ more status body.
+      let one = held.same more status body in
+      let two = before.same more status body in (
+        (λ (w : IsWhole (bytes ++ more) status body). two.0 (one.0 w)),
+        (λ (w : IsWhole (drop size r.held ++ more) status body). one.1 (two.1 w)),
+      );
+}
+
+-- more is taken
+pub held-on : (bytes : List ℕ) (r s : ReceivedBytes) (piece : List ℕ) → IsHeld bytes r → IsTaken r s piece → IsHeld (bytes ++ piece) s
+held-on bytes r s piece held taken = record {
+  taken =
+      let before : r.taken ≡ length bytes = held.taken in
+      let now : s.taken ≡ r.taken + length piece = taken.taken in
+      let both : length (bytes ++ piece) ≡ length bytes + length piece = length-append bytes piece in
+      omega (arith, before, now, both);
+  same = λ more status body.
+      subst (λ (l : List ℕ). IsWhole l status body ↔ IsWhole (s.held ++ more) status body) (sym (append_assoc bytes piece more))
+      (subst (λ (l : List ℕ). IsWhole (bytes ++ (piece ++ more)) status body ↔ IsWhole l status body)
+      (sym (append_assoc r.held piece more) ∙ ap (λ (l : List ℕ). l ++ more) (sym taken.held))
+      (held.same (piece ++ more) status body));
+}
+
+pub comes-whole : (bytes : List ℕ) (r : ReceivedBytes) (found : Response) → IsHeld bytes r → Says r.held (progress.Whole found) →
+    IsWhole bytes found.status (slice_range r.held found.body found.end)
+comes-whole bytes r found held says =
+    (same-now bytes r held found.status (slice_range r.held found.body found.end)).1
+    (subst (λ (l : List ℕ). IsWhole l found.status (slice_range r.held found.body found.end)) (append-nil r.held) (says.2 []))
+
+pub comes-never : (bytes : List ℕ) (r : ReceivedBytes) (ended : Bool) → IsHeld bytes r → Says r.held progress.Never → IsBroken bytes ended
+comes-never bytes r ended held says = record {
+  none = λ status body whole.
+      says [] status body
+      (subst (λ (l : List ℕ). IsWhole l status body) (sym (append-nil r.held)) ((same-now bytes r held status body).0 whole));
+  over = inr (λ more status body whole. says more status body ((held.same more status body).0 whole));
+}
+
+-- fewer bytes are held than a response needs
+none-yet : (bytes : List ℕ) (r s : ReceivedBytes) (piece : List ℕ) (size : ℕ) → IsHeld bytes r → IsUnfinished r.held size →
+    IsTaken r s piece → length s.held < size → HasNone (bytes ++ piece)
+none-yet bytes r s piece size held waits taken few status body whole =
+    let now : length s.held ≡ length (r.held ++ piece) = ap length taken.held in
+    let both : length (r.held ++ piece) ≡ length r.held + length piece = length-append r.held piece in
+    waits.none piece status body (omega (arith, now, both, few)) ((held.same piece status body).0 whole)
+
+pub comes-short : (bytes : List ℕ) (r s : ReceivedBytes) (piece : List ℕ) (size : ℕ) (ended : Bool) → IsHeld bytes r →
+    IsUnfinished r.held size → TakesUntil size r s piece ended (Ok false) → IsBroken (bytes ++ piece) ended
+comes-short bytes r s piece size ended held waits takes = record {
+  none = none-yet bytes r s piece size held waits takes.0 takes.1;
+  over = inl (subst (IsOver ended) (held-on bytes r s piece held takes.0).taken takes.2);
+}
+
+pub comes-fault : (bytes : List ℕ) (r s : ReceivedBytes) (piece : List ℕ) (size : ℕ) (ended : Bool) (f : NoResponse) →
+    IsHeld bytes r → IsUnfinished r.held size → TakesUntil size r s piece ended (Err f) → ComesTo (bytes ++ piece) ended (Err f)
+comes-fault bytes r s piece size ended Failed held waits takes = none-yet bytes r s piece size held waits takes.0 takes.1
+comes-fault bytes r s piece size ended Broken held waits takes = absurd takes
+comes-fault bytes r s piece size ended Memory held waits takes = tt
+
+-- the measure of the loop: what may be taken counts twice
+pub less-past : (size : ℕ) (held : List ℕ) → 1 ≤ size → size ≤ length held → length (drop size held) < length held
+less-past size held some within = simp length-drop (omega arith)
+
+pub held-until : (bytes : List ℕ) (r s : ReceivedBytes) (piece : List ℕ) (size : ℕ) (ended : Bool) → IsHeld bytes r →
+    TakesUntil size r s piece ended (Ok true) → IsHeld (bytes ++ piece) s
+held-until bytes r s piece size ended held takes = held-on bytes r s piece held takes.0
+
+pub comes-made : (bytes : List ℕ) (ended : Bool) (result : Result made.Response NoResponse) (status : ℕ) (body : List ℕ) →
+    IfOk result (λ response. response.status ≡ status) → IfOk result (λ response. response.body ≡ body) →
+    IfErr result (λ none. none ≡ Memory) → IsWhole bytes status body → ComesTo bytes ended result
+comes-made bytes ended (Ok response) status body status_is body_is short whole =
+    subst (λ (n : ℕ). IsWhole bytes n response.body) (sym status_is)
+    (subst (λ (l : List ℕ). IsWhole bytes status l) (sym body_is) whole)
+comes-made bytes ended (Err none) status body status_is body_is short whole =
+    subst (λ (x : NoResponse). ComesTo bytes ended (Err x)) (sym short) tt

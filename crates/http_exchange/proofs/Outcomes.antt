@@ -1,0 +1,75 @@
+-- What an exchange tells, and what it is answered by.
+use Rattle.std.proofs.Common.{◌≡◌, ◌≤◌, ℕ, Bool, List, [], ◌∷◌, ◌++◌, take, drop, Option, Some, None, Result, Ok, Err, IfSome, IsErrOf, refl, sym, ap, subst, ◌∙◌, append-nil, arith}
+use Rattle.std.proofs.lemmas.List.{take-append-drop}
+use Rattle.std.specs.Io.KnownBytes.{append_known}
+use Rattle.fault_types.specs.Counts.{Rose}
+use Rattle.fault_types.specs.declared.memory.Memory.{Memory}
+use Rattle.http_responses.specs.Whole.{IsWhole}
+use Rattle.link_io.specs.Intake.{Intake}
+use Rattle.link_io.specs.Links.{LinkState, fresh_link}
+use Rattle.link_io.specs.Telling.{add_told}
+use Rattle.link_io.specs.declared.sink.PutFault.{PutFault}
+use Rattle.link_io.specs.declared.sink.PutFault.TheVariants as put_fault
+use Rattle.list_prefix.specs.Prefix.{IsPrefix}
+use Rattle.net_io.specs.Events.{NetworkEvent, returned}
+use Rattle.http_exchange.specs.Exchanges.{AnsweredBy, AskedOver, IsOutcome, talk_state, talked}
+use Rattle.http_exchange.specs.Responses.{unput}
+use Rattle.http_exchange.specs.declared.connection.Exchanged.{Exchanged}
+use Rattle.http_exchange.specs.declared.connection.Exchanged.TheVariants.{Answered, Broken, Failed}
+use Rattle.http_exchange.specs.declared.response.NoResponse.{NoResponse}
+use Rattle.http_exchange.specs.declared.response.NoResponse.TheVariants as no_response
+use Rattle.http_exchange.specs.declared.response.Response.{Response}
+
+-- the taken bytes of what a put keeps
+pub taken-kept : (taken before : Option (List ℕ)) → taken ≡ before → taken ≡ append_known before []
+taken-kept taken None e = e
+taken-kept taken (Some xs) e = e ∙ ap (λ (l : List ℕ). Some l) (sym (append-nil xs))
+
+pub prefix-take : (n : ℕ) (xs : List ℕ) → IsPrefix (take n xs) xs
+prefix-take n xs = (drop n xs, sym (take-append-drop n xs))
+
+pub asked-unput : (request sent : List ℕ) (ended : Bool) (f : PutFault) → IsPrefix sent request →
+    AskedOver request sent [] ended (Err (unput f))
+asked-unput request sent ended put_fault.Failed front = front
+asked-unput request sent ended put_fault.Memory front = front
+
+-- a link that was fresh, as it is told once it is taken back
+pub over-told : (told : Option (List NetworkEvent)) (before after : LinkState) (sent taken : List ℕ) →
+    IfSome told (λ _. before ≡ fresh_link) → after.put ≡ append_known before.put sent →
+    after.taken ≡ append_known before.taken taken →
+    add_told (returned after) told
+    ≡ add_told (returned (talk_state (record { taken = taken; put = sent; ended = after.ended; count = after.count }))) told
+over-told None before after sent taken fresh put_is taken_is = refl
+over-told (Some events) before after sent taken fresh put_is taken_is =
+    let put_now : after.put ≡ Some sent = put_is ∙ ap (λ (s : LinkState). append_known s.put sent) fresh in
+    let taken_now : after.taken ≡ Some taken = taken_is ∙ ap (λ (s : LinkState). append_known s.taken taken) fresh in
+    let one : after ≡ record after { taken = Some taken } =
+    ap (λ (o : Option (List ℕ)). let s : LinkState = record after { taken = o } in s) taken_now in
+    let two : after ≡ record after { taken = Some taken; put = Some sent } =
+    one ∙ ap (λ (o : Option (List ℕ)). let s : LinkState = record after { taken = Some taken; put = o } in s) put_now in
+    ap (λ (s : LinkState). Some (returned s ∷ events)) two
+
+prefix-same : (sent request : List ℕ) → sent ≡ request → IsPrefix sent request
+prefix-same sent request same = ([], sym same ∙ sym (append-nil sent))
+
+pub answered-by : (request sent taken : List ℕ) (ended : Bool) (count : ℕ) (answer : Result Response NoResponse)
+    (result : Result Exchanged Memory) → AskedOver request sent taken ended answer → IsOutcome answer count result →
+    (IsErrOf answer no_response.Failed → Rose 0 count) →
+    AnsweredBy request (talked (record { taken = taken; put = sent; ended = ended; count = count })) result
+answered-by request sent taken ended count (Ok response) (Ok (Answered given)) asked is rises =
+    (is.0, asked.0, subst (λ (r : Response). IsWhole taken r.status r.body) (sym is.1) asked.1)
+answered-by request sent taken ended count (Ok response) (Ok Failed) asked is rises = (is, prefix-same sent request asked.0)
+answered-by request sent taken ended count (Ok response) (Ok Broken) asked is rises = absurd is
+answered-by request sent taken ended count (Ok response) (Err memory) asked is rises = absurd is
+answered-by request sent taken ended count (Err no_response.Broken) (Ok (Answered given)) asked is rises = absurd is
+answered-by request sent taken ended count (Err no_response.Broken) (Ok Failed) asked is rises =
+    (is, prefix-same sent request asked.0)
+answered-by request sent taken ended count (Err no_response.Broken) (Ok Broken) asked is rises = (is, asked.0, asked.1)
+answered-by request sent taken ended count (Err no_response.Broken) (Err memory) asked is rises = absurd is
+answered-by request sent taken ended count (Err no_response.Failed) (Ok (Answered given)) asked is rises = absurd is
+answered-by request sent taken ended count (Err no_response.Failed) (Ok Failed) asked is rises = (is, asked)
+answered-by request sent taken ended count (Err no_response.Failed) (Ok Broken) asked is rises =
+    let rose = rises refl in absurd (omega (arith, rose, is))
+answered-by request sent taken ended count (Err no_response.Failed) (Err memory) asked is rises = absurd is
+answered-by request sent taken ended count (Err no_response.Memory) (Ok came) asked is rises = absurd is
+answered-by request sent taken ended count (Err no_response.Memory) (Err memory) asked is rises = asked

@@ -1,0 +1,70 @@
+-- A request and what became of it, over a connection of its own.
+use Rattle.std.specs.Prelude.{◌≡◌, ◌≤◌, ℕ, Bool, List, [], ◌∷◌, Option, Some, Result, Ok, Err, ⊤}
+use Rattle.fault_types.specs.declared.memory.Memory.{Memory}
+use Rattle.http_responses.specs.Whole.{IsWhole}
+use Rattle.link_io.specs.Links.{LinkState}
+use Rattle.link_io.specs.Telling.{add_told}
+use Rattle.list_prefix.specs.Prefix.{IsPrefix}
+use Rattle.net_io.specs.Events.{NetworkEvent, connect_failed, connected, returned}
+use Rattle.http_exchange.specs.Responses.{IsBroken}
+use Rattle.http_exchange.specs.declared.connection.Exchanged.{Exchanged}
+use Rattle.http_exchange.specs.declared.connection.Exchanged.TheVariants.{Answered, Broken, Failed}
+use Rattle.http_exchange.specs.declared.response.NoResponse.{NoResponse}
+use Rattle.http_exchange.specs.declared.response.NoResponse.TheVariants as no_response
+use Rattle.http_exchange.specs.declared.response.Response.{Response}
+
+-- what a connection had done when it was taken back: the bytes taken from it and those put to it, whether its last take
+-- answered that the input has ended, and how often it failed
+pub record Talk : Type 0 where
+  pub taken : List ℕ
+  pub put : List ℕ
+  pub ended : Bool
+  pub count : ℕ
+
+-- no connection was made, or one that did this
+pub data Exchange : Type 0 where
+  unconnected : Exchange
+  talked : Talk → Exchange
+
+abbrev pub talk_state : Talk → LinkState
+talk_state t = record { taken = Some t.taken; put = Some t.put; ended = t.ended; count = t.count }
+
+-- what the network tells of an exchange, in its order
+abbrev pub exchange_events : Exchange → List NetworkEvent
+exchange_events unconnected = connect_failed ∷ []
+exchange_events (talked t) = connected ∷ returned (talk_state t) ∷ []
+
+-- several things more, in their order, where the object tells
+abbrev pub tell_all : {A : Type 0} → List A → Option (List A) → Option (List A)
+tell_all [] told = told
+tell_all (thing ∷ things) told = tell_all things (add_told thing told)
+
+-- What an exchange is answered by. A response is whole, of a connection that never failed. Else the connection failed, or was
+-- never made; or the whole request was put, and the other end sent no whole response. Unless a connection failed, or
+-- memory was wanting, the whole request was put
+abbrev pub AnsweredBy : (request : List ℕ) → Exchange → Result Exchanged Memory → Type 0
+AnsweredBy request unconnected (Ok Failed) = ⊤
+AnsweredBy request unconnected answer = ⊥
+AnsweredBy request (talked t) (Ok (Answered response)) =
+    (t.count ≡ 0) × (t.put ≡ request) × IsWhole t.taken response.status response.body
+AnsweredBy request (talked t) (Ok Failed) = (1 ≤ t.count) × IsPrefix t.put request
+AnsweredBy request (talked t) (Ok Broken) = (t.count ≡ 0) × (t.put ≡ request) × IsBroken t.taken t.ended
+AnsweredBy request (talked t) (Err memory) = IsPrefix t.put request
+
+-- what was put to a connection and taken from it, and the response that came of it
+abbrev pub AskedOver : (request sent taken : List ℕ) → (ended : Bool) → Result Response NoResponse → Type 0
+AskedOver request sent taken ended (Ok response) = (sent ≡ request) × IsWhole taken response.status response.body
+AskedOver request sent taken ended (Err no_response.Broken) = (sent ≡ request) × IsBroken taken ended
+AskedOver request sent taken ended (Err no_response.Failed) = IsPrefix sent request
+AskedOver request sent taken ended (Err no_response.Memory) = IsPrefix sent request
+
+-- what is answered for a response, or for none, where the connection failed so often
+abbrev pub IsOutcome : Result Response NoResponse → (count : ℕ) → Result Exchanged Memory → Type 0
+IsOutcome (Ok response) count (Ok (Answered given)) = (count ≡ 0) × (given ≡ response)
+IsOutcome (Ok response) count (Ok Failed) = 1 ≤ count
+IsOutcome (Ok response) count answer = ⊥
+IsOutcome (Err no_response.Memory) count (Err memory) = ⊤
+IsOutcome (Err no_response.Memory) count (Ok came) = ⊥
+IsOutcome (Err fault) count (Ok Broken) = count ≡ 0
+IsOutcome (Err fault) count (Ok Failed) = 1 ≤ count
+IsOutcome (Err fault) count answer = ⊥

@@ -1,0 +1,4 @@
+pub mod Cases
+pub mod Commands
+pub mod Named
+pub mod Plain

@@ -1,0 +1,21 @@
+use Rattle.std.proofs.Common.{◌≡◌, ◌∙◌, ap, ap₂, rules, codes, []}
+use Rattle.std.proofs.lemmas.Result.{IfOk-weaker}
+use Rattle.clap.specs.Words.{App, app_of, with_subcommand}
+use Rattle.word_matches.specs.CommandLine.{empty_line, found_ids, found_line, judge_line, leaf, run_leaf, run_line, show_ids}
+use Rattle.word_matches.proofs.Commands.{third-denied}
+use Rattle.word_matches.proofs.command_line.command_line.Goals as goal
+
+pub returns : goal.returns
+returns c =
+    let empty : app_of c.subcommand_required-line.result ≡ empty_line = search rules in
+    let judge : app_of c.in_ok-line.line ≡ judge_line =
+    c.in_ok-line.ensures ∙ ap (λ (a : App). with_subcommand a (leaf (codes "judge") []).top) empty in
+    let run_is : app_of c.in_ok-run_leaf.field-0 ≡ run_leaf = c.in_ok-run_leaf.ensures in
+    let run : app_of c.in_ok-line-2.line ≡ run_line =
+    c.in_ok-line-2.ensures.shape (third-denied _ _ _ _ (ap (λ (a : App). a.top.is_plain) run_is))
+    ∙ ap₂ (λ (a b : App). with_subcommand a b.top) judge run_is in
+    let found : app_of c.in_ok-line-3.line ≡ found_line =
+    c.in_ok-line-3.ensures ∙ ap (λ (a : App). with_subcommand a (leaf (codes "found") found_ids).top) run in
+    IfOk-weaker c.with_leaf-3.result _ _
+    (λ line is. is ∙ ap (λ (a : App). with_subcommand a (leaf (codes "show") show_ids).top) found)
+    c.with_leaf-3.ensures

@@ -1,0 +1,229 @@
+//! A worker between its steps.
+ghost use Rattle.std.specs.Prelude.{◌≡◌, ◌≤◌, true, false, ℕ, List, Option, Some, OnOk, IsErrOf};
+ghost use Rattle.farm_types.specs.declared.key.Key.{Key};
+ghost use Rattle.fault_types.specs.Counts.{Rose};
+ghost use Rattle.link_io.specs.Telling.{add_told};
+ghost use Rattle.net_io.specs.Events.{NetworkEvent};
+ghost use Rattle.worker_core.specs.Core.{IsCore};
+ghost use Rattle.worker_io.specs.Runs.{Asked, OnRunFailed};
+ghost use Rattle.worker_agent.specs.Agent.{AsksRunner, Finishes, Fits, IsActive, IsTest, StepSays};
+ghost use Rattle.worker_agent.specs.Came.{event_of, lease_held};
+ghost use Rattle.worker_agent.specs.Steps.{agent_after, agent_start};
+
+use crate::came::run_came;
+use crate::send::{send_lease, send_report};
+use crate::{Came, WorkFault, Worked};
+use farm_types::{Key, Name};
+use net_io::Network;
+use std::alloc::Global;
+use std::marker::Model;
+use weight_exact::Verdict;
+use worker_core::{Action, End, Event, WorkerCore};
+use worker_io::{KeySource, Ran, Runner};
+use worker_wire::LeaseAnswer;
+
+/// A worker that has begun: its core with the action that is to be done, the lease that it had last, and whether its last
+/// request met a fault of the network.
+#[derive(Debug, Drop)]
+pub(crate) struct Agent {
+    core: WorkerCore,
+    action: Action,
+    lease: Option<LeaseAnswer>,
+    faulted: bool,
+}
+
+impl Model for Agent {
+    ghost use Rattle.worker_agent.specs.Agent.{IsAgent};
+    ghost use Rattle.worker_agent.specs.Steps.{AgentState};
+
+    ghost Value = { AgentState };
+
+    ghost view = { λ a. record { core = a.core; lease = a.lease; faulted = a.faulted } };
+
+    ghost invariant = { λ a. IsAgent a.core.last a.action a.lease };
+}
+
+impl Agent {
+    /// A worker that is to take so many leases.
+    pub(crate) fn start(runs: u32) -> Agent
+        requires { 1 ≤ runs }
+        ensures { result ≡ agent_start runs }
+    {
+        let mut core = WorkerCore::start(runs);
+        let action = core.step(Event::Begin);
+        Agent {
+            core,
+            action,
+            lease: None,
+            faulted: false,
+        }
+    }
+
+    /// What is to be done.
+    pub(crate) fn action(&self) -> Action
+        ensures action { self.now.core.last ≡ Some result }
+        ensures core { IsCore self.now.core.left self.now.core.lost self.now.core.last }
+    {
+        let _left = self.core.left();
+        self.action
+    }
+
+    /// Does what is to be done.
+    pub(crate) fn step<N: Network, R: Runner, Q: KeySource>(
+        &mut self,
+        alloc: Global,
+        network: &mut N,
+        runner: &mut R,
+        keys: &mut Q,
+        worker: &Name,
+    ) -> Result<(), WorkFault>
+        requires { IsActive self.old.core.last }
+        ensures says { StepSays worker.now self.old self.new
+            (record { network = N.told network.old; runner = R.told runner.old; keys = Q.told keys.old })
+            (record { network = N.told network.new; runner = R.told runner.new; keys = Q.told keys.new }) result }
+        ensures rises { OnOk result (self.new.faulted ≡ true → Rose (N.count network.old) (N.count network.new)) }
+        ensures gives_up { IsErrOf result WorkFault.NetFault → ⊥ }
+        ensures failed { IsErrOf result WorkFault.RunnerFault → Rose (R.count runner.old) (R.count runner.new) }
+        ensures network_count { N.count network.old ≤ N.count network.new }
+        ensures runner_count { R.count runner.old ≤ R.count runner.new }
+    {
+        match self.action {
+            Action::Draw => {
+                self.draw(keys);
+                Ok(())
+            }
+            Action::AskLease(key) => self.ask_lease(alloc, network, key, worker),
+            Action::RunTest(_) => self.run_test(runner),
+            Action::SendReport(run, verdict) => self.report(alloc, network, run, verdict),
+            Action::Stop(_) => Ok(()),
+        }
+    }
+
+    fn draw<Q: KeySource>(&mut self, keys: &mut Q)
+        requires { self.old.core.last ≡ Some Action.Draw }
+        ensures drew { (key : Key) × (Q.told keys.new ≡ add_told key (Q.told keys.old))
+            × (self.new ≡ agent_after self.old (Came.Event (Event.Drew key)) false) }
+    {
+        self.note(Came::Event(Event::Drew(keys.next())), false);
+    }
+
+    fn ask_lease<N: Network>(
+        &mut self,
+        alloc: Global,
+        network: &mut N,
+        key: Key,
+        worker: &Name,
+    ) -> Result<(), WorkFault>
+        requires { self.old.core.last ≡ Some (Action.AskLease key) }
+        ensures says { (runner : Option (List Asked)) (keys : Option (List Key)) → StepSays worker.now self.old self.new
+            (record { network = N.told network.old; runner = runner; keys = keys })
+            (record { network = N.told network.new; runner = runner; keys = keys }) result }
+        ensures rises { OnOk result (self.new.faulted ≡ true → Rose (N.count network.old) (N.count network.new)) }
+        ensures unfailed { IsErrOf result WorkFault.RunnerFault → ⊥ }
+        ensures never_falls { N.count network.old ≤ N.count network.new }
+    {
+        let sent = send_lease(alloc, network, key, worker)?;
+        self.note(sent.came, sent.faulted);
+        Ok(())
+    }
+
+    fn report<N: Network>(
+        &mut self,
+        alloc: Global,
+        network: &mut N,
+        run: u32,
+        verdict: Verdict,
+    ) -> Result<(), WorkFault>
+        requires { self.old.core.last ≡ Some (Action.SendReport run verdict) }
+        ensures says { (worker : List ℕ) (runner : Option (List Asked)) (keys : Option (List Key)) → StepSays worker self.old self.new
+            (record { network = N.told network.old; runner = runner; keys = keys })
+            (record { network = N.told network.new; runner = runner; keys = keys }) result }
+        ensures rises { OnOk result (self.new.faulted ≡ true → Rose (N.count network.old) (N.count network.new)) }
+        ensures unfailed { IsErrOf result WorkFault.RunnerFault → ⊥ }
+        ensures never_falls { N.count network.old ≤ N.count network.new }
+    {
+        let sent = send_report(alloc, network, run, verdict)?;
+        self.note(sent.came, sent.faulted);
+        Ok(())
+    }
+
+    fn run_test<R: Runner>(&mut self, runner: &mut R) -> Result<(), WorkFault>
+        requires { IsTest self.old.core.last }
+        ensures says { (worker : List ℕ) (network : Option (List NetworkEvent)) (keys : Option (List Key)) → StepSays worker self.old self.new
+            (record { network = network; runner = R.told runner.old; keys = keys })
+            (record { network = network; runner = R.told runner.new; keys = keys }) result }
+        ensures unfaulted { OnOk result (self.new.faulted ≡ false) }
+        ensures failed { IsErrOf result WorkFault.RunnerFault → Rose (R.count runner.old) (R.count runner.new) }
+        ensures never_falls { R.count runner.old ≤ R.count runner.new }
+    {
+        let ran = self.ask_runner(runner);
+        let came = run_came(ran)?;
+        self.note(came, false);
+        Ok(())
+    }
+
+    /// Has the test of its lease run.
+    fn ask_runner<R: Runner>(&self, runner: &mut R) -> Ran
+        requires { IsTest self.now.core.last }
+        ensures asked { AsksRunner self.now.core.last self.now.lease (R.told runner.old) (R.told runner.new) result }
+        ensures rises { OnRunFailed result (Rose (R.count runner.old) (R.count runner.new)) }
+        ensures never_falls { R.count runner.old ≤ R.count runner.new }
+    {
+        match &self.lease {
+            Some(lease) => runner.run(&lease.test, &lease.commit),
+            None => unreachable!(),
+        }
+    }
+
+    /// Goes on by what came of the action.
+    fn note(&mut self, came: Came, faulted: bool)
+        requires { Fits self.old.core.last came }
+        ensures { self.new ≡ agent_after self.old came faulted }
+    {
+        let event = self.hold(came);
+        self.action = self.core.step(event);
+        self.faulted = faulted;
+    }
+
+    /// Keeps the lease that came, if one did. Answers what the core is told.
+    fn hold(&mut self, came: Came) -> Event
+        requires { Fits self.old.core.last came }
+        ensures event { result ≡ event_of came }
+        ensures held { self.new ≡ record self.old { lease = lease_held came self.old.lease } }
+    {
+        match came {
+            Came::Lease(lease) => {
+                let run = lease.run;
+                self.lease = Some(lease);
+                Event::Leased(run)
+            }
+            Came::Event(event) => event,
+        }
+    }
+
+    /// What a worker that has stopped so answers, which was to take so many leases.
+    pub(crate) fn finish(&self, end: End, runs: u32) -> Result<Worked, WorkFault>
+        requires stopped { self.now.core.last ≡ Some (Action.Stop end) }
+        requires few { self.now.core.left ≤ runs }
+        ensures { Finishes self.now runs result }
+    {
+        let leased = runs - self.core.left();
+        match end {
+            End::Idle => Ok(worked(leased, true)),
+            End::Limit => Ok(worked(leased, false)),
+            End::Peer(_) if self.faulted => Err(WorkFault::NetFault),
+            End::Peer(status) => Err(WorkFault::Peer(status)),
+        }
+    }
+}
+
+/// A worker that stops but for a lost request has reported each lease that it took.
+fn worked(leased: u32, idle: bool) -> Worked
+    ensures { result ≡ record { leased = leased; reported = leased; idle = idle } }
+{
+    Worked {
+        leased,
+        reported: leased,
+        idle,
+    }
+}

@@ -1,0 +1,52 @@
+//! The bodies of a worker's requests.
+
+ghost use Rattle.std.specs.Prelude.{◌≡◌, IfOk, string_bytes};
+ghost use Rattle.serde_json.specs.Written.{compact_text};
+ghost use Rattle.farm_wire.specs.Replies.{verdict_word};
+ghost use Rattle.worker_wire.specs.Requests.{key_text, lease_data, report_data};
+
+use crate::object::TextObject;
+use farm_types::{Key, Memory, Name};
+use std::alloc::Global;
+use uuid::Uuid;
+use weight_exact::Verdict;
+
+/// The body of a request for a run.
+pub(crate) fn lease_body(alloc: Global, key: Key, worker: &Name) -> Result<String, Memory>
+    ensures { IfOk result (λ text. string_bytes text ≡ compact_text (lease_data (key_text key) worker.now)) }
+{
+    let mut buffer = Uuid::encode_buffer();
+    let digits = Uuid::from_u128(key.0)
+        .hyphenated()
+        .encode_lower(&mut buffer);
+    lease_text(alloc, digits, worker)
+}
+
+#[tactic(auto, unfolding(crate::specs::Requests::lease_data))]
+fn lease_text(alloc: Global, key: &str, worker: &Name) -> Result<String, Memory>
+    ensures { IfOk result (λ text. string_bytes text ≡ compact_text (lease_data key.now worker.now)) }
+{
+    TextObject::new(alloc)
+        .with("key", key)?
+        .with("worker", worker.text())?
+        .into_text()
+}
+
+/// The body of a report.
+#[tactic(auto, unfolding(crate::specs::Requests::report_data))]
+pub(crate) fn report_body(alloc: Global, verdict: Verdict) -> Result<String, Memory>
+    ensures { IfOk result (λ text. string_bytes text ≡ compact_text (report_data verdict)) }
+{
+    TextObject::new(alloc)
+        .with("verdict", verdict_word(verdict))?
+        .into_text()
+}
+
+fn verdict_word(verdict: Verdict) -> &'static str
+    ensures { result.now ≡ verdict_word verdict }
+{
+    match verdict {
+        Verdict::Pass => "pass",
+        Verdict::Fail => "fail",
+    }
+}

@@ -1,0 +1,56 @@
+//! The requests of a worker, as bytes.
+
+ghost use Rattle.std.specs.Prelude.{◌≡◌, ◌++◌, IfOk, decimal, string_bytes};
+ghost use Rattle.serde_json.specs.Written.{compact_text};
+ghost use Rattle.worker_wire.specs.Requests.{lease_data, lease_path, lease_request, report_data, report_end, report_request, request_bytes, runs_path};
+
+use crate::body::{lease_body, report_body};
+use crate::lines;
+use farm_types::{Key, Memory, Name};
+use itoa::Buffer;
+use std::alloc::Global;
+use weight_exact::Verdict;
+
+/// The request for a run, under a key, by the worker of this name.
+pub fn lease_request(alloc: Global, key: Key, worker: &Name) -> Result<Vec<u8>, Memory>
+    ensures { IfOk result (λ bytes. bytes.items ≡ lease_request key worker.now) }
+{
+    let body = lease_body(alloc, key, worker)?;
+    request(alloc, lines::lease_path(), body.as_bytes())
+}
+
+/// The request that reports the verdict of a run.
+pub fn report_request(alloc: Global, run: u32, verdict: Verdict) -> Result<Vec<u8>, Memory>
+    ensures { IfOk result (λ bytes. bytes.items ≡ report_request run verdict) }
+{
+    let path = report_path(alloc, run)?;
+    let body = report_body(alloc, verdict)?;
+    request(alloc, &path, body.as_bytes())
+}
+
+fn report_path(alloc: Global, run: u32) -> Result<Vec<u8>, Memory>
+    ensures { IfOk result (λ path. path.items ≡ runs_path ++ decimal run ++ report_end) }
+{
+    let mut digits = Buffer::new();
+    let number = digits.format(run).as_bytes();
+    let mut path = Vec::new(alloc);
+    path.extend_from_slice(lines::runs_path())?;
+    path.extend_from_slice(number)?;
+    path.extend_from_slice(lines::report_end())?;
+    Ok(path)
+}
+
+fn request(alloc: Global, path: &[u8], body: &[u8]) -> Result<Vec<u8>, Memory>
+    ensures { IfOk result (λ bytes. bytes.items ≡ request_bytes path.now body.now) }
+{
+    let mut digits = Buffer::new();
+    let size = digits.format(body.len()).as_bytes();
+    let mut bytes = Vec::new(alloc);
+    bytes.extend_from_slice(lines::request_method())?;
+    bytes.extend_from_slice(path)?;
+    bytes.extend_from_slice(lines::request_lines())?;
+    bytes.extend_from_slice(size)?;
+    bytes.extend_from_slice(lines::request_end())?;
+    bytes.extend_from_slice(body)?;
+    Ok(bytes)
+}
