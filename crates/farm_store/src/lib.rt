@@ -19,6 +19,7 @@ mod recording;
 mod showing;
 mod store;
 
+pub use admitting::farm_of;
 pub use asking::{Answer, Answers, Ask, CallFault, MAX_BATCH};
 pub use farm_journal::{CreateFault, OpeningFault};
 pub use store::Store;

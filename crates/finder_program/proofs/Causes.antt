@@ -9,11 +9,12 @@ use Rattle.farm_journal.specs.declared.fault.OpeningFault.TheVariants as opening
 use Rattle.farm_script.specs.declared.run_end.RunEnd.{RunEnd}
 use Rattle.farm_script.specs.declared.run_end.RunEnd.TheVariants as script
 use Rattle.fault_types.specs.Counts.{Rose}
+use Rattle.farm_serve.specs.Outside.{DiskSeen, OutputSeen}
 use Rattle.finder_program.specs.RunJournal.{IsStoreFaultOf}
-use Rattle.finder_program.specs.Disks.{DiskSeen, HasStoreCause}
+use Rattle.finder_program.specs.Disks.{HasStoreCause}
 use Rattle.finder_program.specs.Found.{status_of_creating}
 use Rattle.finder_program.specs.Opening.{status_of_opening}
-use Rattle.finder_program.specs.TextPut.{OutputSeen, TextPut}
+use Rattle.finder_program.specs.TextPut.{TextPut}
 use Rattle.finder_program.specs.declared.status.Status.{Status}
 use Rattle.finder_program.specs.declared.status.Status.TheVariants.{StoreFault}
 

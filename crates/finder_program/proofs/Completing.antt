@@ -10,7 +10,6 @@ use Rattle.farm_journal.specs.declared.fault.OpeningFault.{OpeningFault}
 use Rattle.farm_journal.specs.declared.fault.OpeningFault.TheVariants as opening
 use Rattle.farm_script.specs.FarmRule.{farm_rule}
 use Rattle.farm_script.specs.RunEnds.{RunEnds}
-use Rattle.farm_script.specs.Shown.{shown_text}
 use Rattle.farm_script.specs.declared.run_end.RunEnd.{RunEnd}
 use Rattle.farm_script.specs.declared.run_end.RunEnd.TheVariants as script
 use Rattle.farm_store.proofs.Excluded.{stands-born, stands-not_damaged}
@@ -21,12 +20,13 @@ use Rattle.farm_types.specs.declared.moment.Moment.{Moment}
 use Rattle.fault_types.specs.Counts.{Rose}
 use Rattle.link_io.specs.Streams.{Streams}
 use Rattle.link_io.specs.declared.source.TheConstants.{INPUT_LIMIT}
-use Rattle.finder_program.specs.Disks.{DiskSeen, HasStoreCause}
+use Rattle.farm_serve.specs.Outside.{DiskSeen, OutputSeen}
+use Rattle.finder_program.specs.Disks.{HasStoreCause}
 use Rattle.finder_program.specs.Found.{FoundCompletes, FoundEnds, JournalFounded, NotFounded, founded_text, status_of_creating}
 use Rattle.finder_program.specs.Opening.{IsNotOpened, status_of_opening}
 use Rattle.finder_program.specs.RunJournal.{JournalRan, JournalRunCompletes, JournalRunEnds, journal_end, over_journal}
-use Rattle.finder_program.specs.Show.{JournalShown, ShowCompletes, ShowEnds}
-use Rattle.finder_program.specs.TextPut.{OutputSeen, TextPut}
+use Rattle.finder_program.specs.Show.{JournalShown, ShowCompletes}
+use Rattle.finder_program.specs.TextPut.{TextPut}
 use Rattle.finder_program.specs.declared.status.Status.{Status}
 use Rattle.finder_program.specs.declared.status.Status.TheVariants.{Done, ReadFault, WriteFault, StoreFault, AlreadyBorn, Memory, InputLimit}
 use Rattle.finder_program.proofs.Taken.{read_front, read_whole}
@@ -80,13 +80,13 @@ not_opened-completes (opening.StoreFault b a) status old new history is missed c
     absurd (no-store_fault status b a old new is cause steady)
 not_opened-completes opening.Memory status old new history is missed cause steady stands = is
 
-pub show-completes : (status : Status) (before after : OutputSeen) (old new : DiskSeen)
-    → ShowEnds status before after old new → HasStoreCause status old new → ShowCompletes status before after old new
-show-completes status before after old new ends cause calm steady tell history stands = ⊎_elim
+pub shown-completes : (text_of : List Entry → List ℕ) (status : Status) (before after : OutputSeen) (old new : DiskSeen)
+    → IsNotOpened status before after old new ⊎ JournalShown text_of status before after old new → HasStoreCause status old new → ShowCompletes status before after old new
+shown-completes text_of status before after old new ends cause calm steady tell history stands = ⊎_elim
     (λ (missed : IsNotOpened status before after old new). inl
     (not_opened-completes missed.0 status old new history missed.1 (missed.2.cause tell) cause steady stands))
-    (λ (shown : JournalShown status before after old new).
-    text-completes (shown_text shown.history) status before after shown.text calm)
+    (λ (shown : JournalShown text_of status before after old new).
+    text-completes (text_of shown.history) status before after shown.text calm)
     ends
 
 -- what the end of a script's run says, in a status that stands for it

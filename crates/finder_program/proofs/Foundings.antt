@@ -5,8 +5,8 @@ use Rattle.farm_journal.specs.Layout.{is_unborn}
 use Rattle.farm_store.specs.Founded.{founding}
 use Rattle.farm_store.specs.State.{IsStored, StoreState}
 use Rattle.farm_types.specs.declared.moment.Moment.{Moment}
-use Rattle.finder_program.specs.Disks.{disk_seen}
-use Rattle.finder_program.specs.TextPut.{OutputSeen, TextPut}
+use Rattle.farm_serve.specs.Outside.{OutputSeen, disk_seen}
+use Rattle.finder_program.specs.TextPut.{TextPut}
 use Rattle.finder_program.specs.declared.status.Status.{Status}
 use Rattle.std.proofs.lemmas.Option.{same_Some}
 use Rattle.std.specs.Option.{option_map}

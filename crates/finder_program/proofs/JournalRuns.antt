@@ -18,11 +18,10 @@ use Rattle.farm_script.specs.declared.run_end.RunEnd.TheVariants as script
 use Rattle.farm_store.specs.Bytes.{StandsFor}
 use Rattle.farm_store.specs.State.{IsStored, StoreState}
 use Rattle.link_io.specs.Streams.{Streams}
-use Rattle.finder_program.specs.Disks.{disk_seen}
-use Rattle.farm_script.specs.Shown.{shown_text}
+use Rattle.farm_serve.specs.Outside.{OutputSeen, disk_seen}
 use Rattle.finder_program.specs.RunJournal.{JournalRan, StoreRan, over_journal}
 use Rattle.finder_program.specs.Show.{JournalShown}
-use Rattle.finder_program.specs.TextPut.{OutputSeen, TextPut}
+use Rattle.finder_program.specs.TextPut.{TextPut}
 use Rattle.finder_program.specs.declared.status.Status.{Status}
 
 -- a sync at a moment that has passed is among the steps up to then
@@ -121,15 +120,15 @@ ran-from_grows {D} meant end before after old new left is grows ends decided =
       each = grows.each;
     })
 
--- what was shown of a store that was opened is the text of its journal's history
-pub shown-opened : {D : Type 0} (meant : disk.Ghosts D) (status : Status) (before after : OutputSeen)
-    (store : StoreState D) (old left : D) → left ≡ store.disk
+-- what was put of a store that was opened is the text of its journal's history
+pub shown-opened : {D : Type 0} (meant : disk.Ghosts D) (text_of : List Entry → List ℕ) (status : Status)
+    (before after : OutputSeen) (store : StoreState D) (old left : D) → left ≡ store.disk
     → (meant.tells old ≡ true → StandsFor store.history (meant.told old).bytes) → IsLegal store.history
     → (meant.tells old ≡ true → ReadsOnly (meant.told old) (meant.told store.disk))
-    → TextPut (shown_text store.history) status before after
-    → JournalShown status before after (disk_seen meant old) (disk_seen meant left)
-shown-opened {D} meant status before after store old left is held legal only put =
-    subst (λ (d : D). JournalShown status before after (disk_seen meant old) (disk_seen meant d)) (sym is) (record {
+    → TextPut (text_of store.history) status before after
+    → JournalShown text_of status before after (disk_seen meant old) (disk_seen meant left)
+shown-opened {D} meant text_of status before after store old left is held legal only put =
+    subst (λ (d : D). JournalShown text_of status before after (disk_seen meant old) (disk_seen meant d)) (sym is) (record {
       history = store.history;
       held = held;
       legal = legal;

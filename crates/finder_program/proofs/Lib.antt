@@ -1,8 +1,11 @@
+pub mod Auditing
 pub mod Causes
 pub mod Completing
 pub mod Foundings
 pub mod JournalRuns
 pub mod Judging
 pub mod Putting
+pub mod Serving
 pub mod Taken
 pub mod Unread
+pub mod Working

@@ -4,8 +4,9 @@ use Rattle.std.specs.Io.KnownBytes.{append_known}
 use Rattle.fault_types.specs.Counts.{Rose}
 use Rattle.link_io.specs.declared.sink.PutFault.{PutFault}
 use Rattle.link_io.specs.declared.sink.PutFault.TheVariants as put
+use Rattle.farm_serve.specs.Outside.{OutputSeen}
 use Rattle.finder_program.specs.Statuses.{status_of_put}
-use Rattle.finder_program.specs.TextPut.{OutputSeen, TextPut}
+use Rattle.finder_program.specs.TextPut.{TextPut}
 
 -- a part of it was put, and the status says why not all
 pub text-part : (text : List ℕ) (before after : OutputSeen) (fault : PutFault)

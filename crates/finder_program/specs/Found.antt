@@ -13,8 +13,8 @@ use Rattle.farm_store.specs.State.{IsStored}
 use Rattle.farm_types.specs.declared.moment.Moment.{Moment}
 use Rattle.fault_types.specs.Counts.{Rose}
 use Rattle.link_io.specs.declared.clock.Clock as clock
-use Rattle.finder_program.specs.Disks.{DiskSeen}
-use Rattle.finder_program.specs.TextPut.{OutputSeen, TextPut}
+use Rattle.farm_serve.specs.Outside.{DiskSeen, OutputSeen}
+use Rattle.finder_program.specs.TextPut.{TextPut}
 use Rattle.finder_program.specs.declared.status.Status.{Status}
 use Rattle.finder_program.specs.declared.status.Status.TheVariants.{Done, StoreFault, AlreadyBorn, Memory}
 

@@ -1,11 +1,15 @@
 pub mod Statuses
 pub mod ReadInput
+pub mod AuditCommand
 pub mod JudgeCommand
 pub mod RunCommand
 pub mod Disks
 pub mod TextPut
 pub mod Opening
 pub mod RunJournal
+pub mod ServeCommand
 pub mod Show
+pub mod RatesCommand
 pub mod Found
 pub mod Unread
+pub mod WorkCommand

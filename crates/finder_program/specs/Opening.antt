@@ -4,7 +4,7 @@ use Rattle.farm_journal.specs.ReadsOnly.{ReadsOnly}
 use Rattle.farm_journal.specs.declared.fault.OpeningFault.{OpeningFault}
 use Rattle.farm_journal.specs.declared.fault.OpeningFault.TheVariants as fault
 use Rattle.farm_store.specs.Opened.{IsMissedBy}
-use Rattle.finder_program.specs.Disks.{DiskSeen}
+use Rattle.farm_serve.specs.Outside.{DiskSeen}
 use Rattle.finder_program.specs.declared.status.Status.{Status}
 use Rattle.finder_program.specs.declared.status.Status.TheVariants as status
 

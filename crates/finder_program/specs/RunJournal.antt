@@ -14,7 +14,7 @@ use Rattle.farm_store.specs.State.{StoreState}
 use Rattle.fault_types.specs.Counts.{Rose}
 use Rattle.link_io.specs.Streams.{Streams}
 use Rattle.link_io.specs.declared.source.TheConstants.{INPUT_LIMIT}
-use Rattle.finder_program.specs.Disks.{DiskSeen}
+use Rattle.farm_serve.specs.Outside.{DiskSeen}
 use Rattle.finder_program.specs.Opening.{IsNotOpened}
 use Rattle.finder_program.specs.RunCommand.{script_end}
 use Rattle.finder_program.specs.declared.status.Status.{Status}

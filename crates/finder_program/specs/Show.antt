@@ -1,30 +1,30 @@
 -- What the subcommand `show JOURNAL` does.
-use Rattle.std.specs.Prelude.{◌≡◌, ◌⊎◌, true, List}
+use Rattle.std.specs.Prelude.{◌≡◌, ◌⊎◌, true, ℕ, List}
 use Rattle.farm_entry.specs.Legal.{IsLegal}
 use Rattle.farm_entry.specs.declared.entry.Entry.{Entry}
 use Rattle.farm_journal.specs.ReadsOnly.{ReadsOnly}
 use Rattle.farm_script.specs.Shown.{shown_text}
 use Rattle.farm_store.specs.Bytes.{StandsFor}
 use Rattle.fault_types.specs.Counts.{Rose}
-use Rattle.finder_program.specs.Disks.{DiskSeen}
+use Rattle.farm_serve.specs.Outside.{DiskSeen, OutputSeen}
 use Rattle.finder_program.specs.Opening.{IsNotOpened}
-use Rattle.finder_program.specs.TextPut.{OutputSeen, TextPut}
+use Rattle.finder_program.specs.TextPut.{TextPut}
 use Rattle.finder_program.specs.declared.status.Status.{Status}
 use Rattle.finder_program.specs.declared.status.Status.TheVariants.{Done, Memory}
 
--- The journal held a history, whose text was put, and its disk was only read. The history is legal, whether the disk
+-- The journal held a history, of which a text was put, and its disk was only read. The history is legal, whether the disk
 -- tells what it holds or not
-pub record JournalShown (status : Status) (before after : OutputSeen) (old new : DiskSeen) : Type 0 where
+pub record JournalShown (text_of : List Entry → List ℕ) (status : Status) (before after : OutputSeen) (old new : DiskSeen) : Type 0 where
   pub history : List Entry
   pub held : old.tells ≡ true → StandsFor history old.told.bytes
   pub legal : IsLegal history
   pub only : old.tells ≡ true → ReadsOnly old.told new.told
-  pub text : TextPut (shown_text history) status before after
+  pub text : TextPut (text_of history) status before after
 
 -- what a status says: the journal was not opened, or it was shown
 abbrev pub ShowEnds : Status → OutputSeen → OutputSeen → DiskSeen → DiskSeen → Type 0
 ShowEnds status before after old new =
-    IsNotOpened status before after old new ⊎ JournalShown status before after old new
+    IsNotOpened status before after old new ⊎ JournalShown shown_text status before after old new
 
 -- where neither the disk nor the output fails and memory is there, a journal that holds a history is shown
 abbrev pub ShowCompletes : Status → OutputSeen → OutputSeen → DiskSeen → DiskSeen → Type 0

@@ -4,6 +4,8 @@ use Rattle.judge.specs.declared.fault.JudgeFault.{JudgeFault}
 use Rattle.judge.specs.declared.fault.JudgeFault.TheVariants as judge
 use Rattle.link_io.specs.declared.sink.PutFault.{PutFault}
 use Rattle.link_io.specs.declared.sink.PutFault.TheVariants as put
+use Rattle.worker_agent.specs.declared.worked.WorkFault.{WorkFault}
+use Rattle.worker_agent.specs.declared.worked.WorkFault.TheVariants as work
 use Rattle.finder_program.specs.declared.read_input.InputFault.{InputFault}
 use Rattle.finder_program.specs.declared.read_input.InputFault.TheVariants as input
 use Rattle.finder_program.specs.declared.status.Status.{Status}
@@ -61,6 +63,13 @@ status_of_judge judge.Memory = Memory
 abbrev pub status_of_put : PutFault → Status
 status_of_put put.Failed = WriteFault
 status_of_put put.Memory = Memory
+
+-- where the work of a worker ended before its end
+abbrev pub status_of_work : WorkFault → Status
+status_of_work work.NetFault = NetFault
+status_of_work work.RunnerFault = RunnerFault
+status_of_work (work.Peer answer) = Peer answer
+status_of_work work.Memory = Memory
 
 -- Done after a call that did its work, and else what it ended with
 abbrev pub status_of : Result (Unit {0}) Status → Status

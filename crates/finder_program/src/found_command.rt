@@ -1,9 +1,9 @@
 //! The subcommand `found JOURNAL LEASE_MS DAILY ZONE`.
 
 ghost use Rattle.std.specs.Prelude.{◌≡◌, ◌≤◌};
-ghost use Rattle.finder_program.specs.Disks.{HasStoreCause, disk_seen};
+ghost use Rattle.farm_serve.specs.Outside.{disk_seen, output_seen};
+ghost use Rattle.finder_program.specs.Disks.{HasStoreCause};
 ghost use Rattle.finder_program.specs.Found.{JournalFoundEnds, status_of_creating};
-ghost use Rattle.finder_program.specs.TextPut.{output_seen};
 
 use crate::put_text::put_text;
 use crate::status::Status;

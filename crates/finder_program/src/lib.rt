@@ -1,12 +1,14 @@
 //! The whole program as one library call. `finder` runs the subcommand that the words name over the objects that it is
 //! handed: its contract is the program's promise, whatever stands behind the objects.
 //!
-//! It stands on `finder_words` for the words, on `judge` and `farm_script` for the answers, on `farm_store` for a farm
-//! whose history stands on a disk, and on `link_io` and `farm_disk` for the traits of the outside and for the adapters over
-//! the system. `run_process` makes the real objects, calls `finder`, writes the status's line to standard error, and ends
+//! It stands on `finder_words` for the words, on `judge`, `audit_check` and `farm_script` for the answers, on
+//! `farm_store` for a farm whose history stands on a disk, on `farm_serve` for the service of one over a network, and
+//! on `link_io`, `net_io`, `farm_disk` and `tcp_net` for the traits of the outside and for the adapters over the
+//! system. `run_process` makes the real objects, calls `finder`, writes the status's line to standard error, and ends
 //! with the status's number: `main` of the program is that call alone.
 #![tactic(auto)]
 
+mod audit_command;
 mod found_command;
 mod judge_command;
 mod memory_farm;
@@ -14,11 +16,15 @@ mod opening;
 mod process;
 mod program;
 mod put_text;
+mod rates_command;
 mod read_input;
+mod real_runner;
 mod run_command;
 mod run_journal;
+mod serve_command;
 mod show_command;
 mod status;
+mod work_command;
 
 pub use memory_farm::{MEMORY_DAILY, MEMORY_LEASE_MS, MEMORY_ZONE_MINUTES};
 pub use process::run_process;

@@ -1,25 +1,31 @@
 //! The process: the subcommand over the real objects outside, and what the process ends with.
 
 use crate::program::finder;
+use crate::real_runner::make_runner;
 use crate::status::Status;
 use farm_disk::FileDisk;
 use finder_words::read_places;
 use link_io::{InputSource, OutputSink, SystemClock};
-use net_io::MemNetwork;
-use std::alloc::Global;
 use std::process::ExitCode;
 use std::sync::Wait;
 use std::thread::Threads;
+use std::time::Duration;
 use std::{env, io};
-use worker_io::{ListKeys, ListRunner};
+use tcp_net::TcpNetwork;
+use worker_io::RandomKeys;
 
-/// Runs the subcommand that the process's words name over the real input, output, disk and clock, and ends with the
-/// status of that. `threads` is the same runtime, as `main` has it: the threads of the process. Where the subcommand did not do its work, the status's text is the one line on standard error; what
-/// can't be written there is lost.
+/// How long a read or a write of a connection may take, in milliseconds, before it fails.
+const CONNECTION_TIMEOUT_MS: u64 = 30_000;
+
+/// Runs the subcommand that the process's words name over the real input, output, disk, clock, network, runner and keys,
+/// and ends with the status of that. `threads` is the same runtime, as `main` has it: the threads of the process. Where the
+/// subcommand did not do its work, the status's text is the one line on standard error; what can't be written there is
+/// lost.
 ///
-/// The adapters over standard input and output, over the journal's file and over the machine's clock are the trusted edge:
-/// no contract says which bytes the system gives, takes or keeps, or what its clock shows. What the program does with them
-/// is the contract of [`finder`], and what it writes to standard error is that of [`Status::write_line`].
+/// The adapters over standard input and output, over the journal's file, over TCP, over the machine's clock and over its
+/// random bytes are the trusted edge: no contract says which bytes the system or a peer gives, takes or keeps, what its clock
+/// shows, or that a key was never drawn before. What the program does with them is the contract of [`finder`], and what it
+/// writes to standard error is that of [`Status::write_line`].
 pub fn run_process<H: Threads + Wait + Sync>(rt: HostRuntime, threads: &H) -> ExitCode {
     let status = run_words(rt, threads);
     let _ = status.write_line(&mut rt.stderr());
@@ -27,7 +33,9 @@ pub fn run_process<H: Threads + Wait + Sync>(rt: HostRuntime, threads: &H) -> Ex
 }
 
 /// Runs the subcommand that the process's words name. Words that aren't text name none. The journal's file is opened at
-/// its first use, so none is touched where the words name no journal.
+/// its first use, so none is touched where the words name no journal; and the address is listened at from the first
+/// accept on and nobody is called before a worker's first request, so that no port is taken where they name no address.
+/// The table of a worker's verdicts is read at once.
 fn run_words<H: Threads + Wait + Sync>(rt: HostRuntime, threads: &H) -> Status {
     let words = match env::args(&rt) {
         Ok(words) => words,
@@ -47,6 +55,17 @@ fn run_words<H: Threads + Wait + Sync>(rt: HostRuntime, threads: &H) -> Status {
     let Ok(disk) = FileDisk::at(rt.alloc(), rt, places.journal.as_str()) else {
         return Status::Memory;
     };
+    let timeout = Duration::from_millis(CONNECTION_TIMEOUT_MS);
+    let Ok(network) = TcpNetwork::at(rt.alloc(), rt, places.address.as_str(), timeout) else {
+        return Status::Memory;
+    };
+    let Ok(mut runner) = make_runner(rt, places.runner.as_str()) else {
+        return Status::Memory;
+    };
+    // A system without random bytes is told as one without memory: nothing was done.
+    let Ok(mut keys) = RandomKeys::new(&rt) else {
+        return Status::Memory;
+    };
     let mut input = InputSource::new(rt.reader());
     let mut output = OutputSink::new(io::writer(&rt));
     let clock = SystemClock::new(rt);
@@ -58,19 +77,9 @@ fn run_words<H: Threads + Wait + Sync>(rt: HostRuntime, threads: &H) -> Status {
         &mut output,
         disk,
         &clock,
-        no_network(rt.alloc()),
-        &mut no_runner(rt.alloc()),
-        &mut ListKeys::of(Vec::new(rt.alloc())),
+        network,
+        &mut runner,
+        &mut keys,
     );
     status
-}
-
-/// A network without links: no subcommand makes one or accepts one.
-fn no_network(alloc: Global) -> MemNetwork {
-    MemNetwork::of(Vec::new(alloc), Vec::new(alloc), Vec::new(alloc))
-}
-
-/// A runner without answers: no subcommand asks it.
-fn no_runner(alloc: Global) -> ListRunner {
-    ListRunner::of(Vec::new(alloc), Vec::new(alloc))
 }

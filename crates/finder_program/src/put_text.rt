@@ -1,6 +1,7 @@
 //! Putting a text to the output.
 
-ghost use Rattle.finder_program.specs.TextPut.{TextPut, output_seen};
+ghost use Rattle.farm_serve.specs.Outside.{output_seen};
+ghost use Rattle.finder_program.specs.TextPut.{TextPut};
 
 use crate::status::Status;
 use link_io::{Sink, put_all};

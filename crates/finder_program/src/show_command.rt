@@ -2,9 +2,10 @@
 
 ghost use Rattle.std.specs.Prelude.{◌≡◌, ◌≤◌, []};
 ghost use Rattle.farm_script.specs.Shown.{shown_text};
-ghost use Rattle.finder_program.specs.Disks.{HasStoreCause, disk_seen};
+ghost use Rattle.farm_serve.specs.Outside.{disk_seen, output_seen};
+ghost use Rattle.finder_program.specs.Disks.{HasStoreCause};
 ghost use Rattle.finder_program.specs.Show.{ShowEnds};
-ghost use Rattle.finder_program.specs.TextPut.{TextPut, output_seen};
+ghost use Rattle.finder_program.specs.TextPut.{TextPut};
 
 use crate::opening::status_of_opening;
 use crate::put_text::put_text;

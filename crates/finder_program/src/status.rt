@@ -5,10 +5,12 @@ ghost use Rattle.std.specs.Io.KnownBytes.{Appends};
 ghost use Rattle.finder_program.specs.Statuses.{error_line};
 
 use crate::read_input::InputFault;
+use fault_types::Memory;
 use judge::JudgeFault;
 use link_io::PutFault;
 use std::io::Write;
 use std::{fmt, io};
+use worker_agent::WorkFault;
 
 /// How a call of the program ended. Its text is the line for standard error, without its line feed.
 #[derive(Clone, Copy, Debug, PartialEq, Eq)]
@@ -146,6 +148,17 @@ impl From<JudgeFault> for Status {
     }
 }
 
+impl From<Memory> for Status {
+    ghost use Rattle.std.specs.Prelude.{◌≡◌};
+    ghost use Rattle.finder_program.specs.declared.status.Status.TheVariants as status;
+
+    ghost from_gives = { λ _ answer. answer ≡ status.Memory };
+
+    fn from(_memory: Memory) -> Status {
+        Status::Memory
+    }
+}
+
 impl From<PutFault> for Status {
     ghost use Rattle.std.specs.Prelude.{◌≡◌};
     ghost use Rattle.finder_program.specs.Statuses.{status_of_put};
@@ -156,6 +169,22 @@ impl From<PutFault> for Status {
         match fault {
             PutFault::Failed => Status::WriteFault,
             PutFault::Memory => Status::Memory,
+        }
+    }
+}
+
+impl From<WorkFault> for Status {
+    ghost use Rattle.std.specs.Prelude.{◌≡◌};
+    ghost use Rattle.finder_program.specs.Statuses.{status_of_work};
+
+    ghost from_gives = { λ fault status. status ≡ status_of_work fault };
+
+    fn from(fault: WorkFault) -> Status {
+        match fault {
+            WorkFault::NetFault => Status::NetFault,
+            WorkFault::RunnerFault => Status::RunnerFault,
+            WorkFault::Peer(answer) => Status::Peer(answer),
+            WorkFault::Memory => Status::Memory,
         }
     }
 }

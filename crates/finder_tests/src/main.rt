@@ -1,7 +1,7 @@
 //! Plays the cases of standard input through `finder`, and prints what each was answered. A case is a line
 //! `# SETTING: NAME`, its text, and a line feed. The settings are
 //!
-//! - `judge` or `run`: the text is the input; it is given whole, and again in pieces of each of a few sizes;
+//! - `judge`, `run` or `audit`: the text is the input; it is given whole, and again in pieces of each of a few sizes;
 //! - behind one of them `hex`, where the text has the input's hexadecimal digits; `letters N` or `suspects N WEIGHT`,
 //!   where a `%` of the text stands for so many of them; `fails SIZE K`, where the input comes in pieces of this size and
 //!   the Kth take fails; `stops K failed` or `stops K memory`, where the output takes a byte at a time and stops at the
@@ -100,7 +100,7 @@ fn play_to_stop<H: Print + Threads + Wait + Sync>(
     println!(rt; "{}[{}]", ended.text(), ended.status)
 }
 
-// A case of `judge` or `run`.
+// A case of `judge`, `run` or `audit`.
 fn play_command<H: Print + Threads + Wait + Sync>(
     rt: &H,
     alloc: Global,

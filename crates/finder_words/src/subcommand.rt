@@ -4,17 +4,29 @@ ghost use Rattle.std.specs.Prelude.{◌≡◌, ◌≤◌, ◌^◌, ℕ, ℤ, pos
 ghost use Rattle.std.specs.Option.{option_map};
 ghost use Rattle.farm_entry.specs.Limits.{IsZone};
 ghost use Rattle.decimal_text.specs.Decimals.{number};
-ghost use Rattle.finder_words.specs.Words.{asked, asked_by, asked_of, founding_asked, zone_named};
+ghost use Rattle.finder_words.specs.Words.{
+  HasRanges,
+  asked,
+  asked_by,
+  asked_of,
+  count_named,
+  founding_asked,
+  names_runner,
+  serve_asked,
+  work_asked,
+  zone_named,
+};
 ghost use Rattle.word_matches.specs.Forms.{words_of};
 
+use crate::counts::{MAX_HANDLERS, MAX_LINKS, MAX_RUNS, read_count};
 use decimal_text::number;
 use farm_entry::Settings;
-use farm_types::Memory;
+use farm_types::{Memory, Name, NameFault};
 use std::alloc::Global;
 use word_matches::{Matched, match_words};
 
 /// A subcommand of the program.
-#[derive(Clone, Copy, Debug, PartialEq, Eq)]
+#[derive(Debug, Drop)]
 pub enum Subcommand {
     /// `judge`: answers one search's lines.
     Judge,
@@ -26,6 +38,24 @@ pub enum Subcommand {
     Show,
     /// `run JOURNAL`: answers a script's lines from the farm of a journal.
     RunJournal,
+    /// `audit`: says what a journal's bytes hold.
+    Audit,
+    /// `serve JOURNAL ADDRESS HANDLERS LINKS`: answers the calls of a journal's farm over HTTP.
+    Serve {
+        /// How many threads serve, from 1 to [`MAX_HANDLERS`].
+        handlers: u8,
+        /// How many accepts are made at most, from 1 to [`MAX_LINKS`].
+        links: u64,
+    },
+    /// `work ADDRESS WORKER RUNS RUNNER`: leases runs, and reports what a runner says.
+    Work {
+        /// The worker's name.
+        worker: Name,
+        /// How many runs are leased at most, from 1 to [`MAX_RUNS`].
+        runs: u32,
+    },
+    /// `rates JOURNAL`: tells the flake rates that a journal's ended searches tell of.
+    Rates,
 }
 
 /// The subcommand that these words name, if they name one.
@@ -34,36 +64,98 @@ pub enum Subcommand {
 ///
 /// [`Memory`].
 pub fn read_subcommand(alloc: Global, words: &[String]) -> Result<Option<Subcommand>, Memory>
-    ensures { IfOk result (λ subcommand. option_map asked_by subcommand ≡ asked (map string_bytes words.now)) }
+    ensures asked { IfOk result (λ subcommand. option_map asked_by subcommand ≡ asked (map string_bytes words.now)) }
+    ensures ranges { IfOk result (λ subcommand. IfSome subcommand HasRanges) }
 {
     match match_words(alloc, words)? {
-        Some(matched) => Ok(read_matched(matched)),
+        Some(matched) => read_matched(alloc, matched),
         None => Ok(None),
     }
 }
 
 /// The subcommand that matched words name, where each number is in its range.
-pub(crate) fn read_matched(matched: Matched) -> Option<Subcommand>
-    ensures { option_map asked_by result ≡ asked_of (words_of matched.entry) }
+pub(crate) fn read_matched(alloc: Global, matched: Matched) -> Result<Option<Subcommand>, Memory>
+    ensures asked { IfOk result (λ subcommand. option_map asked_by subcommand ≡ asked_of (words_of matched.entry)) }
+    ensures ranges { IfOk result (λ subcommand. IfSome subcommand HasRanges) }
 {
     match matched {
-        Matched::Judge => Some(Subcommand::Judge),
-        Matched::Run => Some(Subcommand::Run),
-        Matched::RunJournal { .. } => Some(Subcommand::RunJournal),
+        Matched::Judge => Ok(Some(Subcommand::Judge)),
+        Matched::Run => Ok(Some(Subcommand::Run)),
+        Matched::RunJournal { .. } => Ok(Some(Subcommand::RunJournal)),
         Matched::Found {
             lease_ms,
             daily,
             zone,
             ..
-        } => read_founding(lease_ms, daily, zone),
-        Matched::Show { .. } => Some(Subcommand::Show),
+        } => Ok(read_founding(lease_ms, daily, zone)),
+        Matched::Show { .. } => Ok(Some(Subcommand::Show)),
+        Matched::Audit => Ok(Some(Subcommand::Audit)),
+        Matched::Serve {
+            handlers,
+            links,
+            ..
+        } => Ok(read_serve(handlers, links)),
+        Matched::Work {
+            worker,
+            runs,
+            runner,
+            ..
+        } => read_work(alloc, worker, runs, runner),
+        Matched::Rates { .. } => Ok(Some(Subcommand::Rates)),
     }
+}
+
+/// `serve` with the numbers that two words write, where they are in range.
+fn read_serve(handlers: &str, links: &str) -> Option<Subcommand>
+    ensures asked { option_map asked_by result
+        ≡ serve_asked (count_named MAX_HANDLERS handlers.now) (count_named MAX_LINKS links.now) }
+    ensures ranges { IfSome result HasRanges }
+{
+    let handlers = read_count(handlers, MAX_HANDLERS)?;
+    let links = read_count(links, MAX_LINKS)?;
+    Some(Subcommand::Serve {
+        handlers: handlers as u8,
+        links: u64::from(links),
+    })
+}
+
+/// `work` under the name that a word spells, with the number that another writes, where they are a name and in range,
+/// and a third names a runner.
+fn read_work(
+    alloc: Global,
+    worker: &str,
+    runs: &str,
+    runner: &str,
+) -> Result<Option<Subcommand>, Memory>
+    ensures asked { IfOk result (λ subcommand. option_map asked_by subcommand
+        ≡ work_asked worker.now (count_named MAX_RUNS runs.now) runner.now) }
+    ensures ranges { IfOk result (λ subcommand. IfSome subcommand HasRanges) }
+{
+    if !names_runner(runner.as_bytes()) {
+        return Ok(None);
+    }
+    let Some(runs) = read_count(runs, MAX_RUNS) else {
+        return Ok(None);
+    };
+    match Name::of(alloc, worker) {
+        Ok(worker) => Ok(Some(Subcommand::Work { worker, runs })),
+        Err(NameFault::Memory) => Err(Memory),
+        Err(_) => Ok(None),
+    }
+}
+
+/// Whether a word names a runner: `table:` or `host:`, and what follows.
+fn names_runner(word: &[u8]) -> bool
+    ensures { result ≡ names_runner word.now }
+{
+    word.starts_with(b"table:") && 6 < word.len() || word.starts_with(b"host:") && 5 < word.len()
 }
 
 /// `found` with the settings that three words write, if they write settings.
 fn read_founding(lease_ms: &str, daily: &str, zone: &str) -> Option<Subcommand>
-    ensures { option_map asked_by result
+    ensures asked { option_map asked_by result
         ≡ founding_asked (number lease_ms.now) (number daily.now) (zone_named zone.now) }
+    ensures ranges { IfSome result HasRanges }
 {
     Some(Subcommand::Found(read_settings(lease_ms, daily, zone)?))
 }

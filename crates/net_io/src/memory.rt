@@ -160,6 +160,8 @@ impl Network for MemNetwork {
         Connected::Linked(link.afresh())
     }
 
+    fn finish(_link: &mut MemLink) {}
+
     fn done(&mut self, link: MemLink)
         ensures returned { self.new ≡ record self.old {
           count = count_with self.old.count link.plan.faults;

@@ -66,6 +66,12 @@ pub trait Network {
         ensures rises { OnConnectFailed result (Rose (count self.old) (count self.new)) }
         ensures never_falls { count self.old ≤ count self.new };
 
+    /// Tells the other end of a link that nothing more will be put to it. No byte moves, and what the link has done stays
+    /// as it is. It asks for no network, so that it waits for no accept.
+    fn finish(link: &mut Self::End)
+        ensures { link_state Self.End.Source Self.End.Sink link.new
+            ≡ link_state Self.End.Source Self.End.Sink link.old };
+
     /// Takes a link back that is over, and adds the link's faults to the network's.
     fn done(&mut self, link: Self::End)
         ensures told { told self.new

@@ -5,12 +5,19 @@ ghost use Rattle.link_io.specs.Standard.{link_ended, link_faults};
 ghost use Rattle.net_io.specs.Answers.{IfAccepted, OnAcceptFailed, IfConnected, OnConnectFailed};
 ghost use Rattle.tcp_net.specs.Tcp.{network_faults};
 
-use link_io::{Source, StreamLink};
+use link_io::{PIECE, Source, StreamLink};
 use net_io::{Accepted, Connected, Network};
 use std::alloc::{AllocError, Global};
 use std::io;
+use std::io::Read;
 use std::net::{Net, OpenListener, OpenStream, Shutdown, SocketAddr, TcpListener, TcpStream};
 use std::time::Duration;
+
+/// How long a peer may pause, in milliseconds, that goes on sending to a connection which is over.
+const PAUSE_MS: u64 = 250;
+
+/// How many reads are made at most of what it sends then.
+const LAST_READS: u32 = 256;
 
 /// Whether the address is listened at.
 #[derive(Drop)]
@@ -27,7 +34,8 @@ enum Listening<L> {
 ///
 /// It listens at the address from the first accept on. Where the system refuses that, the first accept fails and each
 /// later one ends. A connection sends what is put to it without delay, and each of its reads and writes fails after the
-/// time-out. When it is taken back its writing side is shut, so that its peer finds the end of what was put.
+/// time-out. When it is over its writing side is shut, so that its peer finds the end of what was put; and what the peer goes
+/// on sending is read for a bounded while, as the system would drop what was put where bytes are left unread.
 #[derive(Drop)]
 pub struct TcpNetwork<R: Net + Drop> {
     rt: R,
@@ -152,9 +160,35 @@ impl<R: Net + Drop> Network for TcpNetwork<R> {
         }
     }
 
+    fn finish(link: &mut StreamLink<R::Stream>) {
+        // A peer that has gone away needs no word of the end.
+        let _shut = link.stream().shutdown(Shutdown::Write);
+        if let Ok(stream) = link.stream().try_clone() {
+            read_out(stream);
+        }
+    }
+
     fn done(&mut self, link: StreamLink<R::Stream>) {
         self.faults = self.faults.saturating_add(link.faults());
         // A peer that has gone away needs no word of the end.
         let _shut = link.stream().shutdown(Shutdown::Write);
+    }
+}
+
+/// Reads what a peer still sends, up to its end, to a pause, or so many pieces.
+fn read_out<S: Read + OpenStream + Drop>(stream: S) {
+    let mut stream = stream;
+    if stream
+        .set_read_timeout(Some(Duration::from_millis(PAUSE_MS)))
+        .is_err()
+    {
+        return;
+    }
+    let mut piece = [0; PIECE];
+    for _ in 0..LAST_READS {
+        match stream.read(&mut piece) {
+            Ok(0) | Err(_) => return,
+            Ok(_) => {}
+        }
     }
 }

@@ -74,6 +74,39 @@ show-at [] = refused_at refl refl
 show-at (a ∷ []) = taken_at refl refl refl
 show-at (a ∷ b ∷ ws) = refused_at refl (ap (λ (b : Bool). b || false) (many 1 1 (length (a ∷ b ∷ ws)) (omega arith)))
 
+audit-at : (ws : List Text) → DecidedAt (codes "audit") (sub 4) ws
+unfolding clap_on_literals
+audit-at [] = taken_at refl refl refl
+audit-at (a ∷ ws) =
+    refused_at refl (ap (λ (b : Bool). b || false) (many 0 0 (length (a ∷ ws)) (omega arith)))
+
+serve-at : (ws : List Text) → DecidedAt (codes "serve") (sub 5) ws
+unfolding clap_on_literals
+serve-at [] = refused_at refl refl
+serve-at (a ∷ []) = refused_at refl refl
+serve-at (a ∷ b ∷ []) = refused_at refl refl
+serve-at (a ∷ b ∷ c ∷ []) = refused_at refl refl
+serve-at (a ∷ b ∷ c ∷ d ∷ []) = taken_at refl refl refl
+serve-at (a ∷ b ∷ c ∷ d ∷ e ∷ ws) =
+    refused_at refl (ap (λ (b : Bool). b || false) (many 4 4 (length (a ∷ b ∷ c ∷ d ∷ e ∷ ws)) (omega arith)))
+
+work-at : (ws : List Text) → DecidedAt (codes "work") (sub 6) ws
+unfolding clap_on_literals
+work-at [] = refused_at refl refl
+work-at (a ∷ []) = refused_at refl refl
+work-at (a ∷ b ∷ []) = refused_at refl refl
+work-at (a ∷ b ∷ c ∷ []) = refused_at refl refl
+work-at (a ∷ b ∷ c ∷ d ∷ []) = taken_at refl refl refl
+work-at (a ∷ b ∷ c ∷ d ∷ e ∷ ws) =
+    refused_at refl (ap (λ (b : Bool). b || false) (many 4 4 (length (a ∷ b ∷ c ∷ d ∷ e ∷ ws)) (omega arith)))
+
+rates-at : (ws : List Text) → DecidedAt (codes "rates") (sub 7) ws
+unfolding clap_on_literals
+rates-at [] = refused_at refl refl
+rates-at (a ∷ []) = taken_at refl refl refl
+rates-at (a ∷ b ∷ ws) =
+    refused_at refl (ap (λ (b : Bool). b || false) (many 1 1 (length (a ∷ b ∷ ws)) (omega arith)))
+
 -- from the command's words to all
 decided-at : (name : Text) (s : Shape) (ws : List Text) → Leads name s → is_plain name ≡ true → list_all is_plain ws ≡ true
     → DecidedAt name s ws → Decided (name ∷ ws)
@@ -109,6 +142,22 @@ show-leads : Leads (codes "show") (sub 3)
 unfolding clap_on_literals
 show-leads = record { stops = refl; faultless = refl; finds = refl }
 
+audit-leads : Leads (codes "audit") (sub 4)
+unfolding clap_on_literals
+audit-leads = record { stops = refl; faultless = refl; finds = refl }
+
+serve-leads : Leads (codes "serve") (sub 5)
+unfolding clap_on_literals
+serve-leads = record { stops = refl; faultless = refl; finds = refl }
+
+work-leads : Leads (codes "work") (sub 6)
+unfolding clap_on_literals
+work-leads = record { stops = refl; faultless = refl; finds = refl }
+
+rates-leads : Leads (codes "rates") (sub 7)
+unfolding clap_on_literals
+rates-leads = record { stops = refl; faultless = refl; finds = refl }
+
 -- a fault of the first word is one of all
 first-fault : (k rest more : Kinds) → is_faultless k ≡ false → is_faultless (or_else (or_else k rest) more) ≡ false
 first-fault [] rest more fault = absurd (cc)
@@ -142,8 +191,12 @@ decided (w ∷ ws) plain =
     by_name (codes "run") w ws (sub 1) run-leads refl rest (run-at ws) (λ not_run.
     by_name (codes "found") w ws (sub 2) found-leads refl rest (found-at ws) (λ not_found.
     by_name (codes "show") w ws (sub 3) show-leads refl rest (show-at ws) (λ not_show.
-    unnamed-refused w ws plain (rw (not_judge, not_run, not_found, not_show) refl)
-    (rw (not_judge, not_run, not_found, not_show) refl)))))
+    by_name (codes "audit") w ws (sub 4) audit-leads refl rest (audit-at ws) (λ not_audit.
+    by_name (codes "serve") w ws (sub 5) serve-leads refl rest (serve-at ws) (λ not_serve.
+    by_name (codes "work") w ws (sub 6) work-leads refl rest (work-at ws) (λ not_work.
+    by_name (codes "rates") w ws (sub 7) rates-leads refl rest (rates-at ws) (λ not_rates.
+    unnamed-refused w ws plain (rw (not_judge, not_run, not_found, not_show, not_audit, not_serve, not_work, not_rates) refl)
+    (rw (not_judge, not_run, not_found, not_show, not_audit, not_serve, not_work, not_rates) refl)))))))))
 
 -- where no fault came, what was read is what fits
 pub taken-fitting : (ws : List Text) → Decided ws → fault_of command_line ws ≡ []

@@ -1,4 +1,5 @@
 pub mod Cases
 pub mod Commands
 pub mod Named
+pub mod Parsing
 pub mod Plain

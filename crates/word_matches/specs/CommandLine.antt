@@ -55,9 +55,30 @@ show_ids = codes "journal" ∷ []
 abbrev pub show_line : App
 show_line = with_subcommand found_line (leaf (codes "show") show_ids).top
 
+abbrev pub audit_line : App
+audit_line = with_subcommand show_line (leaf (codes "audit") []).top
+
+abbrev pub serve_ids : List Text
+serve_ids = codes "journal" ∷ codes "address" ∷ codes "handlers" ∷ codes "links" ∷ []
+
+abbrev pub serve_line : App
+serve_line = with_subcommand audit_line (leaf (codes "serve") serve_ids).top
+
+abbrev pub work_ids : List Text
+work_ids = codes "address" ∷ codes "worker" ∷ codes "runs" ∷ codes "runner" ∷ []
+
+abbrev pub work_line : App
+work_line = with_subcommand serve_line (leaf (codes "work") work_ids).top
+
+abbrev pub rates_ids : List Text
+rates_ids = codes "journal" ∷ []
+
+abbrev pub rates_line : App
+rates_line = with_subcommand work_line (leaf (codes "rates") rates_ids).top
+
 -- the whole command line
 abbrev pub command_line : App
-command_line = show_line
+command_line = rates_line
 
 -- the name of a command and the words found under these names, where each was
 abbrev pub read_words : List Text → List Row → Option (List Text)
@@ -80,6 +101,10 @@ read_of name found =
     else if bytes_eq name (codes "run") then Some (read_run (first_of (codes "journal") found))
     else if bytes_eq name (codes "found") then read_named (codes "found") found_ids found
     else if bytes_eq name (codes "show") then read_named (codes "show") show_ids found
+    else if bytes_eq name (codes "audit") then Some (codes "audit" ∷ [])
+    else if bytes_eq name (codes "serve") then read_named (codes "serve") serve_ids found
+    else if bytes_eq name (codes "work") then read_named (codes "work") work_ids found
+    else if bytes_eq name (codes "rates") then read_named (codes "rates") rates_ids found
     else None
 
 abbrev pub read_rows : Option (Text × List Row) → Option (List Text)

@@ -27,6 +27,10 @@ rows =
     ∷ record { name = codes "run"; least = 0; most = 1 }
     ∷ taking (codes "found") 4
     ∷ taking (codes "show") 1
+    ∷ taking (codes "audit") 0
+    ∷ taking (codes "serve") 4
+    ∷ taking (codes "work") 4
+    ∷ taking (codes "rates") 1
     ∷ []
 
 -- the name of the row, and as many words as it takes
@@ -50,3 +54,9 @@ words_of (matched.RunJournal journal) = codes "run" ∷ journal.now ∷ []
 words_of (matched.Found journal lease_ms daily zone) =
     codes "found" ∷ journal.now ∷ lease_ms.now ∷ daily.now ∷ zone.now ∷ []
 words_of (matched.Show journal) = codes "show" ∷ journal.now ∷ []
+words_of matched.Audit = codes "audit" ∷ []
+words_of (matched.Serve journal address handlers links) =
+    codes "serve" ∷ journal.now ∷ address.now ∷ handlers.now ∷ links.now ∷ []
+words_of (matched.Work address worker runs runner) =
+    codes "work" ∷ address.now ∷ worker.now ∷ runs.now ∷ runner.now ∷ []
+words_of (matched.Rates journal) = codes "rates" ∷ journal.now ∷ []

@@ -3,7 +3,7 @@
 
 ghost use Rattle.std.specs.Prelude.{◌≡◌, IfOk, false};
 ghost use Rattle.clap.specs.Words.{app_of, rule_of, with_subcommand};
-ghost use Rattle.word_matches.specs.CommandLine.{bare, command_line, leaf, needed, run_leaf, texts_of, with_words};
+ghost use Rattle.word_matches.specs.CommandLine.{bare, command_line, empty_line, leaf, needed, run_leaf, texts_of, with_words};
 
 use clap::{Arg, Command};
 use std::alloc::{AllocError, Global};
@@ -56,14 +56,21 @@ fn run_leaf<'a>(alloc: Global) -> Result<Command<'a>, AllocError>
     bare(alloc, "run").arg(Arg::new(alloc, "journal"))
 }
 
+/// The command line without commands.
+fn empty_line<'a>(alloc: Global) -> Command<'a>
+    ensures { app_of result ≡ empty_line }
+{
+    bare(alloc, "finder")
+        .no_binary_name(true)
+        .disable_help_subcommand(true)
+        .subcommand_required(true)
+}
+
 /// The command line of the program, without the program's own name.
 pub(crate) fn command_line<'a>(alloc: Global) -> Result<Command<'a>, AllocError>
     ensures { IfOk result (λ line. app_of line ≡ command_line) }
 {
-    let line = bare(alloc, "finder")
-        .no_binary_name(true)
-        .disable_help_subcommand(true)
-        .subcommand_required(true);
+    let line = empty_line(alloc);
     let line = with_leaf(alloc, line, "judge", &[])?;
     let line = line.subcommand(run_leaf(alloc)?)?;
     let line = with_leaf(
@@ -72,5 +79,19 @@ pub(crate) fn command_line<'a>(alloc: Global) -> Result<Command<'a>, AllocError>
         "found",
         &["journal", "lease_ms", "daily", "zone"],
     )?;
-    with_leaf(alloc, line, "show", &["journal"])
+    let line = with_leaf(alloc, line, "show", &["journal"])?;
+    let line = with_leaf(alloc, line, "audit", &[])?;
+    let line = with_leaf(
+        alloc,
+        line,
+        "serve",
+        &["journal", "address", "handlers", "links"],
+    )?;
+    let line = with_leaf(
+        alloc,
+        line,
+        "work",
+        &["address", "worker", "runs", "runner"],
+    )?;
+    with_leaf(alloc, line, "rates", &["journal"])
 }

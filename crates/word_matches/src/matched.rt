@@ -28,4 +28,33 @@ pub enum Matched<'a> {
         /// The journal's path.
         journal: &'a str,
     },
+    /// `audit`.
+    Audit,
+    /// `serve JOURNAL ADDRESS HANDLERS LINKS`.
+    Serve {
+        /// The journal's path.
+        journal: &'a str,
+        /// The address at which it serves.
+        address: &'a str,
+        /// How many threads serve.
+        handlers: &'a str,
+        /// How many connections are accepted.
+        links: &'a str,
+    },
+    /// `work ADDRESS WORKER RUNS RUNNER`.
+    Work {
+        /// The address of the service.
+        address: &'a str,
+        /// The worker's name.
+        worker: &'a str,
+        /// How many runs are leased at most.
+        runs: &'a str,
+        /// What runs the tests.
+        runner: &'a str,
+    },
+    /// `rates JOURNAL`.
+    Rates {
+        /// The journal's path.
+        journal: &'a str,
+    },
 }

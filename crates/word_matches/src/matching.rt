@@ -3,7 +3,7 @@
 ghost use Rattle.std.specs.Prelude.{◌≡◌, ◌≢◌, [], IfOk, MatchOption, codes, map, option_map, string_bytes, true};
 ghost use Rattle.std.specs.List.{list_all};
 ghost use Rattle.clap.specs.Words.{fault_of, first_of, found_of, rows_of, subcommand_of, subcommand_rows_of};
-ghost use Rattle.word_matches.specs.CommandLine.{command_line, found_ids, read_named, read_of, read_rows, read_run};
+ghost use Rattle.word_matches.specs.CommandLine.{command_line, found_ids, rates_ids, read_named, read_of, read_rows, read_run, serve_ids, work_ids};
 ghost use Rattle.word_matches.specs.Forms.{fitting, is_plain, words_of};
 
 use crate::command_line::command_line;
@@ -91,6 +91,10 @@ fn read_command<'a>(name: &str, words: &ArgMatches<'a>) -> Option<Matched<'a>>
         "show" => Some(Matched::Show {
             journal: word(words, "journal")?,
         }),
+        "audit" => Some(Matched::Audit),
+        "serve" => read_serve(words),
+        "work" => read_work(words),
+        "rates" => read_rates(words),
         _ => None,
     }
 }
@@ -121,5 +125,38 @@ fn read_found<'a>(words: &ArgMatches<'a>) -> Option<Matched<'a>>
         lease_ms: word(words, "lease_ms")?,
         daily: word(words, "daily")?,
         zone: word(words, "zone")?,
+    })
+}
+
+/// `serve`.
+fn read_serve<'a>(words: &ArgMatches<'a>) -> Option<Matched<'a>>
+    ensures { option_map words_of result ≡ read_named (codes "serve") serve_ids (rows_of (found_of words.now)) }
+{
+    Some(Matched::Serve {
+        journal: word(words, "journal")?,
+        address: word(words, "address")?,
+        handlers: word(words, "handlers")?,
+        links: word(words, "links")?,
+    })
+}
+
+/// `work`.
+fn read_work<'a>(words: &ArgMatches<'a>) -> Option<Matched<'a>>
+    ensures { option_map words_of result ≡ read_named (codes "work") work_ids (rows_of (found_of words.now)) }
+{
+    Some(Matched::Work {
+        address: word(words, "address")?,
+        worker: word(words, "worker")?,
+        runs: word(words, "runs")?,
+        runner: word(words, "runner")?,
+    })
+}
+
+/// `rates`.
+fn read_rates<'a>(words: &ArgMatches<'a>) -> Option<Matched<'a>>
+    ensures { option_map words_of result ≡ read_named (codes "rates") rates_ids (rows_of (found_of words.now)) }
+{
+    Some(Matched::Rates {
+        journal: word(words, "journal")?,
     })
 }

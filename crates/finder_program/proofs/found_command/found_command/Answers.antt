@@ -1,7 +1,6 @@
 use Rattle.std.proofs.Common.{inl, refl}
-use Rattle.finder_program.specs.Disks.{disk_seen}
+use Rattle.farm_serve.specs.Outside.{disk_seen, output_seen}
 use Rattle.finder_program.specs.Found.{founded_text}
-use Rattle.finder_program.specs.TextPut.{output_seen}
 use Rattle.finder_program.proofs.Causes.{text-cause}
 use Rattle.finder_program.proofs.Foundings.{founded-ends}
 use Rattle.finder_program.proofs.found_command.found_command.Goals as goal

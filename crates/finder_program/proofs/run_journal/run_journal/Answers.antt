@@ -1,5 +1,5 @@
 use Rattle.std.proofs.Common.{inr}
-use Rattle.finder_program.specs.Disks.{disk_seen}
+use Rattle.farm_serve.specs.Outside.{disk_seen}
 use Rattle.finder_program.proofs.Causes.{cause-same}
 use Rattle.finder_program.proofs.JournalRuns.{ran-opened}
 use Rattle.finder_program.proofs.run_journal.run_journal.Goals as goal

@@ -1,8 +1,7 @@
 use Rattle.std.proofs.Common.{◌∙◌, ap, inr}
 use Rattle.farm_script.specs.Shown.{shown_text}
 use Rattle.farm_store.specs.State.{StoreState}
-use Rattle.finder_program.specs.Disks.{disk_seen}
-use Rattle.finder_program.specs.TextPut.{output_seen}
+use Rattle.farm_serve.specs.Outside.{disk_seen, output_seen}
 use Rattle.finder_program.proofs.Causes.{text-cause}
 use Rattle.finder_program.proofs.JournalRuns.{shown-opened}
 use Rattle.finder_program.proofs.show_command.show_command.Goals as goal
@@ -12,7 +11,7 @@ returns-in-Ok-clause-ends g c =
     let opened = c.in-Ok.ensures in
     let shown = c.show_store-status in
     let left = c.into_disk.ensures.disk ∙ ap (λ (s : StoreState g.row.D.Denot). s.disk) shown.ensures.kept in
-    inr (shown-opened g.D.Disk shown.result (output_seen g.K.Sink c.args.output.now)
+    inr (shown-opened g.D.Disk shown_text shown.result (output_seen g.K.Sink c.args.output.now)
     (output_seen g.K.Sink shown.new.output) c.in-Ok.store c.args.disk c.into_disk.result left opened.answers
     opened.legal opened.only shown.ensures.text)
 

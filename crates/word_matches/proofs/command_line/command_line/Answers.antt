@@ -1,13 +1,13 @@
-use Rattle.std.proofs.Common.{◌≡◌, ◌∙◌, ap, ap₂, rules, codes, []}
+use Rattle.std.proofs.Common.{◌≡◌, ◌∙◌, ap, ap₂, codes, []}
 use Rattle.std.proofs.lemmas.Result.{IfOk-weaker}
 use Rattle.clap.specs.Words.{App, app_of, with_subcommand}
-use Rattle.word_matches.specs.CommandLine.{empty_line, found_ids, found_line, judge_line, leaf, run_leaf, run_line, show_ids}
+use Rattle.word_matches.specs.CommandLine.{audit_line, empty_line, found_ids, found_line, judge_line, leaf, rates_ids, run_leaf, run_line, serve_ids, serve_line, show_ids, show_line, work_ids, work_line}
 use Rattle.word_matches.proofs.Commands.{third-denied}
 use Rattle.word_matches.proofs.command_line.command_line.Goals as goal
 
 pub returns : goal.returns
 returns c =
-    let empty : app_of c.subcommand_required-line.result ≡ empty_line = search rules in
+    let empty : app_of c.empty_line-line.result ≡ empty_line = c.empty_line-line.ensures in
     let judge : app_of c.in_ok-line.line ≡ judge_line =
     c.in_ok-line.ensures ∙ ap (λ (a : App). with_subcommand a (leaf (codes "judge") []).top) empty in
     let run_is : app_of c.in_ok-run_leaf.field-0 ≡ run_leaf = c.in_ok-run_leaf.ensures in
@@ -16,6 +16,14 @@ returns c =
     ∙ ap₂ (λ (a b : App). with_subcommand a b.top) judge run_is in
     let found : app_of c.in_ok-line-3.line ≡ found_line =
     c.in_ok-line-3.ensures ∙ ap (λ (a : App). with_subcommand a (leaf (codes "found") found_ids).top) run in
-    IfOk-weaker c.with_leaf-3.result _ _
-    (λ line is. is ∙ ap (λ (a : App). with_subcommand a (leaf (codes "show") show_ids).top) found)
-    c.with_leaf-3.ensures
+    let show : app_of c.in_ok-line-4.line ≡ show_line =
+    c.in_ok-line-4.ensures ∙ ap (λ (a : App). with_subcommand a (leaf (codes "show") show_ids).top) found in
+    let audit : app_of c.in_ok-line-5.line ≡ audit_line =
+    c.in_ok-line-5.ensures ∙ ap (λ (a : App). with_subcommand a (leaf (codes "audit") []).top) show in
+    let serve : app_of c.in_ok-line-6.line ≡ serve_line =
+    c.in_ok-line-6.ensures ∙ ap (λ (a : App). with_subcommand a (leaf (codes "serve") serve_ids).top) audit in
+    let work : app_of c.in_ok-line-7.line ≡ work_line =
+    c.in_ok-line-7.ensures ∙ ap (λ (a : App). with_subcommand a (leaf (codes "work") work_ids).top) serve in
+    IfOk-weaker c.with_leaf-7.result _ _
+    (λ line is. is ∙ ap (λ (a : App). with_subcommand a (leaf (codes "rates") rates_ids).top) work)
+    c.with_leaf-7.ensures

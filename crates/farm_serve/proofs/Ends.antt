@@ -1,0 +1,186 @@
+-- How a service ended.
+use Rattle.std.proofs.Common.{◌≡◌, inl, inr, ℕ, List, length, Option, Result, Ok, Err, Bool, true, false, if◌then◌else◌, sym, refl, subst, ap, ◌∙◌}
+use Rattle.std.proofs.Math.Seq.{take-length}
+use Rattle.std.specs.Io.KnownBytes.{append_known}
+use Rattle.connection_laws.specs.Marks.{Mark}
+use Rattle.farm_disk.specs.declared.disk.Disk as disk
+use Rattle.farm_entry.specs.Legal.{IsLegal}
+use Rattle.farm_entry.specs.declared.entry.Entry.{Entry}
+use Rattle.farm_journal.specs.Opened.{OpeningCause}
+use Rattle.farm_journal.specs.ReadsOnly.{ReadsOnly}
+use Rattle.farm_journal.specs.declared.fault.OpeningFault.{OpeningFault}
+use Rattle.farm_journal.specs.declared.fault.OpeningFault.TheVariants as opening
+use Rattle.farm_store.proofs.Excluded.{stands-born, stands-not_damaged}
+use Rattle.farm_store.specs.Bytes.{StandsFor}
+use Rattle.farm_store.specs.Opened.{IsMissedBy}
+use Rattle.farm_store.specs.State.{IsStored, StoreState}
+use Rattle.farm_types.specs.declared.moment.Moment.{Moment}
+use Rattle.fault_types.specs.Counts.{Rose}
+use Rattle.link_io.specs.declared.sink.PutFault.{PutFault}
+use Rattle.link_io.specs.declared.sink.PutFault.TheVariants as put
+use Rattle.net_io.specs.Events.{NetworkEvent}
+use Rattle.farm_serve.proofs.Counts.{IfSome-map}
+use Rattle.farm_serve.proofs.Steps.{AreHeldBack-longer}
+use Rattle.farm_serve.proofs.Marks.{Follows-refl}
+use Rattle.farm_serve.specs.Ending.{is_memory, ending_by_line, ending_of, TellsFailure, HasNetCause}
+use Rattle.farm_serve.specs.Gained.{has_failed}
+use Rattle.farm_serve.specs.LastLine.{EndSays, IsPartPut, LinePut, LineSays, farm_line}
+use Rattle.farm_serve.specs.Outside.{NetworkSeen, Outside, OutputSeen, disk_seen, outside}
+use Rattle.farm_serve.specs.ServeEnds.{FarmServed, LinksServed, ServeCompletes, ServeEnds, mark_at}
+use Rattle.farm_serve.specs.Serving.{AreServed, ComesTo, store_mark}
+use Rattle.farm_serve.specs.declared.ending.Ending.{Ending}
+use Rattle.farm_serve.specs.declared.ending.Ending.TheVariants.{Done, NetFault, WriteFault, Memory, NotOpened}
+use Rattle.farm_serve.specs.declared.standing.Standing.{Standing}
+
+abbrev Line : Type 0
+Line = Result (Unit {0}) PutFault
+
+-- how it ends, by want of memory, an accept that failed, and what became of the line
+abbrev by : Bool → Bool → Line → Ending
+by short failed line = if short then Memory else ending_by_line failed line
+
+short_of : (short failed : Bool) (line : Line) → is_memory (by short failed line) ≡ false → short ≡ false
+short_of true failed line fine = absurd cc
+short_of false failed line fine = refl
+
+memory_of : (short failed : Bool) (line : Line) → short ≡ true → is_memory (by short failed line) ≡ true
+memory_of true failed line is = refl
+memory_of false failed line is = absurd cc
+
+tells_failure : (short failed known : Bool) (line : Line) → known ≡ failed → TellsFailure (by short failed line) known
+tells_failure true failed known line is = tt
+tells_failure false true known (Ok done) is = is
+tells_failure false false known (Ok done) is = is
+tells_failure false failed known (Err put.Failed) is = tt
+tells_failure false failed known (Err put.Memory) is = tt
+
+part_put : (line : Line) (text : List ℕ) (before after : OutputSeen) → LineSays text line before after
+    → IsPartPut text before after
+part_put (Ok done) text before after says =
+    (length text, says ∙ ap (λ (t : List ℕ). append_known before.written t) (sym (take-length text)))
+part_put (Err put.Failed) text before after says = (says.1.0, says.1.2)
+part_put (Err put.Memory) text before after says = says
+
+line_put : (short failed : Bool) (line : Line) (text : List ℕ) (before after : OutputSeen)
+    → LineSays text line before after → LinePut text (by short failed line) before after
+line_put true failed line text before after says = part_put line text before after says
+line_put false true (Ok done) text before after says = says
+line_put false false (Ok done) text before after says = says
+line_put false failed (Err put.Failed) text before after says = says
+line_put false failed (Err put.Memory) text before after says = says
+
+net_cause : (short failed : Bool) (line : Line) (before after : ℕ) → (failed ≡ true → Rose before after)
+    → HasNetCause (by short failed line) before after
+net_cause true failed line before after rose = tt
+net_cause false true (Ok done) before after rose = rose refl
+net_cause false false (Ok done) before after rose = tt
+net_cause false failed (Err put.Failed) before after rose = tt
+net_cause false failed (Err put.Memory) before after rose = tt
+
+farm_ends : (short failed : Bool) (line : Line) (links : ℕ) (clock : Moment → Type 0) (old new : Outside)
+    → FarmServed links clock (by short failed line) old new → ServeEnds links clock (by short failed line) old new
+farm_ends true failed line links clock old new h = h
+farm_ends false true (Ok done) links clock old new h = h
+farm_ends false false (Ok done) links clock old new h = h
+farm_ends false failed (Err put.Failed) links clock old new h = h
+farm_ends false failed (Err put.Memory) links clock old new h = h
+
+links_served : (start final : Mark) (clock : Moment → Type 0) (links : ℕ) (s : Standing) (line : Line)
+    (before : List NetworkEvent) (now : Option (List NetworkEvent)) → AreServed start final clock links s before now
+    → LinksServed start final clock links (ending_of s line) before now
+links_served start final clock links s line before now h = record {
+  gained = h.gained;
+  is = h.is;
+  accepts = λ fine. h.accepts (short_of s.short s.failed line fine);
+  back = h.back;
+  held = AreHeldBack-longer start final final clock clock s.short (is_memory (ending_of s line)) h.gained
+      (Follows-refl final) (λ at m. m) (memory_of s.short s.failed line) h.held;
+  fault = tells_failure s.short s.failed (has_failed h.gained) line h.faults;
+}
+
+-- a farm was served from a first history to a last one
+pub ends : (first last pending : List Entry) (links : ℕ) (clock : Moment → Type 0) (s : Standing) (ending : Ending)
+    (old new : Outside) → (old.disk.tells ≡ true → StandsFor first old.disk.told.bytes) → IsLegal first → IsLegal last
+    → (old.disk.tells ≡ true → IsStored last pending new.disk.told)
+    → ComesTo (mark_at first old.disk) (mark_at last new.disk) clock links s old.network new.network
+    → EndSays s (farm_line last) ending old.output new.output → ServeEnds links clock ending old new
+ends first last pending links clock s ending old new held legal legal_after at_exit comes says =
+    subst (λ (e : Ending). ServeEnds links clock e old new) (sym says.is)
+    (farm_ends s.short s.failed says.line links clock old new record {
+      first = first;
+      last = last;
+      pending = pending;
+      held = held;
+      legal = legal;
+      follows = comes.follows;
+      legal_after = legal_after;
+      at_exit = at_exit;
+      text = line_put s.short s.failed says.line (farm_line last) old.output new.output says.says;
+      served = IfSome-map old.network.told
+          (λ before. AreServed (mark_at first old.disk) (mark_at last new.disk) clock links s before new.network.told)
+          (λ before. LinksServed (mark_at first old.disk) (mark_at last new.disk) clock links (ending_of s says.line) before new.network.told)
+          (λ before h. links_served (mark_at first old.disk) (mark_at last new.disk) clock links s says.line before new.network.told h)
+          comes.served;
+      cause = net_cause s.short s.failed says.line old.network.faults new.network.faults comes.rose;
+    })
+
+-- The same over a store that was opened on a disk and given back, by what is known of the disks that the calls took and
+-- gave: `made` was opened, `left` is that of the store given back, and `back` is what the service gives back.
+pub opened-ends : {D : Type 0} (meant : disk.Ghosts D) (clock : Moment → Type 0) (links : ℕ) (old made left back : D)
+    (before : ℕ) (tells : Bool) (store given : StoreState D) (s : Standing) (ending : Ending) (net net_after : NetworkSeen)
+    (out out_after : OutputSeen) → made ≡ old → before ≡ meant.count old → meant.tells old ≡ tells
+    → (meant.tells made ≡ true → StandsFor store.history (meant.told made).bytes) → IsLegal store.history
+    → ComesTo (record { seen = store.history; faults = before }) (store_mark meant.count given) clock links s net net_after
+    → EndSays s (farm_line given.history) ending out out_after → IsLegal given.history → left ≡ given.disk
+    → (meant.tells given.disk ≡ true → IsStored given.history given.pending (meant.told left)) → back ≡ left
+    → meant.tells back ≡ tells
+    → ServeEnds links clock ending (outside net out (disk_seen meant old)) (outside net_after out_after (disk_seen meant back))
+opened-ends {D} meant clock links old made left back before tells store given s ending net net_after out out_after is_made
+    counted told answers legal comes says legal_after is_left stored is_back told_after =
+    let same : back ≡ given.disk = is_back ∙ is_left in
+    let first : Mark = record { seen = store.history; faults = meant.count old } in
+    ends store.history given.history given.pending links clock s ending (outside net out (disk_seen meant old))
+    (outside net_after out_after (disk_seen meant back))
+    (λ tell. subst (λ (d : D). StandsFor store.history (meant.told d).bytes) is_made
+    (answers (ap (λ (d : D). meant.tells d) is_made ∙ tell)))
+    legal legal_after
+    (λ tell. subst (λ (d : D). IsStored given.history given.pending (meant.told d)) (sym is_back)
+    (stored (sym (ap (λ (d : D). meant.tells d) same) ∙ (told_after ∙ (sym told ∙ tell)))))
+    (subst (λ (d : D). ComesTo first (record { seen = given.history; faults = meant.count d }) clock links s net net_after)
+    (sym same)
+    (subst (λ (n : ℕ). ComesTo (record { seen = store.history; faults = n }) (store_mark meant.count given) clock links s net
+    net_after) counted comes))
+    says
+
+-- where the journal was not opened
+pub missed-ends : {D : Type 0} (meant : disk.Ghosts D) (clock : Moment → Type 0) (links : ℕ) (old made left back : D)
+    (fault : OpeningFault) (net : NetworkSeen) (out : OutputSeen) → made ≡ old
+    → (meant.tells made ≡ true → IsMissedBy (meant.told made).bytes fault)
+    → (meant.tells made ≡ true → ReadsOnly (meant.told made) (meant.told left))
+    → OpeningCause fault (meant.count made) (meant.count left) → back ≡ left
+    → ServeEnds links clock (NotOpened fault) (outside net out (disk_seen meant old)) (outside net out (disk_seen meant back))
+missed-ends {D} meant clock links old made left back fault net out is_made missed only cause is_back =
+    let tells_made : meant.tells made ≡ meant.tells old = ap (λ (d : D). meant.tells d) is_made in
+    record {
+      untouched = (refl, refl);
+      cause = λ tell. subst (λ (d : D). IsMissedBy (meant.told d).bytes fault) is_made (missed (tells_made ∙ tell));
+      only = λ tell. subst (λ (d : D). ReadsOnly (meant.told old) (meant.told d)) (sym is_back)
+          (subst (λ (d : D). ReadsOnly (meant.told d) (meant.told left)) is_made (only (tells_made ∙ tell)));
+      counts = subst (λ (d : D). OpeningCause fault (meant.count old) (meant.count d)) (sym is_back)
+          (subst (λ (d : D). OpeningCause fault (meant.count d) (meant.count left)) is_made cause);
+    }
+
+-- where nothing fails and the journal holds a history, only memory may have been wanting
+pub completes : (links : ℕ) (clock : Moment → Type 0) (ending : Ending) (old new : Outside) → ServeEnds links clock ending old new
+    → ServeCompletes ending old new
+completes links clock Done old new e net out disk tell history stands = inl refl
+completes links clock NetFault old new e net out disk tell history stands = absurd (net e.cause)
+completes links clock WriteFault old new e net out disk tell history stands = absurd (out e.text.0)
+completes links clock Memory old new e net out disk tell history stands = inr (inl refl)
+completes links clock (NotOpened opening.Unborn) old new e net out disk tell history stands =
+    absurd (stands-born history old.disk.told.bytes stands (e.cause tell))
+completes links clock (NotOpened (opening.Damaged o)) old new e net out disk tell history stands =
+    absurd (stands-not_damaged history old.disk.told.bytes o stands (e.cause tell))
+completes links clock (NotOpened (opening.StoreFault b a)) old new e net out disk tell history stands =
+    absurd (disk e.counts.2)
+completes links clock (NotOpened opening.Memory) old new e net out disk tell history stands = inr (inr refl)

@@ -1,0 +1,67 @@
+-- What is said of the events that a network gained, the newest first.
+use Rattle.std.specs.Prelude.{◌+◌, ℕ, List, [], ◌∷◌, Bool, true, false, ⊤}
+use Rattle.connection_laws.specs.Marks.{Mark}
+use Rattle.farm_types.specs.declared.moment.Moment.{Moment}
+use Rattle.net_io.specs.Events.{NetworkEvent, accepted, accept_ended, accept_failed, connected, connect_failed, returned}
+use Rattle.farm_serve.specs.Links.{IsHeldBack}
+
+-- how many accepts were made
+abbrev pub accepts_of : List NetworkEvent → ℕ
+accepts_of [] = 0
+accepts_of (accepted ∷ events) = accepts_of events + 1
+accepts_of (accept_ended ∷ events) = accepts_of events + 1
+accepts_of (accept_failed ∷ events) = accepts_of events + 1
+accepts_of (connected ∷ events) = accepts_of events
+accepts_of (connect_failed ∷ events) = accepts_of events
+accepts_of (returned link ∷ events) = accepts_of events
+
+-- how many links were given
+abbrev pub links_of : List NetworkEvent → ℕ
+links_of [] = 0
+links_of (accepted ∷ events) = links_of events + 1
+links_of (accept_ended ∷ events) = links_of events
+links_of (accept_failed ∷ events) = links_of events
+links_of (connected ∷ events) = links_of events + 1
+links_of (connect_failed ∷ events) = links_of events
+links_of (returned link ∷ events) = links_of events
+
+-- how many links were taken back
+abbrev pub returns_of : List NetworkEvent → ℕ
+returns_of [] = 0
+returns_of (accepted ∷ events) = returns_of events
+returns_of (accept_ended ∷ events) = returns_of events
+returns_of (accept_failed ∷ events) = returns_of events
+returns_of (connected ∷ events) = returns_of events
+returns_of (connect_failed ∷ events) = returns_of events
+returns_of (returned link ∷ events) = returns_of events + 1
+
+-- whether the last accept answered that no more will come
+abbrev pub last_ended : List NetworkEvent → Bool
+last_ended [] = false
+last_ended (accepted ∷ events) = false
+last_ended (accept_ended ∷ events) = true
+last_ended (accept_failed ∷ events) = false
+last_ended (connected ∷ events) = last_ended events
+last_ended (connect_failed ∷ events) = last_ended events
+last_ended (returned link ∷ events) = last_ended events
+
+-- whether an accept failed
+abbrev pub has_failed : List NetworkEvent → Bool
+has_failed [] = false
+has_failed (accepted ∷ events) = has_failed events
+has_failed (accept_ended ∷ events) = has_failed events
+has_failed (accept_failed ∷ events) = true
+has_failed (connected ∷ events) = has_failed events
+has_failed (connect_failed ∷ events) = has_failed events
+has_failed (returned link ∷ events) = has_failed events
+
+-- what is held of each link that was taken back
+abbrev pub AreHeldBack : Mark → Mark → (Moment → Type 0) → (short : Bool) → List NetworkEvent → Type 0
+AreHeldBack start final clock short [] = ⊤
+AreHeldBack start final clock short (accepted ∷ events) = AreHeldBack start final clock short events
+AreHeldBack start final clock short (accept_ended ∷ events) = AreHeldBack start final clock short events
+AreHeldBack start final clock short (accept_failed ∷ events) = AreHeldBack start final clock short events
+AreHeldBack start final clock short (connected ∷ events) = AreHeldBack start final clock short events
+AreHeldBack start final clock short (connect_failed ∷ events) = AreHeldBack start final clock short events
+AreHeldBack start final clock short (returned link ∷ events) =
+    IsHeldBack start final clock short link × AreHeldBack start final clock short events

@@ -1,0 +1,10 @@
+pub mod Ending
+pub mod Entries
+pub mod Gained
+pub mod LastLine
+pub mod Links
+pub mod Nexts
+pub mod Outside
+pub mod ServeEnds
+pub mod Serving
+pub mod Standings

@@ -1,0 +1,36 @@
+-- What comes next.
+use Rattle.std.specs.Prelude.{◌≡◌, ◌+◌, ℕ, List, IfSome}
+use Rattle.connection_laws.specs.Marks.{Follows}
+use Rattle.farm_entry.specs.Legal.{IsLegal}
+use Rattle.farm_entry.specs.declared.entry.Entry.{Entry}
+use Rattle.farm_http.specs.Callers.{mark_of}
+use Rattle.link_io.specs.Links.{LinkState, fresh_link}
+use Rattle.list_prefix.specs.Prefix.{IsPrefix}
+use Rattle.turn_lock.specs.Known.{Known, IsReady}
+use Rattle.farm_serve.specs.Entries.{AtEntry}
+use Rattle.farm_serve.specs.Standings.{IsClosed}
+use Rattle.farm_serve.specs.declared.standing.Next.{Next}
+use Rattle.farm_serve.specs.declared.standing.Next.TheVariants as next
+use Rattle.farm_serve.specs.declared.standing.Standing.{Standing}
+
+-- a pass is of the farm, and has seen a history that begins with the one at entry
+pub record IsPassOf (a : AtEntry) (pass : Known) : Type 0 where
+  pub ready : IsReady a.lock pass
+  pub begins : Follows a.start (mark_of pass)
+
+-- a reader has seen a legal history that begins with the one at entry
+pub record IsReaderOf (a : AtEntry) (seen : List Entry) : Type 0 where
+  pub begins : IsPrefix a.start.seen seen
+  pub legal : IsLegal seen
+
+-- a link has not failed, and where the network tells, it has done nothing yet
+pub record IsFresh (a : AtEntry) (link : LinkState) : Type 0 where
+  pub unfailed : link.count ≡ 0
+  pub idle : IfSome a.told (λ _. link ≡ fresh_link)
+
+-- an accept was made, and its link counts in the share; or it gave none; or no accept is to be made
+abbrev pub NextSays : {L : Type 0} → (L → LinkState) → AtEntry → (s s' : Standing) → (m m' : ℕ) → Next L → Type 0
+NextSays state a s s' m m' (next.Link link pass) =
+    (s'.left + 1 ≡ s.left) × (m' ≡ m + 1) × IsPassOf a pass × IsFresh a (state link)
+NextSays state a s s' m m' next.Nothing = (s'.left + 1 ≡ s.left) × (m' ≡ m)
+NextSays state a s s' m m' next.Closed = (m' ≡ m) × (s' ≡ s) × IsClosed s

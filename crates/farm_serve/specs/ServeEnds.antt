@@ -1,0 +1,81 @@
+-- What a service promises.
+use Rattle.std.specs.Prelude.{◌≡◌, ◌⊎◌, ◌<◌, ◌++◌, ℕ, List, true, false, Option, Some, IfSome}
+use Rattle.connection_laws.specs.Marks.{Mark, Follows}
+use Rattle.farm_entry.specs.Legal.{IsLegal}
+use Rattle.farm_entry.specs.declared.entry.Entry.{Entry}
+use Rattle.farm_journal.specs.Opened.{OpeningCause}
+use Rattle.farm_journal.specs.ReadsOnly.{ReadsOnly}
+use Rattle.farm_journal.specs.declared.fault.OpeningFault.{OpeningFault}
+use Rattle.farm_journal.specs.declared.fault.OpeningFault.TheVariants as opening
+use Rattle.farm_store.specs.Bytes.{StandsFor}
+use Rattle.farm_store.specs.Opened.{IsMissedBy}
+use Rattle.farm_store.specs.State.{IsStored}
+use Rattle.farm_types.specs.declared.moment.Moment.{Moment}
+use Rattle.fault_types.specs.Counts.{Rose}
+use Rattle.net_io.specs.Events.{NetworkEvent}
+use Rattle.farm_serve.specs.Ending.{HasNetCause, TellsFailure, is_memory}
+use Rattle.farm_serve.specs.Gained.{AreHeldBack, accepts_of, has_failed, last_ended, links_of, returns_of}
+use Rattle.farm_serve.specs.LastLine.{LinePut, farm_line}
+use Rattle.farm_serve.specs.Outside.{DiskSeen, Outside}
+use Rattle.farm_serve.specs.declared.ending.Ending.{Ending}
+use Rattle.farm_serve.specs.declared.ending.Ending.TheVariants as end
+
+-- what is seen of a farm: a history, and how often its disk has failed
+abbrev pub mark_at : List Entry → DiskSeen → Mark
+mark_at history disk = record { seen = history; faults = disk.faults }
+
+-- Of the events that the network gained, the newest first. Unless memory was wanting they hold so many accepts, or fewer of
+-- which the last one answered that no more will come. As many links were taken back as were given. Each of them was read
+-- and answered whole; or a part is held of what was put to it, and then it failed, or memory was wanting: from the mark at
+-- entry to the one at exit, with the moments that the clock may give. And whether an accept failed is as the ending says.
+pub record LinksServed (start final : Mark) (clock : Moment → Type 0) (links : ℕ) (ending : Ending)
+    (before : List NetworkEvent) (now : Option (List NetworkEvent)) : Type 0 where
+  pub gained : List NetworkEvent
+  pub is : now ≡ Some (gained ++ before)
+  pub accepts : is_memory ending ≡ false
+      → (accepts_of gained ≡ links) ⊎ ((accepts_of gained < links) × (last_ended gained ≡ true))
+  pub back : links_of gained ≡ returns_of gained
+  pub held : AreHeldBack start final clock (is_memory ending) gained
+  pub fault : TellsFailure ending (has_failed gained)
+
+-- The journal was not opened: no accept was made, nothing was put, and the disk was only read. Why is what its bytes are,
+-- or the disk failed, or memory was wanting.
+pub record JournalMissed (fault : OpeningFault) (old new : Outside) : Type 0 where
+  pub untouched : (new.network ≡ old.network) × (new.output ≡ old.output)
+  pub cause : old.disk.tells ≡ true → IsMissedBy old.disk.told.bytes fault
+  pub only : old.disk.tells ≡ true → ReadsOnly old.disk.told new.disk.told
+  pub counts : OpeningCause fault old.disk.faults new.disk.faults
+
+-- The journal held a first history, and its farm was served from there to a last one, whose line was put. Both are legal,
+-- whether the disk tells what it holds or not. At exit a read of the disk, and each crash, gives the last history, or it
+-- with what a fault of the disk left undecided.
+pub record FarmServed (links : ℕ) (clock : Moment → Type 0) (ending : Ending) (old new : Outside) : Type 0 where
+  pub first : List Entry
+  pub last : List Entry
+  pub pending : List Entry
+  pub held : old.disk.tells ≡ true → StandsFor first old.disk.told.bytes
+  pub legal : IsLegal first
+  pub follows : Follows (mark_at first old.disk) (mark_at last new.disk)
+  pub legal_after : IsLegal last
+  pub at_exit : old.disk.tells ≡ true → IsStored last pending new.disk.told
+  pub text : LinePut (farm_line last) ending old.output new.output
+  pub served : IfSome old.network.told (λ before. LinksServed (mark_at first old.disk) (mark_at last new.disk) clock links
+      ending before new.network.told)
+  pub cause : HasNetCause ending old.network.faults new.network.faults
+
+-- what a service came to, by how it ended: so many accepts were to be made, and the clock may give these moments
+abbrev pub ServeEnds : (links : ℕ) → (Moment → Type 0) → Ending → (old new : Outside) → Type 0
+ServeEnds links clock (end.NotOpened fault) old new = JournalMissed fault old new
+ServeEnds links clock end.Done old new = FarmServed links clock end.Done old new
+ServeEnds links clock end.NetFault old new = FarmServed links clock end.NetFault old new
+ServeEnds links clock end.WriteFault old new = FarmServed links clock end.WriteFault old new
+ServeEnds links clock end.Memory old new = FarmServed links clock end.Memory old new
+
+-- Where neither the network nor the output nor the disk fails, and the journal holds a history, the service is done, but for
+-- want of memory.
+abbrev pub ServeCompletes : Ending → (old new : Outside) → Type 0
+ServeCompletes ending old new =
+    ¬ Rose old.network.faults new.network.faults → ¬ Rose old.output.faults new.output.faults
+    → ¬ Rose old.disk.faults new.disk.faults → old.disk.tells ≡ true
+    → (history : List Entry) → StandsFor history old.disk.told.bytes
+    → (ending ≡ end.Done) ⊎ ((ending ≡ end.Memory) ⊎ (ending ≡ end.NotOpened opening.Memory))

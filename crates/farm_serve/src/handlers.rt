@@ -1,0 +1,160 @@
+//! Handlers: threads that take links from the network under its lock, and serve them outside of it.
+ghost use Rattle.std.specs.Prelude.{◌≡◌, ◌<◌, ◌+◌};
+ghost use Rattle.connection_laws.specs.Moments.{MayGive};
+ghost use Rattle.farm_types.specs.declared.moment.Moment.{Moment};
+
+use crate::gate::Gate;
+use crate::link::serve_one;
+use crate::naming::Naming;
+use crate::standing::Next;
+use farm_disk::Disk;
+use link_io::Clock;
+use net_io::Network;
+use shared_farm::SharedFarm;
+use std::alloc::Global;
+use std::sync::ledger::{Ledger, Share};
+use std::sync::{Mutex, Wait};
+use std::thread;
+use std::thread::{Promise, Scope, Threads};
+
+/// A handler gives back a share of no link.
+#[derive(Drop)]
+struct NoneOut;
+
+impl<L: Ledger> Promise<Share<L>> for NoneOut {
+    ghost kept_by = { λ _ r. (r.parts ≡ 1) × (r.amount ≡ 0) };
+}
+
+/// Runs so many handlers, until all have ended. This thread is one of them.
+pub fn run_all<
+    D: Disk + Drop + Send,
+    N: Network + Drop + Send,
+    C: Clock + Sync,
+    J: Naming + Send + Sync,
+    R: Threads + Wait + Sync,
+>(
+    rt: &R,
+    alloc: Global,
+    gate: &Mutex<Gate<N, J>>,
+    farm: &SharedFarm<D>,
+    clock: &C,
+    all: Share<J>,
+    handlers: u8,
+) -> Share<J>
+where
+    N::End: Send,
+    requires farm { farm.now ≡ J.entry.lock }
+    requires gives { (at : Moment) → MayGive C.Clock clock.now at → J.gives at }
+    requires parts { all.parts ≡ handlers }
+    requires some { 0 < handlers }
+    requires none { all.amount ≡ 0 }
+    ensures parts { result.parts ≡ handlers }
+    ensures amount { result.amount ≡ 0 }
+{
+    thread::scope(
+        thread::scope_env(),
+        rt,
+        |scope| -> Share<J>
+            requires { (all.parts ≡ handlers) × (0 < handlers) × (all.amount ≡ 0) × (farm.now ≡ J.entry.lock)
+                × ((at : Moment) → MayGive C.Clock clock.now at → J.gives at) }
+            ensures { (result.parts ≡ handlers) × (result.amount ≡ 0) }
+        { start_all(scope, rt, alloc, gate, farm, clock, all, handlers - 1) },
+    )
+}
+
+/// Starts so many handlers and serves beside them, until all have ended. A handler whose start is refused runs in this
+/// thread, after the others were started.
+fn start_all<
+    's,
+    E,
+    D: Disk + Drop + Send,
+    N: Network + Drop + Send,
+    C: Clock + Sync,
+    J: Naming + Send + Sync,
+    R: Threads + Wait + Sync,
+>(
+    scope: &Scope<'s, E>,
+    rt: &'s R,
+    alloc: Global,
+    gate: &'s Mutex<Gate<N, J>>,
+    farm: &'s SharedFarm<D>,
+    clock: &'s C,
+    all: Share<J>,
+    others: u8,
+) -> Share<J>
+where
+    N::End: Send,
+    requires farm { farm.now ≡ J.entry.lock }
+    requires gives { (at : Moment) → MayGive C.Clock clock.now at → J.gives at }
+    requires parts { all.parts ≡ others + 1 }
+    requires none { all.amount ≡ 0 }
+    ensures parts { result.parts ≡ others + 1 }
+    ensures amount { result.amount ≡ 0 }
+{
+    let mut all = all;
+    if others == 0 {
+        return handle(rt, alloc, gate, farm, clock, all);
+    }
+    let mine = all.split_off(1, 0);
+    match scope.spawn_with(NoneOut, move || handle(rt, alloc, gate, farm, clock, mine)) {
+        Ok(started) => {
+            let mut rest = start_all(scope, rt, alloc, gate, farm, clock, all, others - 1);
+            rest.merge(started.join(rt));
+            rest
+        }
+        Err(refused) => {
+            let mut rest = start_all(scope, rt, alloc, gate, farm, clock, all, others - 1);
+            rest.merge((refused.value)());
+            rest
+        }
+    }
+}
+
+/// Takes links and serves them, one after the other, until no accept is left or one answers that no more will come. It has
+/// one table of paths and one reader for all its links.
+fn handle<D: Disk, N: Network + Drop, C: Clock, J: Naming, R: Wait>(
+    rt: &R,
+    alloc: Global,
+    gate: &Mutex<Gate<N, J>>,
+    farm: &SharedFarm<D>,
+    clock: &C,
+    share: Share<J>,
+) -> Share<J>
+    requires farm { farm.now ≡ J.entry.lock }
+    requires gives { (at : Moment) → MayGive C.Clock clock.now at → J.gives at }
+    requires parts { share.parts ≡ 1 }
+    requires amount { share.amount ≡ 0 }
+    ensures parts { result.parts ≡ 1 }
+    ensures amount { result.amount ≡ 0 }
+{
+    let mut share = share;
+    let Ok(pages) = gate.lock(rt).pages(alloc) else {
+        return share;
+    };
+    let Ok(mut reader) = gate.lock(rt).reader(rt, farm) else {
+        return share;
+    };
+    for _ in rt.forever() {
+        let next = gate.lock(rt).next(farm, &mut share);
+        match next {
+            Next::Closed => return share,
+            Next::Nothing => {}
+            Next::Link(link, pass) => {
+                let mut link = link;
+                let mut pass = pass;
+                let served = serve_one::<D, N, C, J, R>(
+                    rt,
+                    alloc,
+                    &pages,
+                    farm,
+                    &mut pass,
+                    &mut reader,
+                    &mut link,
+                    clock,
+                );
+                gate.lock(rt).back(farm, link, pass, served, &mut share);
+            }
+        }
+    }
+    unreachable!()
+}

@@ -1,0 +1,6 @@
+pub mod Names
+pub mod Parts
+pub mod Searches
+pub mod Sets
+pub mod Books
+pub mod Tallies

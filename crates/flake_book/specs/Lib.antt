@@ -1,0 +1,4 @@
+pub mod Tally
+pub mod Noted
+pub mod Listed
+pub mod BookInside

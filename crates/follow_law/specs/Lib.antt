@@ -1,0 +1,4 @@
+pub mod Page
+pub mod Taking
+pub mod World
+pub mod Happenings

@@ -1,0 +1,4 @@
+pub mod FirstLines
+pub mod Rows
+pub mod Tables
+pub mod Asked

@@ -1,0 +1,6 @@
+pub mod Lines
+pub mod Rows
+pub mod Tables
+pub mod Named
+pub mod Host
+pub mod Runners
