@@ -1,0 +1,61 @@
+#!/usr/bin/env python3
+"""A test host: answers each line `COMMIT TEST` with `pass` or `fail`, after it has run the test at that commit.
+
+    host.py REPOSITORY FOLDER PORT
+
+Each connection gets a work tree of its own under FOLDER. The test is the script of that name in the repository, whose exit
+status is the verdict. The environment variable RUN tells the script how often it was run at this commit. What keeps a test
+from being run (no such commit, no such script, a script that doesn't end) is no verdict: the connection is closed without a
+line, and the worker ends with status 10.
+"""
+import collections
+import itertools
+import os
+import socketserver
+import subprocess
+import sys
+import threading
+
+repository, folder, port = sys.argv[1], sys.argv[2], int(sys.argv[3])
+runs, trees, one_at_a_time = collections.Counter(), itertools.count(1), threading.Lock()
+
+
+def git(*words):
+    subprocess.run(["git", "-C", repository, *words], check=True, capture_output=True)
+
+
+def verdict(commit, test):
+    """Checks the commit out and runs the test once."""
+    with one_at_a_time:
+        runs[commit] += 1
+        run, tree = runs[commit], os.path.join(folder, f"tree{next(trees)}")
+        git("worktree", "add", "--detach", tree, commit)
+    try:
+        script = os.path.join(tree, test)
+        if not os.path.isfile(script):
+            raise FileNotFoundError(script)
+        ended = subprocess.run(["bash", script], cwd=tree, env={**os.environ, "RUN": str(run)}, stdout=sys.stderr, timeout=20)
+        return "pass" if ended.returncode == 0 else "fail"
+    finally:
+        with one_at_a_time:
+            git("worktree", "remove", "--force", tree)
+
+
+class Asked(socketserver.StreamRequestHandler):
+    def handle(self):
+        try:
+            commit, _, test = self.rfile.readline().decode("ascii").rstrip("\n").partition(" ")
+            answer = verdict(commit, test)
+        except Exception as fault:  # no verdict: say nothing, and let the worker see it
+            print(f"host: {fault}", file=sys.stderr)
+            return
+        self.wfile.write(f"{answer}\n".encode("ascii"))
+
+
+class Host(socketserver.ThreadingTCPServer):
+    allow_reuse_address = True
+    daemon_threads = True
+
+
+with Host(("127.0.0.1", port), Asked) as host:
+    host.serve_forever()
