@@ -5,23 +5,26 @@
 
 Run it after `./finder build`. `serve` with four handlers over a file; eight clients, of which five open, lease, report, cancel, take reverts,
 look at pages and send requests again, one is slow, one goes away in mid-request and one sends bytes that form no request; `kill -9` every few
-seconds and a restart. At the end what was answered is held against the journal:
+seconds and a restart; a follower beside it, killed now and then too. At the end what was answered is held against the journal:
 - each request that was answered gets its first answer again, and its entry stands in the journal as that answer said,
 - no run has two reports, and no key two entries,
 - `audit` says that the journal is a legal history (up to the 20,000 entries that it judges),
+- the follower's file is a prefix of the journal, and the same once the follower has all,
 - the memory of the service is what a fresh one needs for that history, and little more.
 The figures stand in one line; the status is 1 where anything was found.
 """
 import collections
 import http.client
+import os
 import random
 import socket
+import subprocess
 import sys
 import threading
 import time
 import uuid
 
-from service import Farm, entries_of, key, opening
+from service import PROGRAM, Farm, entries_of, key, opening, records_of
 
 seconds = float(sys.argv[1]) if len(sys.argv) > 1 else 600.0
 seed = int(sys.argv[2]) if len(sys.argv) > 2 else 1
@@ -152,6 +155,32 @@ class Rude(threading.Thread):
             time.sleep(0.05)
 
 
+class Follower(threading.Thread):
+    """Follows all the time; every other time it is killed on the way."""
+
+    def __init__(self, path):
+        super().__init__(daemon=True)
+        self.path, self.dice = path, random.Random(f"{seed} follower")
+
+    def once(self, may_kill):
+        it = subprocess.Popen([PROGRAM, "follow", self.path, f"127.0.0.1:{farm.port}", "1000"], stdout=subprocess.PIPE, stderr=subprocess.PIPE)
+        if may_kill and self.dice.random() < 0.5:
+            time.sleep(self.dice.random() * 0.05)
+            it.kill()
+            counts["follower killed"] += 1
+        said, fault = it.communicate()
+        # The leader is killed now and then: a follower that lost an ask three times says that the network failed, or, where the
+        # leader's end came in mid-answer, that no whole answer came.
+        if it.returncode not in (0, 9, -9) and fault != b"the service answered 0\n":
+            found.append(f"follow: status {it.returncode} {fault}")
+        return said
+
+    def run(self):
+        while time.time() < until:
+            self.once(True)
+            time.sleep(0.2)
+
+
 def number_of(text):
     return uuid.UUID(text).int
 
@@ -174,10 +203,11 @@ def check_entries():
     return len(entries)
 
 
-def load():
-    """Clients beside a service that is killed again and again, and how often it was."""
+def load(copy):
+    """Clients and a follower beside a service that is killed again and again; the follower, and how often."""
     clients = [Client(number) for number in range(1, 6)]
-    others = [Rude("slow"), Rude("away"), Rude("noise")]
+    follower = Follower(copy)
+    others = [Rude("slow"), Rude("away"), Rude("noise"), follower]
     for it in clients + others:
         it.start()
     dice, kills = random.Random(seed), 0
@@ -189,12 +219,13 @@ def load():
     for it in clients + others:
         it.join(60)
     stopping.set()
-    return kills
+    return follower, kills
 
 
 def soak():
+    copy = os.path.join(farm.folder, "copy.journal")
     farm.start()
-    kills = load()
+    follower, kills = load(copy)
 
     # Each request that was answered gets its first answer again.
     fresh = farm.memory()
@@ -211,7 +242,18 @@ def soak():
         found.append(f"the service took {grown} KiB more for requests that record nothing")
     totals = farm.get("/v1/totals")[1]
 
+    for _ in range(20):
+        said = follower.once(False)
+        if said.endswith(b"whole\n"):
+            break
+    else:
+        found.append(f"follow never had all: {said}")
     farm.kill()
+    whole, copied = b"".join(records_of(farm.journal)), b"".join(records_of(copy))
+    if not whole.startswith(copied) or said.endswith(b"whole\n") and whole != copied:
+        found.append("the follower's file is no prefix of the journal")
+    if farm.run("show", farm.journal) != farm.run("show", copy):
+        found.append("show of the journal and of its copy differ")
     with open(farm.journal, "rb") as it:
         audit = farm.run("audit", stdin=it.read()).decode().strip()
     if not audit.startswith(("legal", "long")):

@@ -166,6 +166,12 @@ unborn-start p first now settled test is =
     leaves_only-rested first first now (IsUnbornOrFirst p)
     (birth-start first (IsUnbornOrFirst p) settled (inl (test-unborn first.bytes test))) is
 
+pub unborn-still : (first now : DiskState) → IsSettled first → is_unborn first.bytes ≡ true → now ≡ rested first
+    → LeavesOnly first now IsUnborn
+unborn-still first now settled test is =
+    leaves_only-rested first first now IsUnborn
+    (birth-start first IsUnborn settled (test-unborn first.bytes test)) is
+
 -- the first birth byte, and what comes after it
 pub unborn-begun : (p : List ℕ) (first mid now : DiskState) → LeavesOnly first mid (IsUnbornOrFirst p)
     → LeavesOnly mid now IsUnborn → LeavesOnly first now (IsUnbornOrFirst p)
@@ -195,4 +201,12 @@ synced-both p first mid now each test is leaves =
     leaves_only-trans first mid now (IsUnbornOrFirst p)
     (leaves_only-step first first mid (IsUnbornOrFirst p) (sync first.bytes) (each-start p first each)
     (ap (λ (d : DiskState). d.steps) is) (λ c image. inl (subst IsUnborn (sym image) (test-unborn first.bytes test))))
+    leaves
+
+pub synced-unborn : (first mid now : DiskState) → EachImage first.steps IsUnborn → is_unborn first.bytes ≡ true
+    → mid ≡ after_sync first → LeavesOnly mid now IsUnborn → LeavesOnly first now IsUnborn
+synced-unborn first mid now each test is leaves =
+    leaves_only-trans first mid now IsUnborn
+    (leaves_only-step first first mid IsUnborn (sync first.bytes) (leaves_only-start first IsUnborn each)
+    (ap (λ (d : DiskState). d.steps) is) (λ c image. subst IsUnborn (sym image) (test-unborn first.bytes test)))
     leaves

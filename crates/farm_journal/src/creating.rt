@@ -53,7 +53,7 @@ fn bear<D: Disk>(disk: &mut D, frame: &[u8], payload: &[u8]) -> Result<(), DiskF
     ensures done { OnOk result (D.tells disk.old ≡ true
         → Rests 2 (payload.now ∷ []) (gate_of (payload.now ∷ [])) (D.told disk.new)) }
     ensures memory { IsErrOf result DiskFault.Memory → D.tells disk.old ≡ true
-        → EachImage (D.told disk.new).steps IsUnborn }
+        → LeavesOnly (D.told disk.old) (D.told disk.new) IsUnborn }
     ensures cause { IsErrOf result DiskFault.Failed → Rose (D.count disk.old) (D.count disk.new) }
     ensures never_falls { D.count disk.old ≤ D.count disk.new }
 {
@@ -77,7 +77,7 @@ fn found_synced<D: Disk>(disk: &mut D, frame: &[u8], payload: &[u8]) -> Result<b
     ensures done { result ≡ Ok true → D.tells disk.old ≡ true
         → Rests 2 (payload.now ∷ []) (gate_of (payload.now ∷ [])) (D.told disk.new) }
     ensures memory { IsErrOf result DiskFault.Memory → D.tells disk.old ≡ true
-        → is_unborn (D.told disk.old).bytes ≡ true → EachImage (D.told disk.new).steps IsUnborn }
+        → is_unborn (D.told disk.old).bytes ≡ true → LeavesOnly (D.told disk.old) (D.told disk.new) IsUnborn }
     ensures cause { IsErrOf result DiskFault.Failed → Rose (D.count disk.old) (D.count disk.new) }
     ensures never_falls { D.count disk.old ≤ D.count disk.new }
 {
@@ -111,7 +111,7 @@ pub(super) fn found<D: Disk>(alloc: Global, disk: &mut D, payload: &[u8]) -> Res
         → Rests 2 (payload.now ∷ []) (gate_of (payload.now ∷ [])) (D.told disk.new) }
     ensures memory { IsErrOf result DiskFault.Memory → D.tells disk.old ≡ true
         → is_unborn (D.told disk.old).bytes ≡ true → EachImage (D.told disk.old).steps IsUnborn
-        → EachImage (D.told disk.new).steps IsUnborn }
+        → LeavesOnly (D.told disk.old) (D.told disk.new) IsUnborn }
     ensures cause { IsErrOf result DiskFault.Failed → Rose (D.count disk.old) (D.count disk.new) }
     ensures never_falls { D.count disk.old ≤ D.count disk.new }
 {

@@ -113,6 +113,10 @@ impl<D: Disk> Journal<D> {
         ensures memory { IfErr result (λ missed. OnCreatingMemory missed.1 (D.tells disk ≡ true
             → is_unborn (D.told disk).bytes ≡ true → EachImage (D.told disk).steps IsUnborn
             → EachImage (D.told missed.0).steps IsUnborn)) }
+        // Out of memory, a crash at any moment of the call leaves an unborn file.
+        ensures memory_moment { IfErr result (λ missed. OnCreatingMemory missed.1 (D.tells disk ≡ true
+            → is_unborn (D.told disk).bytes ≡ true → EachImage (D.told disk).steps IsUnborn
+            → LeavesOnly (D.told disk) (D.told missed.0) IsUnborn)) }
 
         ensures cause { IfErr result (λ missed. CreatingCause missed.1 (D.count disk) (D.count missed.0)) }
         ensures never_falls { D.count disk ≤ D.count (disk_created result) }

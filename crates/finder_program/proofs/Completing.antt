@@ -32,7 +32,7 @@ use Rattle.finder_program.specs.declared.status.Status.TheVariants.{Done, ReadFa
 use Rattle.finder_program.proofs.Taken.{read_front, read_whole}
 
 -- a text is put whole where the output doesn't fail
-text-completes : (text : List ℕ) (status : Status) (before after : OutputSeen) → TextPut text status before after
+pub text-completes : (text : List ℕ) (status : Status) (before after : OutputSeen) → TextPut text status before after
     → ¬ Rose before.faults after.faults → (status ≡ Memory) ⊎ (status ≡ Done)
 text-completes text Done before after put calm = inr refl
 text-completes text WriteFault before after put calm = absurd (calm put.0)
@@ -40,7 +40,7 @@ text-completes text Memory before after put calm = inl refl
 text-completes text _ before after put calm = absurd put
 
 -- a fault of the store comes only where the disk failed
-no-store_fault : (status : Status) (b a : ℕ) (old new : DiskSeen) → status ≡ StoreFault b a
+pub no-store_fault : (status : Status) (b a : ℕ) (old new : DiskSeen) → status ≡ StoreFault b a
     → HasStoreCause status old new → ¬ Rose old.faults new.faults → ⊥
 no-store_fault status b a old new is cause steady =
     let told : HasStoreCause (StoreFault b a) old new = subst (λ (s : Status). HasStoreCause s old new) is cause in

@@ -1,6 +1,8 @@
 pub mod Auditing
 pub mod Causes
 pub mod Completing
+pub mod Drilling
+pub mod Following
 pub mod Foundings
 pub mod JournalRuns
 pub mod Judging

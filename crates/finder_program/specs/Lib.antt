@@ -1,6 +1,8 @@
 pub mod Statuses
 pub mod ReadInput
 pub mod AuditCommand
+pub mod DrillCommand
+pub mod FollowCommand
 pub mod JudgeCommand
 pub mod RunCommand
 pub mod Disks

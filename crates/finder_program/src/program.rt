@@ -7,6 +7,8 @@ ghost use Rattle.link_io.specs.Streams.{streams};
 ghost use Rattle.finder_words.specs.Words.{
   asked,
   audit,
+  drill,
+  follow,
   found,
   judge,
   rates,
@@ -27,7 +29,9 @@ ghost use Rattle.farm_serve.specs.Outside.{
   output_seen,
 };
 ghost use Rattle.finder_program.specs.AuditCommand.{AuditCompletes, AuditEnds};
+ghost use Rattle.finder_program.specs.DrillCommand.{DrillCompletes, DrillEnds};
 ghost use Rattle.finder_program.specs.Disks.{HasStoreCause};
+ghost use Rattle.finder_program.specs.FollowCommand.{FollowCompletes, FollowEnds};
 ghost use Rattle.finder_program.specs.Found.{FoundCompletes, HasNumbers, JournalFoundEnds};
 ghost use Rattle.finder_program.specs.JudgeCommand.{JudgeCompletes, JudgeEnds};
 ghost use Rattle.finder_program.specs.RatesCommand.{RatesCompletes, RatesEnds};
@@ -39,6 +43,8 @@ ghost use Rattle.finder_program.specs.Unread.{IsUnread};
 ghost use Rattle.finder_program.specs.WorkCommand.{WorkCompletes, WorkEnds, outside_seen};
 
 use crate::audit_command::audit_command;
+use crate::drill_command::drill_command;
+use crate::follow_command::follow_command;
 use crate::found_command::found_command;
 use crate::judge_command::judge_command;
 use crate::rates_command::rates_command;
@@ -208,6 +214,31 @@ where
         (R.told runner.new) (R.count runner.new) (Q.told keys.new) in
         WorkCompletes result.0 before after (output_seen K.Sink output.old) (output_seen K.Sink output.new) }
 
+    // What each status of `drill` says, with the disk and the input left alone, and that its line is put.
+    ensures drill { (searches workers : ℕ) → asked (map string_bytes words.now) ≡ Some (drill searches workers) →
+        let before = output_seen K.Sink output.old in
+        let after = output_seen K.Sink output.new in
+        DrillEnds searches result.0 before after × (input.new ≡ input.old) × (result.1 ≡ disk) }
+    ensures drill_completes { (searches workers : ℕ) → asked (map string_bytes words.now) ≡ Some (drill searches workers) →
+        let before = output_seen K.Sink output.old in
+        let after = output_seen K.Sink output.new in
+        DrillCompletes result.0 before after }
+
+    // What each status of `follow` says: the journal was not opened, and nobody was asked; or a leader was followed from the
+    // history that it held, of which no entry was taken back; and that the following comes to an end.
+    ensures follow { (rounds : ℕ) → asked (map string_bytes words.now) ≡ Some (follow rounds) →
+        let before = outside (network_seen (N.told network) (N.count network)) (output_seen K.Sink output.old)
+        (disk_seen D.Disk disk) in
+        let after = outside (network_seen (N.told result.2) (N.count result.2)) (output_seen K.Sink output.new)
+        (disk_seen D.Disk result.1) in
+        FollowEnds rounds result.0 before after × (input.new ≡ input.old) }
+    ensures follow_completes { (rounds : ℕ) → asked (map string_bytes words.now) ≡ Some (follow rounds) →
+        let before = outside (network_seen (N.told network) (N.count network)) (output_seen K.Sink output.old)
+        (disk_seen D.Disk disk) in
+        let after = outside (network_seen (N.told result.2) (N.count result.2)) (output_seen K.Sink output.new)
+        (disk_seen D.Disk result.1) in
+        FollowCompletes result.0 before after }
+
     // A fault of the store is answered only where the disk failed in this call.
     ensures store_fault { HasStoreCause result.0 (disk_seen D.Disk disk) (disk_seen D.Disk result.1) }
 
@@ -243,6 +274,18 @@ where
         Ok(Some(Subcommand::Work { worker, runs })) => {
             let mut network = network;
             let status = work_command(alloc, output, &mut network, runner, keys, &worker, runs);
+            (status, disk, network)
+        }
+        Ok(Some(Subcommand::Drill { searches, workers })) => {
+            (
+                drill_command(rt, alloc, searches, workers, output),
+                disk,
+                network,
+            )
+        }
+        Ok(Some(Subcommand::Follow { rounds })) => {
+            let mut network = network;
+            let (status, disk) = follow_command(alloc, output, disk, &mut network, rounds);
             (status, disk, network)
         }
         Ok(None) => (Status::Usage, disk, network),

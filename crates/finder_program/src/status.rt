@@ -48,6 +48,9 @@ pub enum Status {
     InputLimit,
     /// The service gave an answer that a worker has no use for: its HTTP status, or 0 where no whole answer came.
     Peer(u16),
+    /// The journal differs from the leader's at this place, from 0: the entry there isn't the leader's, or can't come next,
+    /// or the leader has no more.
+    Foreign(u64),
 }
 
 impl Status {
@@ -72,6 +75,7 @@ impl Status {
             Status::BadInput(_) => 12,
             Status::InputLimit => 13,
             Status::Peer(_) => 14,
+            Status::Foreign(_) => 15,
         }
     }
 
@@ -115,6 +119,9 @@ impl fmt::Display for Status {
             Status::BadInput(line) => write!(f, "line {line} is not in the written form"),
             Status::InputLimit => write!(f, "the input is too long"),
             Status::Peer(answer) => write!(f, "the service answered {answer}"),
+            Status::Foreign(place) => {
+                write!(f, "the journal differs from the leader's at entry {place}")
+            }
         }
     }
 }

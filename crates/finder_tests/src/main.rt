@@ -15,7 +15,8 @@
 //!   ever;
 //! - `statuses`.
 //!
-//! Then it ends as the process of the program itself does, with the words that it was called with, over what is left of
+//! Then it makes the calls of workers whose tables of verdicts lie in the files beside it, of which all but one are refused.
+//! And it ends as the process of the program itself does, with the words that it was called with, over what is left of
 //! standard input: nothing. `judge` refuses that, so the gate sees the exit status of an input outside the form.
 //!
 //! The file `stdout` has the answers that are wanted: they come from worked numbers, from a program of its own over the
@@ -27,6 +28,7 @@ mod faults;
 mod output;
 mod played;
 mod statuses;
+mod tables;
 mod texts;
 
 use faults::print_faults;
@@ -39,6 +41,7 @@ use std::io;
 use std::process::ExitCode;
 use std::sync::Wait;
 use std::thread::Threads;
+use tables::print_tables;
 use texts::{bytes_of, filled, letters, number_of, suspects, word};
 
 /// The sizes of the pieces that an input is given in.
@@ -219,7 +222,10 @@ fn main(rt: HostRuntime) -> ExitCode {
         return ExitCode::FAILURE;
     };
     let cases = text.as_str().strip_prefix("# ").unwrap_or("");
-    match play_cases(&rt, rt.alloc(), cases.strip_suffix("\n").unwrap_or(cases)) {
+    if play_cases(&rt, rt.alloc(), cases.strip_suffix("\n").unwrap_or(cases)).is_err() {
+        return ExitCode::FAILURE;
+    }
+    match print_tables(rt, &rt) {
         Ok(()) => run_process(rt, &rt),
         Err(_) => ExitCode::FAILURE,
     }

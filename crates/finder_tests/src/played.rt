@@ -64,7 +64,8 @@ pub(crate) fn calm_disk(alloc: Global, journal: &[u8]) -> Result<CalmDisk, Alloc
     Ok(CalmDisk::of(Vec::from_slice(alloc, journal)?))
 }
 
-fn words_of(alloc: Global, line: &str) -> Result<Vec<String>, AllocError> {
+/// The words of a line, with a space between two of them.
+pub(crate) fn words_of(alloc: Global, line: &str) -> Result<Vec<String>, AllocError> {
     let mut words = Vec::new(alloc);
     for word in line.split(' ') {
         words.push(String::from_str(alloc, word)?)?;

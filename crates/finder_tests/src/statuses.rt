@@ -5,7 +5,7 @@ use judge::JudgeFault;
 use std::alloc::Global;
 use std::io;
 
-const STATUSES: [Status; 15] = [
+const STATUSES: [Status; 16] = [
     Status::Done,
     Status::Usage,
     Status::ReadFault,
@@ -24,6 +24,7 @@ const STATUSES: [Status; 15] = [
     Status::BadInput(u64::MAX),
     Status::InputLimit,
     Status::Peer(409),
+    Status::Foreign(12),
 ];
 
 /// Prints each status with its number and the line that it writes, and the faults of the judge.

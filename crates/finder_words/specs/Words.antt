@@ -4,17 +4,20 @@ use Rattle.std.specs.List.{list_any}
 use Rattle.std.specs.Option.{option_and_then, option_map}
 use Rattle.std.specs.Str.{bytes_eq}
 use Rattle.farm_entry.specs.Settings.{settings_daily, settings_fault, settings_lease_ms, settings_zone_minutes}
+use Rattle.farm_entry.specs.declared.limits.TheConstants.{MAX_SEARCHES}
 use Rattle.farm_types.specs.Name.{name_fault}
+use Rattle.drill_plan.specs.declared.limits.TheConstants.{MAX_WORKERS}
 use Rattle.decimal_text.specs.Decimals.{number}
 use Rattle.word_matches.specs.Forms.{fits}
-use Rattle.finder_words.specs.declared.counts.TheConstants.{MAX_HANDLERS, MAX_LINKS, MAX_RUNS}
+use Rattle.finder_words.specs.declared.counts.TheConstants.{MAX_HANDLERS, MAX_LINKS, MAX_ROUNDS, MAX_RUNS}
 use Rattle.finder_words.specs.declared.subcommand.Subcommand.{Subcommand}
 use Rattle.finder_words.specs.declared.subcommand.Subcommand.TheVariants as sub
 
 -- What is asked for: a search judged; a script run over a farm in memory; a journal founded, with how long a lease
 -- lasts in milliseconds, how many orders a day may have, and how far its zone lies east of UTC in minutes; a journal
 -- shown; a script run over a journal; the bytes of a journal audited; a journal served by so many handlers, until so
--- many accepts were made; work done under a name, for so many runs; the rates that a journal tells of.
+-- many accepts were made; work done under a name, for so many runs; the rates that a journal tells of; a drill of so many
+-- searches and workers; a service followed in so many rounds.
 pub data Asked : Type 0 where
   judge : Asked
   run : Asked
@@ -25,6 +28,8 @@ pub data Asked : Type 0 where
   serve : (handlers links : ℕ) → Asked
   work : (worker : List ℕ) → (runs : ℕ) → Asked
   rates : Asked
+  drill : (searches workers : ℕ) → Asked
+  follow : (rounds : ℕ) → Asked
 
 -- what a subcommand does
 abbrev pub asked_by : Subcommand → Asked
@@ -38,6 +43,8 @@ asked_by sub.Audit = audit
 asked_by (sub.Serve handlers links) = serve handlers links
 asked_by (sub.Work worker runs) = work worker runs
 asked_by sub.Rates = rates
+asked_by (sub.Drill searches workers) = drill searches workers
+asked_by (sub.Follow rounds) = follow rounds
 
 -- how far a zone lies east of UTC, in minutes: `east:` or `west:` and a number
 abbrev pub zone_named : List ℕ → Option ℤ
@@ -72,6 +79,14 @@ abbrev pub work_asked : (worker : List ℕ) → Option ℕ → (runner : List �
 work_asked worker runs runner =
     if is_none (name_fault worker) && names_runner runner then option_map (λ n. work worker n) runs else None
 
+-- a drill of these numbers
+abbrev pub drill_asked : Option ℕ → Option ℕ → Option Asked
+drill_asked searches workers = option_and_then (λ s. option_map (λ w. drill s w) workers) searches
+
+-- a service followed in this number of rounds
+abbrev pub follow_asked : Option ℕ → Option Asked
+follow_asked rounds = option_map (λ n. follow n) rounds
+
 -- a word alone
 abbrev pub asked_alone : List ℕ → Option Asked
 asked_alone word =
@@ -98,6 +113,11 @@ asked_of_four word first second third fourth =
 abbrev pub asked_of : List (List ℕ) → Option Asked
 asked_of (word ∷ []) = asked_alone word
 asked_of (word ∷ journal ∷ []) = asked_of_journal word
+asked_of (word ∷ searches ∷ workers ∷ []) =
+    if bytes_eq word (codes "drill")
+    then drill_asked (count_named MAX_SEARCHES searches) (count_named MAX_WORKERS workers) else None
+asked_of (word ∷ journal ∷ address ∷ rounds ∷ []) =
+    if bytes_eq word (codes "follow") then follow_asked (count_named MAX_ROUNDS rounds) else None
 asked_of (word ∷ first ∷ second ∷ third ∷ fourth ∷ []) = asked_of_four word first second third fourth
 asked_of _ = None
 
@@ -124,8 +144,8 @@ nowhere = record { journal = []; address = []; runner = [] }
 -- what words that fit a command name
 abbrev pub places_in : List (List ℕ) → PlacesNamed
 places_in words = record {
-  journal = word_of 0 (codes "run" ∷ codes "found" ∷ codes "show" ∷ codes "serve" ∷ codes "rates" ∷ []) words;
-  address = word_of 0 (codes "work" ∷ []) words ++ word_of 1 (codes "serve" ∷ []) words;
+  journal = word_of 0 (codes "run" ∷ codes "found" ∷ codes "show" ∷ codes "serve" ∷ codes "rates" ∷ codes "follow" ∷ []) words;
+  address = word_of 0 (codes "work" ∷ []) words ++ word_of 1 (codes "serve" ∷ codes "follow" ∷ []) words;
   runner = word_of 3 (codes "work" ∷ []) words;
 }
 
@@ -149,6 +169,8 @@ uses_network (Some audit) = false
 uses_network (Some (serve handlers links)) = true
 uses_network (Some (work worker runs)) = true
 uses_network (Some rates) = false
+uses_network (Some (drill searches workers)) = false
+uses_network (Some (follow rounds)) = true
 
 -- whether it uses the runner and the keys
 abbrev pub uses_runner : Option Asked → Bool
@@ -162,9 +184,14 @@ uses_runner (Some audit) = false
 uses_runner (Some (serve handlers links)) = false
 uses_runner (Some (work worker runs)) = true
 uses_runner (Some rates) = false
+uses_runner (Some (drill searches workers)) = false
+uses_runner (Some (follow rounds)) = false
 
 -- the numbers of a subcommand are within their limits
 abbrev pub HasRanges : Subcommand → Type 0
 HasRanges (sub.Serve handlers links) = (1 ≤ handlers) × (handlers ≤ MAX_HANDLERS) × (1 ≤ links) × (links ≤ MAX_LINKS)
 HasRanges (sub.Work worker runs) = (1 ≤ runs) × (runs ≤ MAX_RUNS)
+HasRanges (sub.Drill searches workers) =
+    (1 ≤ searches) × (searches ≤ MAX_SEARCHES) × (1 ≤ workers) × (workers ≤ MAX_WORKERS)
+HasRanges (sub.Follow rounds) = (1 ≤ rounds) × (rounds ≤ MAX_ROUNDS)
 HasRanges _ = ⊤

@@ -14,6 +14,9 @@ pub const MAX_LINKS: u32 = 1_000_000_000;
 /// The most runs that a worker leases.
 pub const MAX_RUNS: u32 = 1_000_000;
 
+/// The most rounds in which a follower asks.
+pub const MAX_ROUNDS: u32 = 1_000_000;
+
 /// The number that a word writes, where it is from 1 to `most`.
 pub(crate) fn read_count(word: &str, most: u32) -> Option<u32>
     ensures count { result ≡ count_named most word.now }

@@ -98,6 +98,11 @@ fn places_in<'a>(matched: Matched<'a>) -> Named<'a>
             journal,
             address,
             ..
+        }
+        | Matched::Follow {
+            journal,
+            address,
+            ..
         } => Named {
             journal,
             address,
@@ -112,6 +117,6 @@ fn places_in<'a>(matched: Matched<'a>) -> Named<'a>
             address,
             runner,
         },
-        Matched::Judge | Matched::Run | Matched::Audit => nowhere(),
+        Matched::Judge | Matched::Run | Matched::Audit | Matched::Drill { .. } => nowhere(),
     }
 }

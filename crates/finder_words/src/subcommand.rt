@@ -10,6 +10,8 @@ ghost use Rattle.finder_words.specs.Words.{
   asked_by,
   asked_of,
   count_named,
+  drill_asked,
+  follow_asked,
   founding_asked,
   names_runner,
   serve_asked,
@@ -18,9 +20,10 @@ ghost use Rattle.finder_words.specs.Words.{
 };
 ghost use Rattle.word_matches.specs.Forms.{words_of};
 
-use crate::counts::{MAX_HANDLERS, MAX_LINKS, MAX_RUNS, read_count};
+use crate::counts::{MAX_HANDLERS, MAX_LINKS, MAX_ROUNDS, MAX_RUNS, read_count};
 use decimal_text::number;
-use farm_entry::Settings;
+use drill_plan::MAX_WORKERS;
+use farm_entry::{MAX_SEARCHES, Settings};
 use farm_types::{Memory, Name, NameFault};
 use std::alloc::Global;
 use word_matches::{Matched, match_words};
@@ -56,6 +59,18 @@ pub enum Subcommand {
     },
     /// `rates JOURNAL`: tells the flake rates that a journal's ended searches tell of.
     Rates,
+    /// `drill SEARCHES WORKERS`: plays a whole farm from two numbers.
+    Drill {
+        /// How many searches it opens, from 1 to [`MAX_SEARCHES`].
+        searches: u32,
+        /// How many workers it has, from 1 to [`MAX_WORKERS`].
+        workers: u32,
+    },
+    /// `follow JOURNAL ADDRESS ROUNDS`: copies the journal of a service.
+    Follow {
+        /// How often it asks for entries at most, from 1 to [`MAX_ROUNDS`].
+        rounds: u32,
+    },
 }
 
 /// The subcommand that these words name, if they name one.
@@ -102,6 +117,8 @@ pub(crate) fn read_matched(alloc: Global, matched: Matched) -> Result<Option<Sub
             ..
         } => read_work(alloc, worker, runs, runner),
         Matched::Rates { .. } => Ok(Some(Subcommand::Rates)),
+        Matched::Drill { searches, workers } => Ok(read_drill(searches, workers)),
+        Matched::Follow { rounds, .. } => Ok(read_follow(rounds)),
     }
 }
 
@@ -142,6 +159,26 @@ fn read_work(
         Err(NameFault::Memory) => Err(Memory),
         Err(_) => Ok(None),
     }
+}
+
+/// `drill` with the numbers that two words write, where they are in range.
+fn read_drill(searches: &str, workers: &str) -> Option<Subcommand>
+    ensures asked { option_map asked_by result
+        ≡ drill_asked (count_named MAX_SEARCHES searches.now) (count_named MAX_WORKERS workers.now) }
+    ensures ranges { IfSome result HasRanges }
+{
+    let searches = read_count(searches, MAX_SEARCHES)?;
+    let workers = read_count(workers, MAX_WORKERS)?;
+    Some(Subcommand::Drill { searches, workers })
+}
+
+/// `follow` with the number that a word writes, where it is in range.
+fn read_follow(rounds: &str) -> Option<Subcommand>
+    ensures asked { option_map asked_by result ≡ follow_asked (count_named MAX_ROUNDS rounds.now) }
+    ensures ranges { IfSome result HasRanges }
+{
+    let rounds = read_count(rounds, MAX_ROUNDS)?;
+    Some(Subcommand::Follow { rounds })
 }
 
 /// Whether a word names a runner: `table:` or `host:`, and what follows.

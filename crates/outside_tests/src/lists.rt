@@ -8,7 +8,7 @@ use weight_exact::Verdict;
 use worker_io::{KeySource, ListKeys, ListRunner, RandomKeys, Runner};
 
 /// Runs a test so many times, and prints the answers.
-fn print_answers<R: Print, T: Runner>(
+pub(crate) fn print_answers<R: Print, T: Runner>(
     rt: &R,
     alloc: Global,
     runner: &mut T,

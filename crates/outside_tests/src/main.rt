@@ -1,17 +1,19 @@
 //! Plays links, networks, runners and sources of keys, in memory and over sockets of this machine, and prints what each
-//! call answered. The file `stdout` has what is wanted, written down by hand.
+//! call answered; runners by tables and by hosts too. The file `stdout` has what is wanted, written down by hand.
 //!
 //! Nothing here waits longer than for the time-out of one read, which is 200 milliseconds.
 #![tactic(auto)]
 
 mod lists;
 mod networks;
+mod runners;
 mod sockets;
 
 use link_io::MemLink;
 use lists::{print_keys, print_runs};
 use net_io::MemNetwork;
 use networks::{print_talk, print_turns};
+use runners::print_runners;
 use sockets::print_sockets;
 use std::alloc::{AllocError, Global};
 use std::io;
@@ -76,5 +78,6 @@ fn main(rt: HostRuntime) -> io::Result<()> {
     print_two(&rt, alloc)?;
     print_runs(&rt, alloc)?;
     print_keys(&rt, alloc)?;
+    print_runners(&rt, alloc)?;
     print_sockets(&rt, alloc)
 }

@@ -4,3 +4,9 @@ pub mod Growth
 pub mod Histories
 pub mod Repeats
 pub mod Telling
+pub mod About
+pub mod Waiting
+pub mod Keeping
+pub mod Taking
+pub mod Steps
+pub mod Reports

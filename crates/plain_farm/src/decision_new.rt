@@ -5,16 +5,18 @@ ghost use Rattle.weight_exact.specs.Load.{is_fail_above, last_pass, load, passed
 ghost use Rattle.farm_entry.specs.Decision.{cancel_decision, fate_at, fate_of, is_past_budget, lease_decision, open_decision, report_decision, revert_decision};
 ghost use Rattle.farm_entry.specs.History.{opening_numbered, openings};
 ghost use Rattle.farm_entry.specs.Legal.{IsLegal};
+ghost use Rattle.plain_farm.specs.Rows.{AreRows};
 
 use crate::due_run::reruns_at;
-use crate::standings::standing;
+use crate::kept::{reruns_by, runs_by, standing_by};
+use crate::rows::Row;
 use farm_entry::{
     BoxedOpening, Decision, DueRun, Entry, Fate, LeasedRun, MAX_SEARCHES, OpenAsk, Opening,
     Refusal, Standing, What,
 };
 use farm_rules::{Draft, NoOrder};
 use farm_types::{Key, Memory, Moment, Name, Stage};
-use plain_history::{all_leases_count, lease_ms, opening_numbered, openings_count, reruns, runs};
+use plain_history::{all_leases_count, lease_ms, opening_numbered, openings_count};
 use std::alloc::Global;
 use weight_exact::{Factors, Run, Verdict};
 
@@ -115,14 +117,16 @@ fn fails_above(position: u16, runs: &[Run]) -> usize
 fn is_past_budget(
     alloc: Global,
     history: &[Entry],
+    rows: &[Row],
     opening: &Opening,
     run: Run,
 ) -> Result<bool, Memory>
     requires legal { IsLegal history.now }
     requires opened { Contains (openings history.now) opening.now }
+    requires rows { AreRows history.now rows.now }
     ensures { IfOk result (λ past. past ≡ is_past_budget history.now opening.now run) }
 {
-    let mut told = runs(alloc, history, opening.search)?;
+    let mut told = runs_by(alloc, history, rows, opening)?;
     told.push(run)?;
     let factors = Factors::of(opening.rate, opening.miss);
     Ok((opening.budget() as usize) < load(&factors, &told))
@@ -133,25 +137,27 @@ fn is_past_budget(
 fn fate_at(
     alloc: Global,
     history: &[Entry],
+    rows: &[Row],
     opening: &Opening,
     lease: LeasedRun,
     verdict: Verdict,
 ) -> Result<Fate, Memory>
     requires legal { IsLegal history.now }
     requires opened { Contains (openings history.now) opening.now }
+    requires rows { AreRows history.now rows.now }
     ensures { IfOk result (λ fate. fate ≡ fate_of history.now lease verdict (Some opening.now)) }
 {
     let run = lease.run_with(verdict);
-    match standing(alloc, history, opening)? {
+    match standing_by(alloc, history, rows, opening)? {
         Standing::Searching if lease.is_at(Stage::Search) => {
-            if is_past_budget(alloc, history, opening, run)? {
+            if is_past_budget(alloc, history, rows, opening, run)? {
                 Ok(Fate::Over)
             } else {
                 Ok(Fate::Counted)
             }
         }
         Standing::Verifying(_) if lease.is_at(Stage::Verify) => {
-            let again = reruns(alloc, history, opening.search)?;
+            let again = reruns_by(alloc, history, rows, opening)?;
             if reruns_at(lease.position, &again) < usize::from(opening.reruns) {
                 Ok(Fate::Counted)
             } else {
@@ -166,16 +172,18 @@ fn fate_at(
 fn fate_of(
     alloc: Global,
     history: &[Entry],
+    rows: &[Row],
     lease: LeasedRun,
     verdict: Verdict,
 ) -> Result<Fate, Memory>
-    requires { IsLegal history.now }
+    requires legal { IsLegal history.now }
+    requires rows { AreRows history.now rows.now }
     ensures { IfOk result (λ fate. fate
         ≡ fate_of history.now lease verdict (opening_numbered history.now lease.search)) }
 {
     match opening_numbered(history, lease.search) {
         None => Ok(Fate::Late),
-        Some(opening) => fate_at(alloc, history, opening, lease, verdict),
+        Some(opening) => fate_at(alloc, history, rows, opening, lease, verdict),
     }
 }
 
@@ -183,18 +191,20 @@ fn fate_of(
 pub(crate) fn report_decision(
     alloc: Global,
     history: &[Entry],
+    rows: &[Row],
     run: u32,
     verdict: Verdict,
     at: Moment,
     lease: Option<LeasedRun>,
 ) -> Result<Decision, Memory>
-    requires { IsLegal history.now }
+    requires legal { IsLegal history.now }
+    requires rows { AreRows history.now rows.now }
     ensures { IfOk result (λ found. found ≡ report_decision history.now run verdict at lease) }
 {
     let Some(lease) = lease else {
         return Ok(Decision::Refuse(Refusal::UnknownRun(run)));
     };
-    let fate = fate_of(alloc, history, lease, verdict)?;
+    let fate = fate_of(alloc, history, rows, lease, verdict)?;
     let what = What::Reported { run, verdict, fate };
     Ok(Decision::New(Entry { at, what }))
 }
@@ -205,18 +215,20 @@ pub(crate) fn report_decision(
 pub(crate) fn cancel_decision(
     alloc: Global,
     history: &[Entry],
+    rows: &[Row],
     key: Key,
     search: u32,
     at: Moment,
 ) -> Result<Decision, Memory>
-    requires { IsLegal history.now }
+    requires legal { IsLegal history.now }
+    requires rows { AreRows history.now rows.now }
     ensures { IfOk result (λ found. found
         ≡ cancel_decision history.now key search at (opening_numbered history.now search)) }
 {
     let Some(opening) = opening_numbered(history, search) else {
         return Ok(Decision::Refuse(Refusal::UnknownSearch(search)));
     };
-    let standing = standing(alloc, history, opening)?;
+    let standing = standing_by(alloc, history, rows, opening)?;
     if standing.is_active() {
         let what = What::Cancelled { key, search };
         Ok(Decision::New(Entry { at, what }))

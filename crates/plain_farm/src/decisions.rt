@@ -4,14 +4,16 @@ ghost use Rattle.std.specs.Prelude.{◌≡◌, IfOk};
 ghost use Rattle.farm_entry.specs.History.{opening_numbered};
 ghost use Rattle.farm_entry.specs.Decision.{decide, full_decision, known_decision, own_decision, page_decision, shape_decision};
 ghost use Rattle.farm_entry.specs.Legal.{IsLegal};
+ghost use Rattle.plain_farm.specs.Rows.{AreRows};
 
 use crate::decision_known::known_decision;
 use crate::decision_new::{
     cancel_decision, lease_decision, open_decision, report_decision, revert_decision,
 };
-use crate::due_run::next_run;
-use crate::orders::next_order_at;
+use crate::due_run::next_run_by;
+use crate::orders::next_order_by;
 use crate::pages::{order_page, page_of, totals};
+use crate::rows::Row;
 use farm_entry::{Command, Decision, Entry, MAX_ENTRIES, Refusal, Reply, moment_used};
 use farm_types::{Memory, Moment};
 use plain_history::{lease_of, opening_numbered};
@@ -59,24 +61,29 @@ fn page_decision(alloc: Global, history: &[Entry], search: u32) -> Result<Decisi
 fn own_decision(
     alloc: Global,
     history: &[Entry],
+    rows: &[Row],
     command: &Command,
     at: Moment,
 ) -> Result<Decision, Memory>
-    requires { IsLegal history.now }
+    requires legal { IsLegal history.now }
+    requires rows { AreRows history.now rows.now }
     ensures { IfOk result (λ found. found ≡ own_decision history.now command.now at) }
 {
     match command {
         Command::Open(ask) => open_decision(alloc, history, ask, at),
         Command::Lease { key, worker } => {
-            let run = next_run(alloc, history, at)?;
+            let run = next_run_by(alloc, history, rows, at)?;
             lease_decision(history, *key, worker, at, run)
         }
         Command::Report { run, verdict } => {
-            report_decision(alloc, history, *run, *verdict, at, lease_of(history, *run))
+            let lease = lease_of(history, *run);
+            report_decision(alloc, history, rows, *run, *verdict, at, lease)
         }
-        Command::Cancel { key, search } => cancel_decision(alloc, history, *key, *search, at),
+        Command::Cancel { key, search } => {
+            cancel_decision(alloc, history, rows, *key, *search, at)
+        },
         Command::TakeRevert { key, agent } => {
-            let next = next_order_at(alloc, history, at)?;
+            let next = next_order_by(alloc, history, rows, at)?;
             revert_decision(*key, agent, at, next)
         }
         Command::ShowSearch { search } => page_decision(alloc, history, *search),
@@ -95,6 +102,21 @@ pub fn decide(
     requires { IsLegal history.now }
     ensures { IfOk result (λ found. found ≡ decide history.now command.now at) }
 {
+    decide_by(alloc, history, &[], command, at)
+}
+
+/// The same, by the rows that are kept.
+pub(crate) fn decide_by(
+    alloc: Global,
+    history: &[Entry],
+    rows: &[Row],
+    command: &Command,
+    at: Moment,
+) -> Result<Decision, Memory>
+    requires legal { IsLegal history.now }
+    requires rows { AreRows history.now rows.now }
+    ensures { IfOk result (λ found. found ≡ decide history.now command.now at) }
+{
     if let Some(found) = shape_decision(alloc, command)? {
         return Ok(found);
     }
@@ -104,5 +126,5 @@ pub fn decide(
     if let Some(found) = full_decision(history, command) {
         return Ok(found);
     }
-    own_decision(alloc, history, command, moment_used(history, at))
+    own_decision(alloc, history, rows, command, moment_used(history, at))
 }

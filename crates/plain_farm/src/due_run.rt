@@ -12,13 +12,16 @@ ghost use Rattle.farm_entry.specs.History.{opening_in, openings, runs};
 ghost use Rattle.farm_entry.specs.Legal.{IsLegal};
 ghost use Rattle.farm_entry.specs.Setup.{setup_of};
 ghost use Rattle.farm_entry.specs.Standing.{standing};
+ghost use Rattle.plain_farm.specs.Rows.{AreRows};
 ghost use Rattle.plain_history.specs.Held.{IsHeld};
 ghost use Rattle.farm_entry.specs.declared.standing.Standing.TheVariants.{Searching};
 
-use crate::standings::{belief, standing};
+use crate::kept::{last_lease_by, open_positions_by, plan_by, reruns_by, standing_by};
+use crate::rows::Row;
+use crate::standings::belief;
 use farm_entry::{DueRun, Entry, LeasedRun, Opening, Standing, What};
 use farm_types::{Memory, Moment, Stage};
-use plain_history::{is_reported, last_lease, leases, push_some, reruns};
+use plain_history::{is_reported, leases, push_some};
 use posterior::Belief;
 use run_plan::{due_search, due_verify};
 use std::alloc::Global;
@@ -74,8 +77,26 @@ pub fn plan(alloc: Global, history: &[Entry], opening: &Opening) -> Result<Vec<u
         ≡ plan (setup_of opening.now) (runs history.now opening.now.search) opening.now.width) }
 {
     let belief = belief(alloc, history, opening)?;
+    plan_of(alloc, history, opening, &belief)
+}
+
+/// The same, by its belief.
+pub(crate) fn plan_of(
+    alloc: Global,
+    history: &[Entry],
+    opening: &Opening,
+    belief: &Belief,
+) -> Result<Vec<u16>, Memory>
+    requires legal { IsLegal history.now }
+    requires opened { Contains (openings history.now) opening.now }
+    requires searching { standing history.now opening.now ≡ Searching }
+    requires setup { belief.now.setup ≡ setup_of opening.now }
+    requires runs { StandsFor belief.now (runs history.now opening.now.search) }
+    ensures { IfOk result (λ found. found.items
+        ≡ plan (setup_of opening.now) (runs history.now opening.now.search) opening.now.width) }
+{
     let mut positions = zeros(alloc, opening.width)?;
-    write_plan(history, opening, &belief, &mut positions);
+    write_plan(history, opening, belief, &mut positions);
     Ok(positions)
 }
 
@@ -104,16 +125,18 @@ fn write_plan(history: &[Entry], opening: &Opening, belief: &Belief, positions: 
 fn due_searching(
     alloc: Global,
     history: &[Entry],
+    rows: &[Row],
     opening: &Opening,
     moment: Moment,
 ) -> Result<Option<u16>, Memory>
     requires legal { IsLegal history.now }
     requires opened { Contains (openings history.now) opening.now }
+    requires rows { AreRows history.now rows.now }
     requires searching { standing history.now opening.now ≡ Searching }
     ensures { IfOk result (λ position. position ≡ due_searching history.now opening.now (moment_ms moment)) }
 {
-    let plan = plan(alloc, history, opening)?;
-    let open = open_positions(alloc, history, opening.search, Stage::Search, moment)?;
+    let plan = plan_by(alloc, history, rows, opening)?;
+    let open = open_positions_by(alloc, history, rows, opening.search, Stage::Search, moment)?;
     Ok(due_search(&plan, &open))
 }
 
@@ -128,15 +151,18 @@ pub(crate) fn reruns_at(position: u16, again: &[Run]) -> usize
 fn due_verifying(
     alloc: Global,
     history: &[Entry],
+    rows: &[Row],
     opening: &Opening,
     culprit: u16,
     moment: Moment,
 ) -> Result<Option<u16>, Memory>
-    requires { 1 ≤ culprit }
+    requires opened { Contains (openings history.now) opening.now }
+    requires rows { AreRows history.now rows.now }
+    requires positive { 1 ≤ culprit }
     ensures { IfOk result (λ position. position ≡ due_verifying history.now opening.now culprit (moment_ms moment)) }
 {
-    let again = reruns(alloc, history, opening.search)?;
-    let open = open_positions(alloc, history, opening.search, Stage::Verify, moment)?;
+    let again = reruns_by(alloc, history, rows, opening)?;
+    let open = open_positions_by(alloc, history, rows, opening.search, Stage::Verify, moment)?;
     let at_culprit = u8::try_from(reruns_at(culprit, &again)).unwrap_or(u8::MAX);
     let at_parent = u8::try_from(reruns_at(culprit - 1, &again)).unwrap_or(u8::MAX);
     Ok(due_verify(culprit, at_culprit, at_parent, &open, opening.reruns))
@@ -155,13 +181,29 @@ pub fn due(
     requires opened { Contains (openings history.now) opening.now }
     ensures { IfOk result (λ run. run ≡ due history.now opening.now (moment_ms moment)) }
 {
-    let (stage, position) = match standing(alloc, history, opening)? {
+    due_by(alloc, history, &[], opening, moment)
+}
+
+/// The same, by the rows that are kept.
+fn due_by(
+    alloc: Global,
+    history: &[Entry],
+    rows: &[Row],
+    opening: &Opening,
+    moment: Moment,
+) -> Result<Option<DueRun>, Memory>
+    requires legal { IsLegal history.now }
+    requires opened { Contains (openings history.now) opening.now }
+    requires rows { AreRows history.now rows.now }
+    ensures { IfOk result (λ run. run ≡ due history.now opening.now (moment_ms moment)) }
+{
+    let (stage, position) = match standing_by(alloc, history, rows, opening)? {
         Standing::Searching => {
-            let position = due_searching(alloc, history, opening, moment)?;
+            let position = due_searching(alloc, history, rows, opening, moment)?;
             (Stage::Search, position)
         }
         Standing::Verifying(culprit) => {
-            let position = due_verifying(alloc, history, opening, culprit, moment)?;
+            let position = due_verifying(alloc, history, rows, opening, culprit, moment)?;
             (Stage::Verify, position)
         }
         _ => return Ok(None),
@@ -178,16 +220,18 @@ pub fn due(
 fn due_in(
     alloc: Global,
     history: &[Entry],
+    rows: &[Row],
     what: &What,
     moment: Moment,
 ) -> Result<Option<DueRun>, Memory>
     requires legal { IsLegal history.now }
+    requires rows { AreRows history.now rows.now }
     requires held { IsHeld history.now what.now }
     ensures { IfOk result (λ run. run ≡ option_and_then (λ o. due history.now o (moment_ms moment)) (opening_in what.now)) }
 {
     match what.opening() {
         None => Ok(None),
-        Some(opening) => due(alloc, history, opening, moment),
+        Some(opening) => due_by(alloc, history, rows, opening, moment),
     }
 }
 
@@ -196,30 +240,54 @@ pub fn due_runs(alloc: Global, history: &[Entry], moment: Moment) -> Result<Vec<
     requires { IsLegal history.now }
     ensures { IfOk result (λ found. found.items ≡ due_runs history.now (moment_ms moment)) }
 {
+    due_runs_by(alloc, history, &[], moment)
+}
+
+/// The same, by the rows that are kept.
+fn due_runs_by(
+    alloc: Global,
+    history: &[Entry],
+    rows: &[Row],
+    moment: Moment,
+) -> Result<Vec<DueRun>, Memory>
+    requires legal { IsLegal history.now }
+    requires rows { AreRows history.now rows.now }
+    ensures { IfOk result (λ found. found.items ≡ due_runs history.now (moment_ms moment)) }
+{
     let mut found = Vec::new(alloc);
     for entry in history {
-        push_some(&mut found, due_in(alloc, history, &entry.what, moment)?)?;
+        push_some(
+            &mut found,
+            due_in(alloc, history, rows, &entry.what, moment)?,
+        )?;
     }
     Ok(found)
 }
 
 /// Of two due runs that of the search whose last lease stands earlier, and on a tie the first.
-fn sooner(history: &[Entry], run: DueRun, other: Option<DueRun>) -> DueRun
+fn sooner(history: &[Entry], rows: &[Row], run: DueRun, other: Option<DueRun>) -> DueRun
+    requires { AreRows history.now rows.now }
     ensures { result ≡ sooner history.now run other }
 {
-    match other {
-        Some(other) if last_lease(history, run.search) > last_lease(history, other.search) => other,
-        _ => run,
+    let Some(other) = other else {
+        return run;
+    };
+    let last = last_lease_by(history, rows, run.search);
+    if last_lease_by(history, rows, other.search) < last {
+        other
+    } else {
+        run
     }
 }
 
 /// The due run of the search whose last lease stands earliest, the first of them on a tie.
-fn soonest(history: &[Entry], runs: &[DueRun]) -> Option<DueRun>
+fn soonest(history: &[Entry], rows: &[Row], runs: &[DueRun]) -> Option<DueRun>
+    requires { AreRows history.now rows.now }
     ensures { result ≡ soonest history.now runs.now }
 {
     match runs {
         [] => None,
-        [run, rest @ ..] => Some(sooner(history, *run, soonest(history, rest))),
+        [run, rest @ ..] => Some(sooner(history, rows, *run, soonest(history, rows, rest))),
     }
 }
 
@@ -229,6 +297,20 @@ pub fn next_run(alloc: Global, history: &[Entry], moment: Moment) -> Result<Opti
     requires { IsLegal history.now }
     ensures { IfOk result (λ run. run ≡ next_run history.now (moment_ms moment)) }
 {
-    let runs = due_runs(alloc, history, moment)?;
-    Ok(soonest(history, &runs))
+    next_run_by(alloc, history, &[], moment)
+}
+
+/// The same, by the rows that are kept.
+pub(crate) fn next_run_by(
+    alloc: Global,
+    history: &[Entry],
+    rows: &[Row],
+    moment: Moment,
+) -> Result<Option<DueRun>, Memory>
+    requires legal { IsLegal history.now }
+    requires rows { AreRows history.now rows.now }
+    ensures { IfOk result (λ run. run ≡ next_run history.now (moment_ms moment)) }
+{
+    let runs = due_runs_by(alloc, history, rows, moment)?;
+    Ok(soonest(history, rows, &runs))
 }

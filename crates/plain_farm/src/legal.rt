@@ -2,9 +2,11 @@
 
 ghost use Rattle.std.specs.Prelude.{◌↔◌, take, IsTrue, IfOk};
 ghost use Rattle.farm_entry.specs.Legal.{IsLegal, IsNext};
+ghost use Rattle.plain_farm.specs.Rows.{AreRows};
 ghost use Rattle.plain_farm.specs.Stops.{IsFirstIllegal};
 
-use crate::decisions::decide;
+use crate::decisions::decide_by;
+use crate::rows::{Row, take_entry};
 use farm_entry::{Decision, Entry, What};
 use farm_types::Memory;
 use std::alloc::Global;
@@ -14,10 +16,19 @@ pub fn is_next(alloc: Global, history: &[Entry], entry: &Entry) -> Result<bool, 
     requires { IsLegal history.now }
     ensures { IfOk result (λ next. IsTrue next ↔ IsNext history.now entry.now) }
 {
+    is_next_by(alloc, history, &[], entry)
+}
+
+/// The same, by the rows that are kept.
+fn is_next_by(alloc: Global, history: &[Entry], rows: &[Row], entry: &Entry) -> Result<bool, Memory>
+    requires legal { IsLegal history.now }
+    requires rows { AreRows history.now rows.now }
+    ensures { IfOk result (λ next. IsTrue next ↔ IsNext history.now entry.now) }
+{
     let Some(command) = entry.what.command(alloc)? else {
         return Ok(false);
     };
-    match decide(alloc, history, &command, entry.at)? {
+    match decide_by(alloc, history, rows, &command, entry.at)? {
         Decision::New(made) => Ok(made == *entry),
         _ => Ok(false),
     }
@@ -38,17 +49,20 @@ fn is_founded(list: &[Entry]) -> bool
 
 /// The place of the first entry that may not stand where it does, so that the entries before it are a legal history
 /// (or none) and with it they are not. Nothing, exactly where the list is a legal history. An empty list, which isn't
-/// one, stops at place 0.
+/// one, stops at place 0. From place to place a row is kept of each search, so that none is gone through again for an entry
+/// that doesn't speak of it.
 pub fn first_illegal(alloc: Global, list: &[Entry]) -> Result<Option<usize>, Memory>
     ensures { IfOk result (IsFirstIllegal list.now) }
 {
     if !is_founded(list) {
         return Ok(Some(0));
     }
+    let mut rows = Vec::new(alloc);
     for place in 1..list.len() {
-        if !is_next(alloc, &list[..place], &list[place])? {
+        if !is_next_by(alloc, &list[..place], &rows, &list[place])? {
             return Ok(Some(place));
         }
+        take_entry(alloc, &list[..place + 1], &list[place], &mut rows)?;
     }
     Ok(None)
 }

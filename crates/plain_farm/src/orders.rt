@@ -9,9 +9,11 @@ ghost use Rattle.farm_entry.specs.History.{opening_in};
 ghost use Rattle.farm_entry.specs.Legal.{IsLegal};
 ghost use Rattle.farm_entry.specs.Orders.{confirmed_at, confirmed_searches, day_in, next_order_at, ordered};
 ghost use Rattle.farm_entry.specs.Standing.{standing};
+ghost use Rattle.plain_farm.specs.Rows.{AreRows};
 ghost use Rattle.plain_history.specs.Held.{IsHeld};
 
-use crate::standings::standing;
+use crate::kept::standing_by;
+use crate::rows::Row;
 use farm_entry::{Entry, Opening, OrderLine, Standing, What};
 use farm_rules::{Candidate, Draft, NoOrder};
 use farm_types::{CommitId, Memory, Moment};
@@ -42,8 +44,14 @@ fn confirmed_at(standing: Standing, opening: &Opening) -> Option<Candidate>
 }
 
 /// The search that an entry opened, if it opened one and its culprit is confirmed.
-fn confirmed_in(alloc: Global, history: &[Entry], what: &What) -> Result<Option<Candidate>, Memory>
+fn confirmed_in(
+    alloc: Global,
+    history: &[Entry],
+    rows: &[Row],
+    what: &What,
+) -> Result<Option<Candidate>, Memory>
     requires legal { IsLegal history.now }
+    requires rows { AreRows history.now rows.now }
     requires held { IsHeld history.now what.now }
     ensures { IfOk result (λ found. found
         ≡ option_and_then (λ o. confirmed_at (standing history.now o) o) (opening_in what.now)) }
@@ -51,7 +59,7 @@ fn confirmed_in(alloc: Global, history: &[Entry], what: &What) -> Result<Option<
     match what.opening() {
         None => Ok(None),
         Some(opening) => {
-            let standing = standing(alloc, history, opening)?;
+            let standing = standing_by(alloc, history, rows, opening)?;
             Ok(confirmed_at(standing, opening))
         }
     }
@@ -62,9 +70,18 @@ pub fn confirmed_searches(alloc: Global, history: &[Entry]) -> Result<Vec<Candid
     requires { IsLegal history.now }
     ensures { IfOk result (λ found. found.items ≡ confirmed_searches history.now) }
 {
+    confirmed_by(alloc, history, &[])
+}
+
+/// The same, by the rows that are kept.
+fn confirmed_by(alloc: Global, history: &[Entry], rows: &[Row]) -> Result<Vec<Candidate>, Memory>
+    requires legal { IsLegal history.now }
+    requires rows { AreRows history.now rows.now }
+    ensures { IfOk result (λ found. found.items ≡ confirmed_searches history.now) }
+{
     let mut found = Vec::new(alloc);
     for entry in history {
-        push_some(&mut found, confirmed_in(alloc, history, &entry.what)?)?;
+        push_some(&mut found, confirmed_in(alloc, history, rows, &entry.what)?)?;
     }
     Ok(found)
 }
@@ -141,7 +158,21 @@ pub fn next_order_at(
     requires { IsLegal history.now }
     ensures { IfOk result (λ next. next ≡ next_order_at history.now (moment_ms moment)) }
 {
-    let searches = confirmed_searches(alloc, history)?;
+    next_order_by(alloc, history, &[], moment)
+}
+
+/// The same, by the rows that are kept.
+pub(crate) fn next_order_by(
+    alloc: Global,
+    history: &[Entry],
+    rows: &[Row],
+    moment: Moment,
+) -> Result<Result<Draft, NoOrder>, Memory>
+    requires legal { IsLegal history.now }
+    requires rows { AreRows history.now rows.now }
+    ensures { IfOk result (λ next. next ≡ next_order_at history.now (moment_ms moment)) }
+{
+    let searches = confirmed_by(alloc, history, rows)?;
     let lines = order_lines(alloc, history)?;
     let candidates = candidates(alloc, &searches, &lines)?;
     let Some(first) = earliest(&candidates) else {

@@ -49,9 +49,25 @@ pub fn belief(alloc: Global, history: &[Entry], opening: &Opening) -> Result<Bel
     ensures setup { IfOk result (λ belief. belief.setup ≡ setup_of opening.now) }
     ensures runs { IfOk result (λ belief. StandsFor belief (runs history.now opening.now.search)) }
 {
-    let mut belief = first_belief(alloc, opening)?;
     let told = runs(alloc, history, opening.search)?;
-    tell(&mut belief, &told);
+    belief_after(alloc, history, opening, &told)
+}
+
+/// The same, by the list of its runs.
+pub(crate) fn belief_after(
+    alloc: Global,
+    history: &[Entry],
+    opening: &Opening,
+    told: &[Run],
+) -> Result<Belief, Memory>
+    requires legal { IsLegal history.now }
+    requires opened { Contains (openings history.now) opening.now }
+    requires runs { told.now ≡ runs history.now opening.now.search }
+    ensures setup { IfOk result (λ belief. belief.setup ≡ setup_of opening.now) }
+    ensures runs { IfOk result (λ belief. StandsFor belief (runs history.now opening.now.search)) }
+{
+    let mut belief = first_belief(alloc, opening)?;
+    tell(&mut belief, told);
     Ok(belief)
 }
 
@@ -139,7 +155,11 @@ fn standing_of_outcome(culprit: u16, asked: u8, again: &[Run]) -> Standing
 // Where the search stands.
 
 /// What the hypothesis at the bar comes to: the last one says that there is no culprit, the others name a suspect.
-fn standing_of_reached(opening: &Opening, again: &[Run], reached: Option<u16>) -> Standing
+pub(crate) fn standing_of_reached(
+    opening: &Opening,
+    again: &[Run],
+    reached: Option<u16>,
+) -> Standing
     ensures { result ≡ standing_of_reached opening.now again.now reached }
 {
     match reached {

@@ -1,4 +1,5 @@
 pub mod FirstLines
 pub mod Rows
 pub mod Tables
+pub mod Chains
 pub mod Asked

@@ -1,11 +1,11 @@
 -- What is read of the lines of a table.
-use Rattle.std.proofs.Common.{◌≡◌, ℕ, ◌≤◌, ◌-◌, Bool, true, false, nat_le, List, length, get_or, take, drop, Option, Some, None, Result, Ok, Err, inl, inr, refl, sym, ap, subst, ◌∙◌, arith}
+use Rattle.std.proofs.Common.{◌≡◌, ℕ, ◌≤◌, ◌-◌, false, nat_le, List, length, get_or, take, drop, Option, Some, None, Result, Ok, inl, inr, refl, sym, ap, subst, ◌∙◌, arith}
 use Rattle.std.specs.Prelude.{is_none}
 use Rattle.std.specs.Str.{IsAscii, IsUtf8}
 use Rattle.std.proofs.lemmas.Bool.{and_parts, cases_lt, leb-true}
 use Rattle.std.proofs.lemmas.List.{get_or_past, take_rest}
 use Rattle.std.proofs.lemmas.Str.{IsUtf8-from_ascii}
-use Rattle.farm_types.specs.Limits.{IsName, is_printable}
+use Rattle.farm_types.specs.Limits.{IsName}
 use Rattle.farm_types.specs.Name.{name_fault}
 use Rattle.farm_types.specs.declared.name.NameFault.{NameFault}
 use Rattle.farm_types.specs.declared.name.TheConstants.{NAME_FIRST_BYTE, NAME_LAST_BYTE}

@@ -1,5 +1,5 @@
 -- The rows of a table, one line after the other.
-use Rattle.std.proofs.Common.{◌≡◌, ℕ, ◌+◌, Bool, true, false, List, [], ◌∷◌, ◌++◌, Option, Some, None, Result, Ok, Err, refl, sym, ap, ◌∙◌, append_assoc}
+use Rattle.std.proofs.Common.{◌≡◌, ℕ, ◌+◌, true, false, List, [], ◌∷◌, ◌++◌, Some, Result, Ok, Err, refl, sym, ap, ◌∙◌, append_assoc}
 use Rattle.test_runners.specs.Rows.{TableRow, row_of}
 use Rattle.test_runners.specs.Tables.{is_row_of, rows_of, verdict_in, with_row}
 use Rattle.test_runners.specs.declared.row.RowFault.{RowFault}

@@ -1,5 +1,5 @@
 -- The rows of a table of verdicts, as lines write them.
-use Rattle.std.specs.Prelude.{◌≡◌, ℕ, List, length, take, drop, is_none, if◌then◌else◌, Result, Ok, Err, codes, ⊤}
+use Rattle.std.specs.Prelude.{◌≡◌, ℕ, List, take, drop, is_none, if◌then◌else◌, Result, Ok, Err, codes, ⊤}
 use Rattle.std.specs.Str.{bytes_eq}
 use Rattle.hex.specs.Hex.{decode_sized}
 use Rattle.hex.specs.declared.error.FromHexError.{FromHexError}

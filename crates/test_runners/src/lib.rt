@@ -12,6 +12,7 @@
 #![tactic(auto)]
 
 mod host;
+mod index;
 mod lines;
 mod named;
 mod row;

@@ -3,6 +3,7 @@ ghost use Rattle.std.specs.Prelude.{◌≡◌, ◌≢◌, Err, IfErr, IfOk, IsEr
 ghost use Rattle.farm_types.specs.CommitId.{id_bytes};
 ghost use Rattle.test_runners.specs.Tables.{table_of, verdict_in};
 
+use crate::index::Index;
 use crate::lines::split_line;
 use crate::row::{Row, RowFault, read_row};
 use farm_types::{CommitId, Name};
@@ -23,6 +24,7 @@ pub enum TableFault {
 #[derive(Debug, Drop)]
 pub struct Table {
     rows: Vec<Row>,
+    index: Index,
 }
 
 impl Model for Table {
@@ -32,6 +34,10 @@ impl Model for Table {
     ghost Value = { List TableRow };
 
     ghost view = { λ table. map row_seen table.rows.items };
+
+    ghost use Rattle.test_runners.specs.Index.{IsIndex};
+
+    ghost invariant = { λ table. IsIndex (map row_seen table.rows.items) table.index.heads.items table.index.next.items };
 }
 
 /// The table that a text writes: lines of a commit's id in 40 digits, `pass` or `fail`, and the name of a test, with one
@@ -61,19 +67,17 @@ pub fn read_table(alloc: Global, text: &[u8]) -> Result<Table, TableFault>
         rest = behind;
         number += 1;
     }
-    Ok(Table { rows })
+    match Index::of(alloc, &rows) {
+        Ok(index) => Ok(Table { rows, index }),
+        Err(_) => Err(TableFault::Memory),
+    }
 }
 
 impl Table {
-    /// The verdict of the first row of this test at this commit.
+    /// The verdict of the first row of this test at this commit. It is found by an index, so that the number of rows counts little.
     pub fn verdict(&self, test: &Name, commit: &CommitId) -> Option<Verdict>
         ensures { result ≡ verdict_in self.now test.now (id_bytes commit.now) }
     {
-        for row in &self.rows {
-            if row.is_of(test, commit) {
-                return Some(row.verdict);
-            }
-        }
-        None
+        self.index.verdict(&self.rows, test, commit)
     }
 }

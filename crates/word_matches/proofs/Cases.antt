@@ -107,6 +107,23 @@ rates-at (a ∷ []) = taken_at refl refl refl
 rates-at (a ∷ b ∷ ws) =
     refused_at refl (ap (λ (b : Bool). b || false) (many 1 1 (length (a ∷ b ∷ ws)) (omega arith)))
 
+drill-at : (ws : List Text) → DecidedAt (codes "drill") (sub 8) ws
+unfolding clap_on_literals
+drill-at [] = refused_at refl refl
+drill-at (a ∷ []) = refused_at refl refl
+drill-at (a ∷ b ∷ []) = taken_at refl refl refl
+drill-at (a ∷ b ∷ c ∷ ws) =
+    refused_at refl (ap (λ (b : Bool). b || false) (many 2 2 (length (a ∷ b ∷ c ∷ ws)) (omega arith)))
+
+follow-at : (ws : List Text) → DecidedAt (codes "follow") (sub 9) ws
+unfolding clap_on_literals
+follow-at [] = refused_at refl refl
+follow-at (a ∷ []) = refused_at refl refl
+follow-at (a ∷ b ∷ []) = refused_at refl refl
+follow-at (a ∷ b ∷ c ∷ []) = taken_at refl refl refl
+follow-at (a ∷ b ∷ c ∷ d ∷ ws) =
+    refused_at refl (ap (λ (b : Bool). b || false) (many 3 3 (length (a ∷ b ∷ c ∷ d ∷ ws)) (omega arith)))
+
 -- from the command's words to all
 decided-at : (name : Text) (s : Shape) (ws : List Text) → Leads name s → is_plain name ≡ true → list_all is_plain ws ≡ true
     → DecidedAt name s ws → Decided (name ∷ ws)
@@ -158,6 +175,14 @@ rates-leads : Leads (codes "rates") (sub 7)
 unfolding clap_on_literals
 rates-leads = record { stops = refl; faultless = refl; finds = refl }
 
+drill-leads : Leads (codes "drill") (sub 8)
+unfolding clap_on_literals
+drill-leads = record { stops = refl; faultless = refl; finds = refl }
+
+follow-leads : Leads (codes "follow") (sub 9)
+unfolding clap_on_literals
+follow-leads = record { stops = refl; faultless = refl; finds = refl }
+
 -- a fault of the first word is one of all
 first-fault : (k rest more : Kinds) → is_faultless k ≡ false → is_faultless (or_else (or_else k rest) more) ≡ false
 first-fault [] rest more fault = absurd (cc)
@@ -195,8 +220,10 @@ decided (w ∷ ws) plain =
     by_name (codes "serve") w ws (sub 5) serve-leads refl rest (serve-at ws) (λ not_serve.
     by_name (codes "work") w ws (sub 6) work-leads refl rest (work-at ws) (λ not_work.
     by_name (codes "rates") w ws (sub 7) rates-leads refl rest (rates-at ws) (λ not_rates.
-    unnamed-refused w ws plain (rw (not_judge, not_run, not_found, not_show, not_audit, not_serve, not_work, not_rates) refl)
-    (rw (not_judge, not_run, not_found, not_show, not_audit, not_serve, not_work, not_rates) refl)))))))))
+    by_name (codes "drill") w ws (sub 8) drill-leads refl rest (drill-at ws) (λ not_drill.
+    by_name (codes "follow") w ws (sub 9) follow-leads refl rest (follow-at ws) (λ not_follow.
+    unnamed-refused w ws plain (rw (not_judge, not_run, not_found, not_show, not_audit, not_serve, not_work, not_rates, not_drill, not_follow) refl)
+    (rw (not_judge, not_run, not_found, not_show, not_audit, not_serve, not_work, not_rates, not_drill, not_follow) refl)))))))))))
 
 -- where no fault came, what was read is what fits
 pub taken-fitting : (ws : List Text) → Decided ws → fault_of command_line ws ≡ []

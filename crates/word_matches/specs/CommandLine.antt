@@ -76,9 +76,21 @@ rates_ids = codes "journal" ∷ []
 abbrev pub rates_line : App
 rates_line = with_subcommand work_line (leaf (codes "rates") rates_ids).top
 
+abbrev pub drill_ids : List Text
+drill_ids = codes "searches" ∷ codes "workers" ∷ []
+
+abbrev pub drill_line : App
+drill_line = with_subcommand rates_line (leaf (codes "drill") drill_ids).top
+
+abbrev pub follow_ids : List Text
+follow_ids = codes "journal" ∷ codes "address" ∷ codes "rounds" ∷ []
+
+abbrev pub follow_line : App
+follow_line = with_subcommand drill_line (leaf (codes "follow") follow_ids).top
+
 -- the whole command line
 abbrev pub command_line : App
-command_line = rates_line
+command_line = follow_line
 
 -- the name of a command and the words found under these names, where each was
 abbrev pub read_words : List Text → List Row → Option (List Text)
@@ -105,6 +117,8 @@ read_of name found =
     else if bytes_eq name (codes "serve") then read_named (codes "serve") serve_ids found
     else if bytes_eq name (codes "work") then read_named (codes "work") work_ids found
     else if bytes_eq name (codes "rates") then read_named (codes "rates") rates_ids found
+    else if bytes_eq name (codes "drill") then read_named (codes "drill") drill_ids found
+    else if bytes_eq name (codes "follow") then read_named (codes "follow") follow_ids found
     else None
 
 abbrev pub read_rows : Option (Text × List Row) → Option (List Text)

@@ -31,6 +31,8 @@ rows =
     ∷ taking (codes "serve") 4
     ∷ taking (codes "work") 4
     ∷ taking (codes "rates") 1
+    ∷ taking (codes "drill") 2
+    ∷ taking (codes "follow") 3
     ∷ []
 
 -- the name of the row, and as many words as it takes
@@ -60,3 +62,5 @@ words_of (matched.Serve journal address handlers links) =
 words_of (matched.Work address worker runs runner) =
     codes "work" ∷ address.now ∷ worker.now ∷ runs.now ∷ runner.now ∷ []
 words_of (matched.Rates journal) = codes "rates" ∷ journal.now ∷ []
+words_of (matched.Drill searches workers) = codes "drill" ∷ searches.now ∷ workers.now ∷ []
+words_of (matched.Follow journal address rounds) = codes "follow" ∷ journal.now ∷ address.now ∷ rounds.now ∷ []

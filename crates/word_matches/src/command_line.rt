@@ -93,5 +93,7 @@ pub(crate) fn command_line<'a>(alloc: Global) -> Result<Command<'a>, AllocError>
         "work",
         &["address", "worker", "runs", "runner"],
     )?;
-    with_leaf(alloc, line, "rates", &["journal"])
+    let line = with_leaf(alloc, line, "rates", &["journal"])?;
+    let line = with_leaf(alloc, line, "drill", &["searches", "workers"])?;
+    with_leaf(alloc, line, "follow", &["journal", "address", "rounds"])
 }

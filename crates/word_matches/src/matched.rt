@@ -57,4 +57,20 @@ pub enum Matched<'a> {
         /// The journal's path.
         journal: &'a str,
     },
+    /// `drill SEARCHES WORKERS`.
+    Drill {
+        /// How many searches the drill opens.
+        searches: &'a str,
+        /// How many workers it has.
+        workers: &'a str,
+    },
+    /// `follow JOURNAL ADDRESS ROUNDS`.
+    Follow {
+        /// The path of the copy.
+        journal: &'a str,
+        /// The address of the service.
+        address: &'a str,
+        /// How often it asks at most.
+        rounds: &'a str,
+    },
 }

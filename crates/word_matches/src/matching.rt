@@ -3,7 +3,7 @@
 ghost use Rattle.std.specs.Prelude.{◌≡◌, ◌≢◌, [], IfOk, MatchOption, codes, map, option_map, string_bytes, true};
 ghost use Rattle.std.specs.List.{list_all};
 ghost use Rattle.clap.specs.Words.{fault_of, first_of, found_of, rows_of, subcommand_of, subcommand_rows_of};
-ghost use Rattle.word_matches.specs.CommandLine.{command_line, found_ids, rates_ids, read_named, read_of, read_rows, read_run, serve_ids, work_ids};
+ghost use Rattle.word_matches.specs.CommandLine.{command_line, drill_ids, follow_ids, found_ids, rates_ids, read_named, read_of, read_rows, read_run, serve_ids, work_ids};
 ghost use Rattle.word_matches.specs.Forms.{fitting, is_plain, words_of};
 
 use crate::command_line::command_line;
@@ -95,6 +95,8 @@ fn read_command<'a>(name: &str, words: &ArgMatches<'a>) -> Option<Matched<'a>>
         "serve" => read_serve(words),
         "work" => read_work(words),
         "rates" => read_rates(words),
+        "drill" => read_drill(words),
+        "follow" => read_follow(words),
         _ => None,
     }
 }
@@ -158,5 +160,26 @@ fn read_rates<'a>(words: &ArgMatches<'a>) -> Option<Matched<'a>>
 {
     Some(Matched::Rates {
         journal: word(words, "journal")?,
+    })
+}
+
+/// `drill`.
+fn read_drill<'a>(words: &ArgMatches<'a>) -> Option<Matched<'a>>
+    ensures { option_map words_of result ≡ read_named (codes "drill") drill_ids (rows_of (found_of words.now)) }
+{
+    Some(Matched::Drill {
+        searches: word(words, "searches")?,
+        workers: word(words, "workers")?,
+    })
+}
+
+/// `follow`.
+fn read_follow<'a>(words: &ArgMatches<'a>) -> Option<Matched<'a>>
+    ensures { option_map words_of result ≡ read_named (codes "follow") follow_ids (rows_of (found_of words.now)) }
+{
+    Some(Matched::Follow {
+        journal: word(words, "journal")?,
+        address: word(words, "address")?,
+        rounds: word(words, "rounds")?,
     })
 }

@@ -3,7 +3,7 @@ use Rattle.std.proofs.Common.{Result, [], ◌∷◌, ◌∙◌, ap, subst, List,
 use Rattle.farm_disk.specs.Images.{DiskState}
 use Rattle.farm_disk.proofs.Moments.{settled-sync}
 use Rattle.farm_journal.specs.Outcome.{SyncEnds}
-use Rattle.farm_journal.specs.Created.{IsUnbornOrFirst}
+use Rattle.farm_journal.specs.Created.{IsUnborn, IsUnbornOrFirst}
 use Rattle.farm_journal.specs.declared.disk_calls.DiskFault.{DiskFault}
 use Rattle.farm_journal.proofs.Births.{birth-start, birth-sync, birth-write, zero-unborn, torn-behind, staged-birth, torn-birth, first-either, first-rests, written-birth}
 use Rattle.farm_journal.proofs.Run.{on_ok}
@@ -98,3 +98,11 @@ returns-clause-done g c = on_ok c.sync-2.result _ (λ u is tells.
     (λ (r : Result (Unit {0}) DiskFault). SyncEnds r (g.D.Disk.told c.write-2.new.disk)
     (g.D.Disk.told c.sync-2.new.disk)) is (c.sync-2.ensures.ends (c.write-2.ensures.same ∙ tells_2)) in
     first-rests p staged.0 _ _ _ c.requires.payload synced (c.in_ok-write-2.ensures.ends tells_2) last)
+
+pub returns-in_err-write-clause-memory : goal.returns-in_err-write-clause-memory
+returns-in_err-write-clause-memory g c wanting tells =
+    let ready = c.requires.ready tells in
+    birth-write _ IsUnborn 1 c.args.frame.now _ _ c.write.result
+    (birth-start _ IsUnborn ready.settled (zero-unborn (g.D.Disk.told c.args.disk.now).bytes ready.birth)) ready.settled
+    (λ image torn. zero-unborn image (torn-behind _ (g.D.Disk.told c.args.disk.now).bytes image ready.birth torn))
+    (c.write.ensures.ends tells)

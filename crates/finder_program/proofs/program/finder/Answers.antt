@@ -5,6 +5,7 @@ use Rattle.link_io.specs.Streams.{streams}
 use Rattle.rates_report.specs.RateLines.{rates_text}
 use Rattle.farm_serve.specs.Outside.{disk_seen, output_seen}
 use Rattle.finder_program.proofs.Completing.{found-completes, run_journal-completes, shown-completes}
+use Rattle.finder_program.proofs.Following.{unread-follow}
 use Rattle.finder_program.proofs.Foundings.{found-numbers}
 use Rattle.finder_program.proofs.Unread.{unread-not_opened, unread-served}
 use Rattle.finder_program.proofs.Working.{unread-work}
@@ -64,5 +65,11 @@ returns-in-Err-clause-run_journal g c = λ is. inl (unread-not_opened _ _)
 pub returns-in-Err-clause-serve : goal.returns-in-Err-clause-serve
 returns-in-Err-clause-serve g c = λ handlers links is. unread-served links _ _
 
+pub returns-in-Err-clause-drill : goal.returns-in-Err-clause-drill
+returns-in-Err-clause-drill g c = λ searches workers is. (inl (refl, refl), refl, refl)
+
 pub returns-in-Err-clause-work : goal.returns-in-Err-clause-work
 returns-in-Err-clause-work g c = λ worker runs is. (unread-work worker runs _ _, refl, refl)
+
+pub returns-in-Err-clause-follow : goal.returns-in-Err-clause-follow
+returns-in-Err-clause-follow g c = λ rounds is. (unread-follow rounds _, refl)

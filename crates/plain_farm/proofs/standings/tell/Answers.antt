@@ -1,4 +1,4 @@
-use Rattle.std.proofs.Common.{List, sym, subst, ◌∙◌}
+use Rattle.std.proofs.Common.{sym, subst, ◌∙◌}
 use Rattle.weight_exact.specs.Weights.{Setup}
 use Rattle.weight_exact.specs.declared.run.Verdict.TheVariants.{Pass}
 use Rattle.farm_laws.specs.Loads.{LoadsFit}

@@ -1,4 +1,4 @@
-use Rattle.std.proofs.Common.{◌≡◌, ℕ, sym, ap, ◌∙◌, length, take, arith}
+use Rattle.std.proofs.Common.{◌≡◌, ℕ, sym, ap, ◌∙◌, take, arith}
 use Rattle.std.proofs.lemmas.List.{length-take, take_min}
 use Rattle.hex.proofs.HexLemmas.{decode_sized-ok}
 use Rattle.test_runners.proofs.row.read_commit.Goals as goal

@@ -1,7 +1,7 @@
 use Rattle.std.proofs.Common.{◌≡◌, ◌∙◌, ap, ap₂, codes, []}
 use Rattle.std.proofs.lemmas.Result.{IfOk-weaker}
 use Rattle.clap.specs.Words.{App, app_of, with_subcommand}
-use Rattle.word_matches.specs.CommandLine.{audit_line, empty_line, found_ids, found_line, judge_line, leaf, rates_ids, run_leaf, run_line, serve_ids, serve_line, show_ids, show_line, work_ids, work_line}
+use Rattle.word_matches.specs.CommandLine.{audit_line, drill_ids, drill_line, empty_line, follow_ids, found_ids, found_line, judge_line, leaf, rates_ids, rates_line, run_leaf, run_line, serve_ids, serve_line, show_ids, show_line, work_ids, work_line}
 use Rattle.word_matches.proofs.Commands.{third-denied}
 use Rattle.word_matches.proofs.command_line.command_line.Goals as goal
 
@@ -24,6 +24,10 @@ returns c =
     c.in_ok-line-6.ensures ∙ ap (λ (a : App). with_subcommand a (leaf (codes "serve") serve_ids).top) audit in
     let work : app_of c.in_ok-line-7.line ≡ work_line =
     c.in_ok-line-7.ensures ∙ ap (λ (a : App). with_subcommand a (leaf (codes "work") work_ids).top) serve in
-    IfOk-weaker c.with_leaf-7.result _ _
-    (λ line is. is ∙ ap (λ (a : App). with_subcommand a (leaf (codes "rates") rates_ids).top) work)
-    c.with_leaf-7.ensures
+    let rates : app_of c.in_ok-line-8.line ≡ rates_line =
+    c.in_ok-line-8.ensures ∙ ap (λ (a : App). with_subcommand a (leaf (codes "rates") rates_ids).top) work in
+    let drill : app_of c.in_ok-line-9.line ≡ drill_line =
+    c.in_ok-line-9.ensures ∙ ap (λ (a : App). with_subcommand a (leaf (codes "drill") drill_ids).top) rates in
+    IfOk-weaker c.with_leaf-9.result _ _
+    (λ line is. is ∙ ap (λ (a : App). with_subcommand a (leaf (codes "follow") follow_ids).top) drill)
+    c.with_leaf-9.ensures

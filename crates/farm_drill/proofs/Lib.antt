@@ -1,0 +1,13 @@
+mod Lists
+mod Asks
+mod Leases
+mod Reports
+mod Orders
+mod Growing
+mod Marks
+mod Counts
+mod Steps
+mod Missing
+mod Rest
+mod Played
+mod Crossing

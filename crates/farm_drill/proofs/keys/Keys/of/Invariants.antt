@@ -1,0 +1,9 @@
+use Rattle.std.proofs.Common.{◌≡◌, length, take}
+use Rattle.farm_drill.specs.Free.{AreMarked}
+use Rattle.farm_drill.proofs.keys.Keys.of.Given as goal
+
+abbrev pub invariant-loop-entry : goal.invariant-loop-entry
+invariant-loop-entry l = record {
+  all : length l.used.items ≡ length l.history;
+  marked : AreMarked (take l.entry-index l.history) l.used.items;
+}

@@ -1,0 +1,21 @@
+use Rattle.std.proofs.Common.{◌≡◌, ◌∷◌, ◌-◌, [], length}
+use Rattle.list_prefix.specs.Prefix.{IsPrefix}
+use Rattle.farm_entry.specs.Legal.{IsLegal}
+use Rattle.farm_entry.specs.declared.limits.TheConstants.{MAX_ENTRIES}
+use Rattle.drill_plan.specs.Start.{drill_founding}
+use Rattle.farm_drill.specs.Ends.{AllReported}
+use Rattle.farm_drill.specs.Free.{AreFree}
+use Rattle.farm_drill.proofs.runs.lease_rest.Given as goal
+
+abbrev pub invariant-loop-keys : goal.invariant-loop-keys
+invariant-loop-keys l = record {
+  decided : l.store.pending ≡ [];
+  founded : IsPrefix (drill_founding ∷ []) l.store.history;
+  legal : IsLegal l.store.history;
+  reported : AllReported l.store.history;
+  longer : IsPrefix l.fn.store.history l.store.history;
+  free : AreFree l.store.history l.keys;
+}
+
+abbrev pub decreases-loop-keys : goal.decreases-loop-keys
+decreases-loop-keys l = MAX_ENTRIES - length l.store.history

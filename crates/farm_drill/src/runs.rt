@@ -1,0 +1,111 @@
+//! What is left of the runs when the workers have ended.
+ghost use Rattle.std.specs.Prelude.{◌≡◌, ◌++◌, ◌∷◌, ◌⊎◌, ℕ, [], IfOk, OnOk, IfSome, IfNone, None};
+ghost use Rattle.list_prefix.specs.Prefix.{IsPrefix};
+ghost use Rattle.farm_entry.specs.History.{all_leases, is_reported, place_of_key};
+ghost use Rattle.farm_entry.specs.Legal.{IsLegal};
+ghost use Rattle.drill_plan.specs.Start.{drill_founding};
+ghost use Rattle.farm_drill.specs.Ends.{AllReported, AreRun, IsFull};
+ghost use Rattle.farm_drill.specs.Steps.{FindsNone, HandsOut, run_given, run_of};
+
+use crate::asking::ask;
+use crate::keys::Keys;
+use crate::names::{caller_name, drill_moment};
+use crate::reporting::{report, report_missing};
+use farm_disk::CalmDisk;
+use farm_entry::{Command, LeasedRun, Refusal, Reply};
+use farm_store::Store;
+use farm_types::{Key, Memory};
+use std::alloc::Global;
+
+/// Decides what is pending, reports the runs that have no report, and leases and reports until no run is due or the
+/// history is full.
+pub(crate) fn end_runs(alloc: Global, store: &mut Store<CalmDisk>) -> Result<(), Memory>
+    requires founded { IsPrefix (drill_founding ∷ []) store.old.history }
+    ensures ended { OnOk result (IsFull store.new.history ⊎ AreRun store.new.history) }
+    ensures decided { OnOk result (store.new.pending ≡ []) }
+    ensures longer { IsPrefix store.old.history store.new.history }
+    ensures legal { OnOk result (IsLegal store.new.history) }
+{
+    let _shown = ask(alloc, store, &Command::ShowFarm, drill_moment())?;
+    if !report_missing(alloc, store)? {
+        return Ok(());
+    }
+    lease_rest(alloc, store)
+}
+
+/// Leases and reports until no run is due or the history is full.
+fn lease_rest(alloc: Global, store: &mut Store<CalmDisk>) -> Result<(), Memory>
+    requires decided { store.old.pending ≡ [] }
+    requires reported { AllReported store.old.history }
+    requires founded { IsPrefix (drill_founding ∷ []) store.old.history }
+    requires legal { IsLegal store.old.history }
+    ensures ended { OnOk result (IsFull store.new.history ⊎ AreRun store.new.history) }
+    ensures decided { OnOk result (store.new.pending ≡ []) }
+    ensures longer { IsPrefix store.old.history store.new.history }
+    ensures legal { OnOk result (IsLegal store.new.history) }
+{
+    let mut keys = Keys::of(alloc, store.history())?;
+    loop {
+        let key = keys.fresh(alloc, store.history())?;
+        match lease(alloc, store, key)? {
+            None => return Ok(()),
+            Some(lease) => {
+                if !report(alloc, store, lease)? {
+                    return Ok(());
+                }
+            }
+        }
+    }
+}
+
+/// Leases the run that is due, if one is and the history isn't full.
+fn lease(alloc: Global, store: &mut Store<CalmDisk>, key: Key) -> Result<Option<LeasedRun>, Memory>
+    requires decided { store.old.pending ≡ [] }
+    requires free { place_of_key store.old.history key ≡ None }
+    requires legal { IsLegal store.old.history }
+    ensures leased { IfOk result
+        (λ given. IfSome given (λ lease. HandsOut store.old.history key lease store.new.history)) }
+    ensures none { IfOk result (λ given. IfNone given ((store.new.history ≡ store.old.history)
+        × (IsFull store.new.history ⊎ FindsNone store.new.history))) }
+    ensures decided { OnOk result (store.new.pending ≡ []) }
+    ensures longer { IsPrefix store.old.history store.new.history }
+    ensures legal { IsLegal store.new.history }
+{
+    let worker = caller_name(alloc)?;
+    let command = Command::Lease { key, worker };
+    let given = ask(alloc, store, &command, drill_moment())?;
+    Ok(run_given(&given))
+}
+
+/// The run that an answer hands out, if it does.
+fn run_given(given: &Result<Reply, Refusal>) -> Option<LeasedRun>
+    ensures { result ≡ run_given given.now }
+{
+    match given {
+        Ok(reply) => run_of(reply),
+        Err(_) => None,
+    }
+}
+
+/// The run that a reply hands out, if it does.
+fn run_of(reply: &Reply) -> Option<LeasedRun>
+    ensures { result ≡ run_of reply.now }
+{
+    match reply {
+        Reply::Leased {
+            run,
+            search,
+            stage,
+            position,
+            deadline,
+            ..
+        } => Some(LeasedRun {
+            run: *run,
+            search: *search,
+            stage: *stage,
+            position: *position,
+            deadline: *deadline,
+        }),
+        _ => None,
+    }
+}

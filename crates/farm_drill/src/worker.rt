@@ -1,0 +1,227 @@
+//! A worker of a drill.
+ghost use Rattle.std.specs.Prelude.{◌≡◌, Ok, IfSome};
+ghost use Rattle.turn_lock.specs.Known.{IsReady};
+ghost use Rattle.drill_plan.specs.Plan.{planned_verdict};
+ghost use Rattle.farm_drill.specs.Work.{TakesLease};
+
+use crate::names::{drill_moment, worker_name};
+use drill_plan::planned_verdict;
+use farm_disk::CalmDisk;
+use farm_entry::{Command, MAX_ENTRIES, Refusal, Reply};
+use farm_store::CallFault;
+use farm_types::{Key, Memory, Name};
+use shared_farm::{Pass, SharedFarm};
+use std::alloc::Global;
+use std::sync::Wait;
+use weight_exact::Verdict;
+use worker_core::{Action, Event, WorkerCore};
+
+/// How a worker came to its end.
+#[derive(Clone, Copy, Debug, PartialEq, Eq)]
+pub(crate) enum Ended {
+    /// No run was due, or the farm refused what it didn't refuse to a worker before.
+    Done,
+    /// Out of memory.
+    Memory,
+}
+
+impl Ended {
+    /// How two workers came to their end: out of memory where one of them did.
+    pub(crate) fn and(self, other: Ended) -> Ended {
+        match self {
+            Ended::Done => other,
+            Ended::Memory => Ended::Memory,
+        }
+    }
+}
+
+impl From<Memory> for Ended {
+    ghost use Rattle.std.specs.Prelude.{◌≡◌};
+    ghost use Rattle.farm_drill.specs.declared.worker.Ended.TheVariants as ended;
+
+    ghost from_gives = { λ _ end. end ≡ ended.Memory };
+
+    fn from(_memory: Memory) -> Ended {
+        Ended::Memory
+    }
+}
+
+impl From<CallFault> for Ended {
+    ghost from_gives = { λ _ _. Unit {0} };
+
+    fn from(fault: CallFault) -> Ended {
+        match fault {
+            CallFault::Memory => Ended::Memory,
+            _ => Ended::Done,
+        }
+    }
+}
+
+/// The run that a worker leased last: its search, and its position there.
+#[derive(Clone, Copy, Debug, PartialEq, Eq)]
+pub(crate) struct Held {
+    pub(crate) search: u32,
+    pub(crate) position: u16,
+}
+
+/// A worker: who it is, how many keys it has drawn, and the run that it leased last.
+#[derive(Drop)]
+pub(crate) struct Worker {
+    number: u32,
+    name: Name,
+    core: WorkerCore,
+    drawn: u64,
+    held: Option<Held>,
+}
+
+impl Worker {
+    /// A worker that did nothing yet, and leases as many runs as a farm may hand out.
+    fn start(alloc: Global, number: u32) -> Result<Worker, Memory> {
+        Ok(Worker {
+            number,
+            name: worker_name(alloc, number)?,
+            core: WorkerCore::start(MAX_ENTRIES as u32),
+            drawn: 0,
+            held: None,
+        })
+    }
+
+    /// Leases, runs and reports until no run is due.
+    fn run<R: Wait>(
+        &mut self,
+        rt: &R,
+        alloc: Global,
+        farm: &SharedFarm<CalmDisk>,
+        pass: &mut Pass,
+    ) -> Ended
+        requires { IsReady farm.now pass.old }
+        ensures { IsReady farm.entry.now pass.new }
+    {
+        let mut event = Event::Begin;
+        for _ in rt.forever() {
+            let action = self.core.step(event);
+            match self.act(rt, alloc, farm, pass, action) {
+                Ok(next) => event = next,
+                Err(ended) => return ended,
+            }
+        }
+        unreachable!()
+    }
+
+    /// Does what is next, and says what came of it.
+    fn act<R: Wait>(
+        &mut self,
+        rt: &R,
+        alloc: Global,
+        farm: &SharedFarm<CalmDisk>,
+        pass: &mut Pass,
+        action: Action,
+    ) -> Result<Event, Ended>
+        requires { IsReady farm.now pass.old }
+        ensures { IsReady farm.entry.now pass.new }
+    {
+        match action {
+            Action::Draw => Ok(Event::Drew(self.draw())),
+            Action::AskLease(key) => self.lease(rt, alloc, farm, pass, key),
+            Action::RunTest(_) => self.test(),
+            Action::SendReport(run, verdict) => report(rt, alloc, farm, pass, run, verdict),
+            Action::Stop(_) => Err(Ended::Done),
+        }
+    }
+
+    /// The next key: the worker's number in the high half, and the number of the key in the low one.
+    fn draw(&mut self) -> Key {
+        self.drawn = self.drawn.saturating_add(1);
+        Key((u128::from(self.number) << 64) | u128::from(self.drawn))
+    }
+
+    /// Asks for a run.
+    fn lease<R: Wait>(
+        &mut self,
+        rt: &R,
+        alloc: Global,
+        farm: &SharedFarm<CalmDisk>,
+        pass: &mut Pass,
+        key: Key,
+    ) -> Result<Event, Ended>
+        requires { IsReady farm.now pass.old }
+        ensures { IsReady farm.entry.now pass.new }
+    {
+        let worker = self.name.copy()?;
+        let command = Command::Lease { key, worker };
+        match farm.call(rt, alloc, pass, &command, drill_moment()) {
+            Ok(reply) => self.take(&reply),
+            Err(CallFault::Refused(Refusal::NoRun)) => Ok(Event::Nothing),
+            Err(fault) => Err(Ended::from(fault)),
+        }
+    }
+
+    /// Takes the run of a reply.
+    fn take(&mut self, reply: &Reply) -> Result<Event, Ended>
+        ensures { TakesLease reply.now result self.new.held }
+    {
+        match reply {
+            Reply::Leased {
+                run,
+                search,
+                position,
+                ..
+            } => {
+                self.held = Some(Held {
+                    search: *search,
+                    position: *position,
+                });
+                Ok(Event::Leased(*run))
+            }
+            _ => Err(Ended::Done),
+        }
+    }
+
+    /// Runs the test of the run that was leased last.
+    fn test(&self) -> Result<Event, Ended>
+        ensures { IfSome self.now.held (λ held. result ≡ Ok (Event.Ran (planned_verdict held.search held.position))) }
+    {
+        match self.held {
+            Some(held) => Ok(Event::Ran(planned_verdict(held.search, held.position))),
+            None => Err(Ended::Done),
+        }
+    }
+}
+
+/// Reports a verdict.
+fn report<R: Wait>(
+    rt: &R,
+    alloc: Global,
+    farm: &SharedFarm<CalmDisk>,
+    pass: &mut Pass,
+    run: u32,
+    verdict: Verdict,
+) -> Result<Event, Ended>
+    requires { IsReady farm.now pass.old }
+    ensures { IsReady farm.entry.now pass.new }
+{
+    let command = Command::Report { run, verdict };
+    match farm.call(rt, alloc, pass, &command, drill_moment()) {
+        Ok(_) => Ok(Event::Noted),
+        Err(fault) => Err(Ended::from(fault)),
+    }
+}
+
+/// The work of the worker with a number. It gives its pass back, and says how it came to its end.
+pub(crate) fn work<R: Wait>(
+    rt: &R,
+    alloc: Global,
+    farm: &SharedFarm<CalmDisk>,
+    pass: Pass,
+    number: u32,
+) -> (Pass, Ended)
+    requires { IsReady farm.now pass }
+    ensures { IsReady farm.entry.now result.0 }
+{
+    let mut pass = pass;
+    let ended = match Worker::start(alloc, number) {
+        Ok(mut worker) => worker.run(rt, alloc, farm, &mut pass),
+        Err(_) => Ended::Memory,
+    };
+    (pass, ended)
+}

@@ -1,0 +1,25 @@
+-- What the command `drill` does.
+use Rattle.std.specs.Prelude.{◌≡◌, ◌⊎◌, ℕ, List}
+use Rattle.fault_types.specs.Counts.{Rose}
+use Rattle.farm_entry.specs.declared.entry.Entry.{Entry}
+use Rattle.farm_drill.specs.Drilled.{IsDrilled}
+use Rattle.farm_drill.specs.Line.{drill_line}
+use Rattle.farm_serve.specs.Outside.{OutputSeen}
+use Rattle.finder_program.specs.TextPut.{TextPut}
+use Rattle.finder_program.specs.Unread.{IsUnread}
+use Rattle.finder_program.specs.declared.status.Status.{Status}
+use Rattle.finder_program.specs.declared.status.Status.TheVariants.{Done, Memory}
+
+-- the line of the history of a drill of so many searches was put
+pub record DrillPut (searches : ℕ) (status : Status) (before after : OutputSeen) : Type 0 where
+  pub history : List Entry
+  pub drilled : IsDrilled searches history
+  pub text : TextPut (drill_line history) status before after
+
+-- what a status says: memory was wanting before anything was put, or the line was put as the status says
+abbrev pub DrillEnds : (searches : ℕ) → Status → OutputSeen → OutputSeen → Type 0
+DrillEnds searches status before after = IsUnread status before after ⊎ DrillPut searches status before after
+
+-- where the output doesn't fail and memory is there, the line is put whole
+abbrev pub DrillCompletes : Status → OutputSeen → OutputSeen → Type 0
+DrillCompletes status before after = ¬ Rose before.faults after.faults → (status ≡ Memory) ⊎ (status ≡ Done)

@@ -1,0 +1,116 @@
+//! A leader, as a store in memory.
+
+ghost use Rattle.std.specs.Prelude.{◌≤◌, All, IsTrue, length};
+ghost use Rattle.entry_codec.specs.Grammar.{IsWithinLimits};
+ghost use Rattle.entry_codec.specs.Spelling.{spelling};
+ghost use Rattle.farm_journal.specs.declared.layout.TheConstants.{MAX_PAYLOAD};
+
+use entry_codec::write_entries;
+use farm_disk::{CalmDisk, DiskFail, MemDisk};
+use farm_entry::{Entry, Settings};
+use farm_journal::{Journal, MAX_PAYLOAD};
+use farm_store::Store;
+use farm_types::{MOMENT_MIN_MS, Moment};
+use farm_wire::line_of;
+use journal_follow::Follower;
+use std::alloc::{AllocError, Global};
+use std::io;
+
+/// A leader: its history stands on a disk.
+#[derive(Drop)]
+pub(crate) struct Leader {
+    store: Store<CalmDisk>,
+}
+
+/// A leader that was founded with this limit of orders a day.
+pub(crate) fn founded(alloc: Global, daily: u32) -> Result<Leader, AllocError> {
+    let (settings, at) = match (Settings::of(60_000, daily, 0), Moment::of(MOMENT_MIN_MS)) {
+        (Ok(settings), Ok(at)) => (settings, at),
+        _ => return Err(AllocError),
+    };
+    match Store::found(alloc, CalmDisk::of(Vec::new(alloc)), settings, at) {
+        Ok(store) => Ok(Leader { store }),
+        Err(_) => Err(AllocError),
+    }
+}
+
+impl Leader {
+    /// Answers the command of a script's line.
+    pub(crate) fn record(&mut self, alloc: Global, line: &str) -> io::Result<()> {
+        match line_of(alloc, line.as_bytes()) {
+            Ok((at, command)) => {
+                let _ = self.store.call(alloc, &command, at);
+                Ok(())
+            }
+            Err(_) => Err(AllocError.into()),
+        }
+    }
+
+    /// So many of its entries, from one on, as far as it has them.
+    pub(crate) fn entries(&self, from: u32, count: u32) -> &[Entry]
+        ensures { All (λ entry. IsWithinLimits entry.what) result.now }
+    {
+        let history = self.store.history();
+        let start = (from as usize).max(1) - 1;
+        let start = start.min(history.len());
+        let end = (start + count as usize).min(history.len());
+        &history[start..end]
+    }
+}
+
+/// A follower over a disk that holds so many of the leader's entries, on which these calls fail from then on.
+pub(crate) fn follower_of(
+    alloc: Global,
+    leader: &Leader,
+    held: &str,
+    fails: Vec<DiskFail>,
+) -> Result<Follower<MemDisk>, AllocError> {
+    let bytes = journal_of(alloc, leader, held)?;
+    match Follower::open_on(alloc, MemDisk::of(bytes, fails)) {
+        Ok(follower) => Ok(follower),
+        Err(_) => Err(AllocError),
+    }
+}
+
+/// The bytes of a journal that holds so many of the leader's entries.
+fn journal_of(alloc: Global, leader: &Leader, held: &str) -> Result<Vec<u8>, AllocError> {
+    if held == "daily" {
+        let other = founded(alloc, 9)?;
+        return spelled(alloc, other.entries(1, 1));
+    }
+    let entries = leader.entries(1, crate::words::number_of(held));
+    if entries.is_empty() {
+        return Ok(Vec::new(alloc));
+    }
+    spelled(alloc, entries)
+}
+
+/// Whether these entries fit a record.
+pub(crate) fn fits(alloc: Global, entries: &[Entry]) -> bool
+    requires { All (λ entry. IsWithinLimits entry.what) entries.now }
+    ensures { IsTrue result → length (spelling entries.now) ≤ MAX_PAYLOAD }
+{
+    match write_entries(alloc, entries) {
+        Ok(bytes) => bytes.len() <= MAX_PAYLOAD,
+        Err(_) => false,
+    }
+}
+
+/// The bytes of a journal of one record with these entries.
+fn spelled(alloc: Global, entries: &[Entry]) -> Result<Vec<u8>, AllocError>
+    requires { All (λ entry. IsWithinLimits entry.what) entries.now }
+{
+    let Ok(payload) = write_entries(alloc, entries) else {
+        return Err(AllocError);
+    };
+    if payload.is_empty() {
+        return Err(AllocError);
+    }
+    if payload.len() > MAX_PAYLOAD {
+        return Err(AllocError);
+    }
+    match Journal::create(alloc, CalmDisk::of(Vec::new(alloc)), payload) {
+        Ok(journal) => journal.into_disk().bytes().to_vec(alloc),
+        Err(_) => Err(AllocError),
+    }
+}

@@ -1,0 +1,47 @@
+//! Plays the cases of standard input over followers in memory, and prints what each comes to. A line that begins with `{`
+//! is a command of a script, whose entry the leader holds from then on, as a journal that was founded at the first moment.
+//! Any other line is a case: a word, how many of the leader's entries the follower holds at first, with `daily` for a
+//! journal that was founded with another limit, and the words of what follows. `F:N` is a page of the leader's N entries
+//! from its entry F on.
+//!
+//! - `follow HELD ROUNDS`, and the answers to its asks: pages, `F:N@G` for a page that says it begins with entry G,
+//!   statuses as `503`, `cut` for an answer that isn't whole, and `bad` for a page whose digits spell no entries;
+//! - `take HELD FAILS`, and pages, over a disk on which the calls of these numbers fail.
+//!
+//! A line that begins with `#` is printed as it is. The file `stdout` has what is wanted; it was worked out by hand.
+#![tactic(auto)]
+
+mod follows;
+mod leader;
+mod takes;
+mod words;
+
+use follows::play_follow;
+use leader::{Leader, founded};
+use std::alloc::Global;
+use std::io;
+use takes::play_take;
+use words::word;
+
+fn play(rt: &impl Print, alloc: Global, leader: &mut Leader, line: &str) -> io::Result<()> {
+    let (name, rest) = word(line);
+    match name {
+        "follow" => play_follow(rt, alloc, leader, rest),
+        "take" => play_take(rt, alloc, leader, rest),
+        _ if line.starts_with("{") => leader.record(alloc, line),
+        _ => println!(rt; "{line}"),
+    }
+}
+
+fn main(rt: HostRuntime) -> io::Result<()> {
+    let text = io::read_to_string(rt.alloc(), rt.reader())?;
+    let mut leader = founded(rt.alloc(), 10)?;
+    play_all(&rt, rt.alloc(), &mut leader, text.as_str())
+}
+
+fn play_all(rt: &impl Print, alloc: Global, leader: &mut Leader, text: &str) -> io::Result<()> {
+    for line in text.strip_suffix("\n").unwrap_or("").split('\n') {
+        play(rt, alloc, leader, line)?;
+    }
+    Ok(())
+}

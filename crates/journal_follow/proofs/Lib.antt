@@ -1,0 +1,13 @@
+pub mod Admissions
+pub mod Advances
+pub mod Going
+pub mod Holding
+pub mod Mended
+pub mod Openings
+pub mod Placing
+pub mod Records
+pub mod Rounding
+pub mod Showing
+pub mod Syncs
+pub mod Takings
+pub mod Tries

@@ -1,0 +1,12 @@
+pub mod Admitted
+pub mod Asked
+pub mod Asks
+pub mod Following
+pub mod Inside
+pub mod Opened
+pub mod Pages
+pub mod Rounds
+pub mod Settled
+pub mod Shown
+pub mod State
+pub mod Taken

@@ -1,8 +1,0 @@
-use Rattle.std.proofs.Common.{sym, ◌∙◌}
-use Rattle.plain_farm.proofs.Histories.{named_in_range}
-use Rattle.plain_farm.proofs.due_run.due.Goals as goal
-
-pub due_verifying-requires : goal.due_verifying-requires
-due_verifying-requires c =
-    (named_in_range c.args.history.now c.args.opening.now c.in-Verifying.culprit
-    (sym c.in_ok-standing.ensures ∙ c.in-Verifying.is)).0
