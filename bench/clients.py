@@ -63,7 +63,7 @@ def _():
     with open(f"{ROOT}/docs/OPERATING.md") as it:
         lines = [line.strip() for line in it]
     calls = [(line[2:], lines[at + 1]) for at, line in enumerate(lines) if line.startswith("$ curl ")]
-    assert len(calls) == 10, len(calls)
+    assert len(calls) == 15, len(calls)
     for call, wanted in calls:
         call = call.replace("localhost:8080", f"127.0.0.1:{farm.port}")
         said = subprocess.run(["bash", "-c", call], capture_output=True, check=True, text=True).stdout

@@ -5,11 +5,14 @@ much a search more costs than one of the farm of half the size, and the peak of 
     bench/growth.py [SEARCHES ..]        250, 500, 1000 and 2000 searches, if not said
 
 Run it after `./finder build`. Each script is made by playing workers against the program: they hold some runs at once,
-report them by a rule, and take the revert orders, until no run is due any more. The script is then run anew from a file,
-and has the least of its times. Where the times grow in proportion to the searches, the last column stays near 1.
+report them by a rule, and take the revert orders, until no run is due any more. The script is then run anew from a
+file, in turn with a plain program in C that keeps the same farm and has to give the same replies (plain_run.c, built
+here by `cc`), and each has the least of its times; the ratio is that of the processor's times. Where the times grow in
+proportion to the searches, the last column stays near 1.
 """
 import collections
 import sys
+import tempfile
 
 import run
 
@@ -60,19 +63,28 @@ def drive(searches):
 
 def main():
     sizes = [int(word) for word in sys.argv[1:]] or [250, 500, 1_000, 2_000]
+    with tempfile.TemporaryDirectory() as folder:
+        grow(sizes, [run.built(folder, "plain_run")])
+
+
+def grow(sizes, plain):
     before = None
     for searches in sizes:
         game, page = drive(searches)
         script = b"".join(game.lines)
         if page["searching"] or page["verifying"]:
             sys.exit("some search didn't end")
-        seconds, peak = min(run.took([run.PROGRAM, "run"], script) for _ in range(run.TURNS))
+        if run.replies(plain, script) != game.answers:
+            sys.exit("the plain program gives other replies")
+        turns = [[run.timed(who, script) for who in ([run.PROGRAM, "run"], plain)] for _ in range(run.TURNS)]
+        seconds, _, peak = min(mine for mine, _ in turns)
+        ours, other = (min(turn[who][1] for turn in turns) for who in range(2))
         each = seconds / searches
         growth = "" if before is None else f"   a search more costs {each / before:.2f} times as much"
         lines = len(game.lines)
         ends = f"{page['confirmed']} confirmed, {page['ended']} ended otherwise, {page['orders']} orders"
         print(f"{searches:5} searches, {lines:6} lines ({ends}): {seconds:8.3f} s, {seconds / lines * 1e6:8.1f} us a line, "
-              f"{peak:6.1f} MiB{growth}", flush=True)
+              f"{peak:6.1f} MiB, ratio {ours / other:.2f}{growth}", flush=True)
         before = each
 
 

@@ -1,15 +1,18 @@
 #!/usr/bin/env python3
-"""Times `run` on a script of many searches beside a plain program in C that reads the same lines, decides nothing and
-writes lines of the same length (plain_lines.c, built here by `cc`). Prints seconds, microseconds a line, peak memory,
-and the ratio of the two.
+"""Times `run` on a script of many searches beside two plain programs in C, built here by `cc`: plain_run.c, which keeps
+the same farm over plain structures and has to write the same replies, and plain_lines.c, which reads the same lines,
+decides nothing and writes lines of the same length. Prints seconds, seconds of the processor, microseconds a line, peak
+memory, and the ratios.
 
     bench/run.py [LINES [SEARCHES [LEAST [MOST]]]]        20000 lines over 2000 searches of 10 to 100 suspects, if not
                                                           said
 
-Run it after `./finder build`. The script is made by playing workers against the program: each search has a culprit and
-a test that flakes by rule, so two runs measure the same work. The two programs are run in turn, and each has the least
-of its times. Two further scripts of as many lines show what reading and printing cost alone: in one each line is read
-and refused, in the other each is a page of a farm without searches.
+Run it after `./finder build`; FINDER names another program than that. The script is made by playing workers against the
+program: each search has a culprit and a test that flakes by rule, so two runs measure the same work. Two programs are
+run in turn, and each has the least of its times. Where others work on the machine, the time of the processor, the
+system's for the program among it, tells more than that by the clock. Two further scripts of as many lines show what
+reading and printing cost alone: in one each line is read and refused, in the other each is a page of a farm without
+searches.
 """
 import json
 import os
@@ -19,7 +22,7 @@ import tempfile
 import time
 
 ROOT = os.path.dirname(os.path.dirname(os.path.abspath(__file__)))
-PROGRAM = os.path.join(ROOT, "crates", "culprit_finder", "out", "culprit_finder")
+PROGRAM = os.environ.get("FINDER", os.path.join(ROOT, "crates", "culprit_finder", "out", "culprit_finder"))
 START = 1_795_770_000_000
 TURNS = 7
 
@@ -100,8 +103,8 @@ def play(limit, searches, least, most):
     return game
 
 
-def took(command, script):
-    """The seconds and the peak memory in MiB of one run."""
+def timed(command, script):
+    """The seconds, the seconds of the processor and the peak memory in MiB of one run."""
     with tempfile.TemporaryFile() as source:
         source.write(script)
         source.seek(0)
@@ -111,7 +114,13 @@ def took(command, script):
         seconds = time.perf_counter() - began
     if status != 0:
         sys.exit(f"{command[0]} ended with {os.waitstatus_to_exitcode(status)}")
-    return seconds, usage.ru_maxrss / 1024
+    return seconds, usage.ru_utime + usage.ru_stime, usage.ru_maxrss / 1024
+
+
+def took(command, script):
+    """The seconds and the peak memory in MiB of one run."""
+    seconds, _, peak = timed(command, script)
+    return seconds, peak
 
 
 def seconds_of(script, turns=TURNS):
@@ -125,21 +134,42 @@ def report(name, script, lines):
     return best
 
 
+def built(folder, name):
+    """A plain program of this folder, built into another."""
+    program = os.path.join(folder, name)
+    subprocess.run(["cc", "-O2", "-o", program, os.path.join(ROOT, "bench", f"{name}.c")], check=True)
+    return program
+
+
+def replies(command, script):
+    return subprocess.run(command, input=script, check=True, stdout=subprocess.PIPE).stdout.splitlines(keepends=True)
+
+
+def beside(name, command, script, lines):
+    """Prints the least times of the program and of a plain one on a script, run in turn, and the ratio in each turn."""
+    turns = [[timed(who, script) for who in ([PROGRAM, "run"], command)] for _ in range(TURNS)]
+    print(f"  the program beside {name}")
+    for clock, i in (("by the clock", 0), ("of the processor", 1)):
+        ours, plain = (min(turn[who][i] for turn in turns) for who in range(2))
+        each = ", ".join(f"{mine[i] / other[i]:.2f}" for mine, other in turns)
+        print(f"    {clock:16} {ours:8.4f} s {ours / lines * 1e6:7.2f} us a line, plain {plain:8.4f} s "
+              f"{plain / lines * 1e6:7.2f} us; ratio {ours / plain:.2f}; in turn {each}")
+
+
 def beside_plain(folder, game):
-    """The least seconds of the program and of the plain one on the script, run in turn, and the ratio in each turn."""
-    plain = os.path.join(folder, "plain_lines")
-    subprocess.run(["cc", "-O2", "-o", plain, os.path.join(ROOT, "bench", "plain_lines.c")], check=True)
+    """The program beside one that keeps the same farm, and beside one that decides nothing."""
+    script, lines = b"".join(game.lines), len(game.lines)
+    plain = [built(folder, "plain_run")]
+    if replies(plain, script) != game.answers:
+        sys.exit("the plain program gives other replies")
+    beside("one that does the same", plain, script, lines)
     lengths = os.path.join(folder, "lengths")
     with open(lengths, "w") as file:
         file.writelines(f"{len(answer) - 1}\n" for answer in game.answers)
-    script = b"".join(game.lines)
-    told = subprocess.run([plain, lengths], input=script, check=True, stdout=subprocess.PIPE).stdout
-    if [len(line) for line in told.splitlines(keepends=True)] != [len(answer) for answer in game.answers]:
+    plain = [built(folder, "plain_lines"), lengths]
+    if [len(line) for line in replies(plain, script)] != [len(answer) for answer in game.answers]:
         sys.exit("the plain program writes other lines")
-    turns = [[took(command, script)[0] for command in ([PROGRAM, "run"], [plain, lengths])] for _ in range(TURNS)]
-    best = [min(turn[i] for turn in turns) for i in range(2)]
-    print(f"{'  the program, and the plain one':44} {best[0]:8.3f} s {best[1]:8.3f} s")
-    print(f"  ratio {best[0] / best[1]:.2f}; in turn " + ", ".join(f"{ours / other:.2f}" for ours, other in turns))
+    beside("one that decides nothing", plain, script, lines)
 
 
 def main():

@@ -78,7 +78,7 @@ impl<'f> ServiceLink<'f> {
         self.service.answer(&self.request)
     }
 
-    /// The answer, as it will be taken. None where memory was wanting.
+    /// The answer, as it will be taken. None where memory ran out.
     fn asked(&mut self) -> Option<MemSource>
         ensures ended { link_ended self.new ≡ link_ended self.old }
         ensures faults { link_faults self.new ≡ link_faults self.old }

@@ -1,6 +1,6 @@
--- What a journal's bytes tell, as a function of them: nothing, since it was never founded; the offset at which they break; or
--- the entries of its records, one after the other. The layout of the file and the spelling of entries are those of the journal
--- and of the codec, cited; neither their calls nor their proofs are.
+-- What a journal's bytes tell, as a function of them: nothing, since it was never founded; the offset at which they
+-- break; or the entries of its records, one after the other. The layout of the file and the spelling of entries are
+-- those of the journal and of the codec, cited; neither their calls nor their proofs are.
 use Rattle.std.specs.Prelude.{ℕ, zero, suc, ◌+◌, List, [], ◌∷◌, ◌++◌, length, Option, Some, None}
 use Rattle.farm_entry.specs.declared.entry.Entry.{Entry}
 use Rattle.farm_journal.specs.Layout.{Opening, unborn as no_journal, damaged, holds, opens}

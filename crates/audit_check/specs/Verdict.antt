@@ -9,9 +9,9 @@ use Rattle.audit_check.specs.declared.finding.Finding.{Finding}
 use Rattle.audit_check.specs.declared.finding.Finding.TheVariants.{Broken, Illegal, Legal, Long, Unborn}
 use Rattle.audit_check.specs.declared.finding.TheConstants.{MAX_AUDITED}
 
--- The finding on entries: there are too many to be gone through; or the first that may not stand where it does is that at a
--- place, so that the entries up to it are the shortest that are no legal history; or they are one, with so many entries,
--- searches and orders
+-- The finding on entries: there are too many to be gone through; or the first that may not stand where it does is that
+-- at a place, so that the entries up to it are the shortest that are no legal history; or they are one, with so many
+-- entries, searches and orders
 abbrev pub IsFindingOn : List Entry → Finding → Type 0
 IsFindingOn H Unborn = ⊥
 IsFindingOn H (Broken o) = ⊥

@@ -29,12 +29,13 @@ fn finding_on(alloc: Global, entries: &[Entry]) -> Result<Finding, Memory>
     }
 }
 
-/// What is found of the bytes of a journal: whether they stand for a legal history, and else where they fail. A history of at
-/// most [`MAX_AUDITED`] entries is gone through entry by entry, and its time grows with the square of their number.
+/// What is found of the bytes of a journal: whether they stand for a legal history, and else where they fail. A
+/// history of at most [`MAX_AUDITED`] entries is gone through entry by entry, and its time grows with the square of
+/// their number.
 ///
 /// # Errors
 ///
-/// Want of memory, and nothing else.
+/// Running out of memory, and nothing else.
 pub fn audit(alloc: Global, bytes: &[u8]) -> Result<Finding, Memory>
     // What is found is so.
     ensures found { IfOk result (IsFinding bytes.now) }
@@ -52,7 +53,7 @@ pub fn audit(alloc: Global, bytes: &[u8]) -> Result<Finding, Memory>
 ///
 /// # Errors
 ///
-/// Want of memory, and nothing else.
+/// Running out of memory, and nothing else.
 pub fn audit_line(alloc: Global, bytes: &[u8]) -> Result<String, Memory>
     ensures { IfOk result (λ text. IsAuditLine bytes.now (string_bytes text)) }
 {

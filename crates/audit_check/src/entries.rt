@@ -169,8 +169,8 @@ fn entry(alloc: Global, bytes: &[u8]) -> Result<(Entry, &[u8]), Stop>
     Ok((Entry { at, what }, rest))
 }
 
-/// Adds the entries of a payload to a list, and says whether the payload is made of entries. Where it isn't, some may have
-/// been added.
+/// Adds the entries of a payload to a list, and says whether the payload is made of entries. Where it isn't, some may
+/// have been added.
 pub(crate) fn add_entries(
     alloc: Global,
     payload: &[u8],

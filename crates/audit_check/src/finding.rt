@@ -19,8 +19,8 @@ pub enum Finding {
     },
     /// Nothing was founded there.
     Unborn,
-    /// The file breaks at this offset: its header is wrong or cut off there, a gate is missing, a record isn't whole, or
-    /// the record behind the gate there isn't made of entries.
+    /// The file breaks at this offset: its header is wrong or cut off there, a gate is missing, a record isn't whole,
+    /// or the record behind the gate there isn't made of entries.
     Broken(u64),
     /// There are so many entries, more than [`MAX_AUDITED`], and whether they are legal wasn't looked at.
     Long(u64),

@@ -95,7 +95,8 @@ pub(crate) fn fate(bytes: &[u8]) -> Result<(Fate, &[u8]), Stop>
     }
 }
 
-/// A farm's settings: the lease time (4 bytes), the orders of a day (2), the zone in minutes from the westernmost one (2).
+/// A farm's settings: the lease time (4 bytes), the orders of a day (2), the zone in minutes from the westernmost one
+/// (2).
 #[tactic(auto, unfolding(entry_codec::specs::Reading::settings_at))]
 pub(crate) fn settings(bytes: &[u8]) -> Result<(Settings, &[u8]), Stop>
     ensures { Reads (λ x. (x.0, x.1.now)) result (settings_at bytes.now) }

@@ -138,7 +138,7 @@ pub failed-progress_after : (c : Progress) (H : List Entry) (before count : ℕ)
     (d.seen ≡ H) × (d.totals ≡ c.totals) × (d.faults ≡ count)
 failed-progress_after c H before count ask asks = failed_too-progress_after (progress_past c (failed H ask before count)) asks
 
--- memory was wanting
+-- memory ran out
 pub uncalled-steps : (clock : Moment → Type 0) (c : Progress) (H : List Entry) (items : List Item) (asks : List Ask)
     → AreAsked clock items asks → IsPrefix c.seen H → AreSteps clock c items (uncalled_steps H asks)
 uncalled-steps clock c H [] [] q b = tt

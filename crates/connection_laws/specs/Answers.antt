@@ -30,7 +30,7 @@ plain s body = record { status = s; allow = None; body = body }
 abbrev pub store_fault : Response
 store_fault = plain status.Unavailable store_fault_text
 
--- memory was wanting
+-- memory ran out
 abbrev pub no_memory : Response
 no_memory = plain status.NoStorage memory_text
 

@@ -35,6 +35,6 @@ failed_steps H (ask ∷ asks) before count =
     record { outcome = failed H ask before count; written = true }
     ∷ map (λ (more : Ask). record { outcome = failed_too more; written = true }) asks
 
--- memory was wanting in their call
+-- memory ran out in their call
 abbrev pub uncalled_steps : List Entry → List Ask → List Step
 uncalled_steps H asks = map (λ (ask : Ask). record { outcome = uncalled H ask; written = true }) asks

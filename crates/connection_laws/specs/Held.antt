@@ -38,8 +38,8 @@ abbrev pub IsPut : (whole : Bool) → List ℕ → List ℕ → Bool → List It
 IsPut true taken put ended items steps = IsWhole taken put ended items steps
 IsPut false taken put ended items steps = IsPart taken put items steps
 
--- What is held of a connection, from what its pass and its reader knew at entry: there are items, and what they came to,
--- within what is seen at exit.
+-- What is held of a connection, from what its pass and its reader knew at entry: there are items, and what they came
+-- to, within what is seen at exit.
 pub record HeldFrom (start : Progress) (final : Mark) (clock : Moment → Type 0) (taken put : List ℕ) (ended whole : Bool) : Type 0 where
   pub items : List Item
   pub steps : List Step

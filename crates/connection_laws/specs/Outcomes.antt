@@ -6,8 +6,8 @@ use Rattle.farm_store.specs.declared.asking.Ask.{Ask}
 use Rattle.farm_wire.specs.declared.fault.WireFault.{WireFault}
 use Rattle.http_words.specs.declared.fault.Fault.{Fault}
 
--- What an item came to. A command is asked at a history, which is that of the farm as its turn began and its repair left
--- it, with the new entries of the commands before it in its batch.
+-- What an item came to. A command is asked at a history, which is that of the farm as its turn began and its repair
+-- left it, with the new entries of the commands before it in its batch.
 pub data Outcome : Type 0 where
   -- it is a fault
   faulted : Fault → Outcome
@@ -23,9 +23,9 @@ pub data Outcome : Type 0 where
   failed : (at : List Entry) → Ask → (before count : ℕ) → Outcome
   -- the same in the same call: one more of the batch
   failed_too : Ask → Outcome
-  -- memory was wanting before its command was known
+  -- memory ran out before its command was known
   unread : Outcome
-  -- memory was wanting in the call with its command
+  -- memory ran out in the call with its command
   uncalled : (at : List Entry) → Ask → Outcome
 
 -- what an item came to, and whether there was memory for the text that says so

@@ -53,9 +53,9 @@ pub record IsStopped (start : Progress) (final : Mark) (clock : Moment → Type 
   pub held : HeldFrom start final clock taken put new.ended false
   pub keeps : IsKept start held.steps mine kept read
 
--- What the serving of a connection came to, by its answer: from what its pass and its reader had seen at entry to what the
--- pass has seen at exit, with the moments that the clock may give, the link before and after, the places of the pass before
--- and after, and what the reader has seen at exit.
+-- What the serving of a connection came to, by its answer: from what its pass and its reader had seen at entry to what
+-- the pass has seen at exit, with the moments that the clock may give, the link before and after, the places of the
+-- pass before and after, and what the reader has seen at exit.
 abbrev pub Serves : Result Served ServeFault → Progress → Mark → (Moment → Type 0) → (old new : LinkState)
     → (mine kept : List ℕ) → List Entry → Type 0
 Serves (Ok served) start final clock old new mine kept read = IsServed served start final clock old new mine kept read

@@ -50,12 +50,12 @@ pub record IsFailedToo (clock : Moment → Type 0) (c : Progress) (item : Item) 
   pub room : 0 < c.left
   pub at_once : item.interim ≡ false
 
--- memory was wanting before the item's command was known
+-- memory ran out before the item's command was known
 pub record IsUnread (item : Item) : Type 0 where
   pub reading : Result Command WireFault
   pub asked : kind_of item ≡ commands reading
 
--- memory was wanting in the call with the item's command, and the history is as it was before
+-- memory ran out in the call with the item's command, and the history is as it was before
 pub record IsUncalled (clock : Moment → Type 0) (c : Progress) (item : Item) (H : List Entry) (ask : Ask) : Type 0 where
   pub asked : IsAsked clock item ask
   pub begins : IsPrefix c.seen H

@@ -40,7 +40,7 @@ head_bytes =
     ++ line (codes "Allow: POST")
     ++ line []
 
--- a lease, and what is put where the disk failed and where memory was wanting
+-- a lease, and what is put where the disk failed and where memory ran out
 abbrev pub lease_item : Item
 lease_item = record {
   interim = false;

@@ -58,8 +58,8 @@ pub fn what_is_held_goes_on<C: Clock>(clock: &C)
         → Held start final (MayGive C.Clock clock.now) taken put over whole → Follows start final }
 {}
 
-/// It begins with no item: nothing was put yet, which is a prefix of the answers to the items of whatever was taken. Of a
-/// connection on which nothing came it is the whole.
+/// It begins with no item: nothing was put yet, which is a prefix of the answers to the items of whatever was taken.
+/// Of a connection on which nothing came it is the whole.
 pub fn nothing_is_answered_at_first<C: Clock>(clock: &C)
     ensures so_far { (start : Progress) (taken : List ℕ) → IsSoFar start (MayGive C.Clock clock.now) taken [] [] [] }
     ensures held { (start final : Mark) (taken : List ℕ) (over : Bool) (items : List Item) (end : End)
@@ -82,7 +82,8 @@ pub fn more_is_answered<C: Clock>(clock: &C)
 {}
 
 /// The serving stops on the way: a part was put of the answers to some items behind those so far. It is a prefix of the
-/// answers to all items, however many stand behind those: there are steps to which they may come, within what is seen at exit.
+/// answers to all items, however many stand behind those: there are steps to which they may come, within what is seen
+/// at exit.
 pub fn a_part_is_held<C: Clock>(clock: &C)
     ensures { (start : Progress) (final : Mark) (taken put part : List ℕ) (over : Bool)
         (items more others : List Item) (steps rest : List Step) (end : End)
@@ -93,7 +94,8 @@ pub fn a_part_is_held<C: Clock>(clock: &C)
         → HeldFrom start final (MayGive C.Clock clock.now) taken (put ++ part) over false }
 {}
 
-/// What is put for one item is its interim answer, where it has one, and then its answer; so its interim answer is a part.
+/// What is put for one item is its interim answer, where it has one, and then its answer; so its interim answer is a
+/// part.
 pub fn an_interim_answer_comes_first()
     ensures both { (item : Item) (step : Step)
         → transcript (item ∷ []) (step ∷ []) ≡ interim_of item.interim ++ response_bytes item (response_of step) }
@@ -115,8 +117,8 @@ pub fn the_whole_is_held<C: Clock>(clock: &C)
         → StaysClosed taken (items ++ item ∷ []) closed }
 {}
 
-/// What the serving of a new link came to is held from each mark with which its pass and its reader both began, for whatever is seen later:
-/// the whole where it was served to its end, and else a prefix.
+/// What the serving of a new link came to is held from each mark with which its pass and its reader both began, for
+/// whatever is seen later: the whole where it was served to its end, and else a prefix.
 pub fn what_is_served_is_held<C: Clock>(clock: &C)
     ensures { (result : Result Served ServeFault) (start final later : Mark) (seen totals read : List Entry) (faults : ℕ)
         (link : LinkState) (mine kept : List ℕ)
@@ -132,8 +134,8 @@ pub fn held_by_the_moment_told<C: Clock>(clock: &C)
         → Held start final (IsTold (C.told clock.now)) taken put over whole }
 {}
 
-/// A batch that the farm answered: each item comes to its answer, and the places of what they recorded are the last ones of
-/// the history that they leave.
+/// A batch that the farm answered: each item comes to its answer, and the places of what they recorded are the last
+/// ones of the history that they leave.
 pub fn a_batch_is_answered<C: Clock>(clock: &C)
     ensures are_steps { (c : Progress) (H : List Entry) (items : List Item) (asks : List Ask)
         (answers : List Answer) (steps : List Step)
@@ -162,7 +164,7 @@ pub fn a_batch_fails<C: Clock>(clock: &C)
         → recorded_places (failed_steps H asks before count) ≡ [] }
 {}
 
-/// A batch for whose call memory was wanting.
+/// A batch for whose call memory ran out.
 pub fn a_batch_finds_no_memory<C: Clock>(clock: &C)
     ensures are_steps { (c : Progress) (H : List Entry) (items : List Item) (asks : List Ask)
         → AreAsked (MayGive C.Clock clock.now) items asks → IsPrefix c.seen H → AreSteps (MayGive C.Clock clock.now) c items (uncalled_steps H asks) }
@@ -177,8 +179,8 @@ pub fn no_body_is_too_long()
     ensures { (bytes : List ℕ) (item : Item) → IsNext bytes item → kind_of item ≢ commands (Err WireFault.TooLong) }
 {}
 
-/// Answers as they are put, worked out by hand: to a request whose body is cut off, on a path that has other methods, where
-/// the disk failed, and where memory was wanting, also for the text of an answer.
+/// Answers as they are put, worked out by hand: to a request whose body is cut off, on a path that has other methods,
+/// where the disk failed, and where memory ran out, also for the text of an answer.
 pub fn worked_answers()
     ensures cut { item_bytes cut_item (record { outcome = faulted Fault.BadRequest; written = true }) ≡ cut_bytes }
     ensures head { item_bytes head_item (record { outcome = faulted (Fault.MethodNotAllowed Allow.Post); written = true })

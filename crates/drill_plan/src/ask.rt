@@ -53,8 +53,9 @@ fn suspects_of(alloc: Global, search: u32) -> Result<Suspects, Memory>
     ensures { IfOk result
         (λ suspects. suspects ≡ map (planned_suspect search) (range_with_len 1 (planned_suspects search))) }
 {
-    let mut suspects = Vec::new(alloc);
-    for before in 0..planned_suspects(search) {
+    let count = planned_suspects(search);
+    let mut suspects = Vec::with_capacity(alloc, count as usize)?;
+    for before in 0..count {
         suspects.push(suspect(search, before + 1))?;
     }
     Ok(Suspects::of(suspects))

@@ -13,7 +13,7 @@ use std::str::from_utf8;
 use std::sync::Wait;
 use std::thread::Threads;
 
-/// What can be wanting: memory, or numbers that a drill may have.
+/// What can be missing: memory, or numbers that a drill may have.
 fn failed() -> io::Error {
     io::Error::from(io::ErrorKind::Other)
 }

@@ -1,5 +1,5 @@
--- What is read of some bytes is what was spelled there, and what was spelled is read again: the words for that, numbers,
--- and runs of bytes.
+-- What is read of some bytes is what was spelled there, and what was spelled is read again: the words for that,
+-- numbers, and runs of bytes.
 use Rattle.std.proofs.Common.{◌≡◌, ℕ, zero, suc, ◌+◌, ◌*◌, ◌^◌, ◌<◌, ◌≤◌, Bool, true, false, cond, ltb, List, [], ◌∷◌, ◌++◌, length, take, drop, Option, Some, None, refl, sym, ap, subst, ◌∙◌, append_assoc, arith, inl, inr}
 use Rattle.std.specs.Int.{byte_at, bytes_high_first}
 use Rattle.std.proofs.Math.Nat.{mod-lt}

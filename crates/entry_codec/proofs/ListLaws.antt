@@ -150,7 +150,7 @@ pub record HasRead (bytes : List ℕ) (entries : List Entry) (rest : List ℕ) :
   pub parts : bytes ≡ spelling entries ++ rest
   pub spelled : AreSpelled entries
 
--- one entry more of a list, at its index
+-- an entry appended to a list, at its index
 module _ (entries : List Entry) (index : ℕ) (out : List ℕ) (e : Entry) (within : index < length entries)
     (is : e ≡ get_or entries index e) where
   pub writes_one : out ≡ spelling (take index entries) → out ++ entry_bytes e ≡ spelling (take (index + 1) entries)

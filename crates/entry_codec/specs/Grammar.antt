@@ -59,7 +59,7 @@ pub record IsBadAt (bytes : List ℕ) (offset : ℕ) : Type 0 where
   pub before : take offset bytes ≡ spelling entries
   pub none_begins : NoneBegins (drop offset bytes)
 
--- what a fault says of some bytes; want of memory says nothing
+-- what a fault says of some bytes; running out of memory says nothing
 abbrev pub IsFaultOf : List ℕ → CodecFault → Type 0
 IsFaultOf bytes (Bad offset) = IsBadAt bytes offset
 IsFaultOf bytes Memory = ⊤

@@ -1,14 +1,19 @@
 //! Entries as bytes, and back: the form in which a farm's history is kept and handed on.
 //!
-//! A list of entries is their bytes one after the other. An entry is its moment (8 bytes), a tag (1 byte) that tells its
-//! kind, and its fields; numbers stand with their highest byte first, a name as its length in one byte and its bytes.
-//! Each entry has one spelling, and no spelling begins another one, so that bytes are read in one way or in none.
+//! A list of entries is their bytes one after the other. An entry is its moment (8 bytes), a tag (1 byte) that tells
+//! its kind, and its fields; numbers stand with their highest byte first, a name as its length in one byte and its
+//! bytes. Each entry has one spelling, and no spelling begins another one, so that bytes are read in one way or in
+//! none.
+//!
+//! Where some bytes are no list of entries, the fault tells the exact offset at which they stop being one. An entry has
+//! 15 to `MAX_ENTRY_BYTES` bytes.
 //!
 //! The crate stands on `farm_entry` for the entries, on the crates of the values that these hold, whose own calls test
 //! each limit, on `byteorder` for the numbers, on `hex` for the word for bytes, and on `thiserror` for the texts of its
 //! faults. The layers above may use every name below. The definitions stand in `specs/`: `Spelling` (the bytes of an
 //! entry and of a list), `Grammar` (which entries have a spelling, and where bytes stop being one), `Values` and
-//! `Reading` (one entry from the front of some bytes, as a function on lists), `LogPage` (what is handed on at once). The facts on them are [`laws`].
+//! `Reading` (one entry from the front of some bytes, as a function on lists), `LogPage` (what is handed on at once).
+//! The facts on them are [`laws`].
 #![tactic(auto)]
 
 mod entries;

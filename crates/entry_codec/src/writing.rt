@@ -21,6 +21,9 @@ use std::ops::Deref;
 use suspect_range::{Suspect, SuspectRange};
 use weight_exact::Verdict;
 
+/// The room that is taken at first: one entry that opens no search and has a short name fits into so many bytes.
+const SHORT_ENTRIES: usize = 64;
+
 #[tactic(auto, unfolding(crate::specs::Spelling::number_bytes))]
 fn put_u8(out: &mut Vec<u8>, number: u8) -> Result<(), Memory>
     ensures bytes { OnOk result (out.new.items ≡ out.old.items ++ number_bytes 1 number) }
@@ -286,7 +289,7 @@ pub fn write_entries(alloc: Global, entries: &[Entry]) -> Result<Vec<u8>, Memory
     // Each of them has a spelling, so that reading gives these entries and no others.
     ensures readable { OnOk result (AreSpelled entries.now) }
 {
-    let mut out = Vec::new(alloc);
+    let mut out = Vec::with_capacity(alloc, SHORT_ENTRIES)?;
     for entry in entries {
         put_entry(&mut out, entry)?;
     }

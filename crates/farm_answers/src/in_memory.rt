@@ -15,7 +15,7 @@ use farm_types::{Memory, Moment};
 ///
 /// # Errors
 ///
-/// Want of memory, after which the history is as before.
+/// Running out of memory, after which the history is as before.
 pub fn answer_in_memory(farm: &mut Farm, command: &Command, at: Moment) -> Result<Answer, Memory>
     ensures answer { IfOk result (λ answer. IsAnswer farm.old.history (decide farm.old.history command.now at) answer) }
     ensures dates { IfOk result AnswerHasDates }

@@ -27,7 +27,7 @@ pub enum CommandFault {
         /// The count after it.
         after: u64,
     },
-    /// Memory was wanting, and nothing of the command is recorded.
+    /// Out of memory, and nothing of the command is recorded.
     Memory,
 }
 

@@ -1,4 +1,4 @@
--- The leases of a history with one entry more, and with one less.
+-- The leases of a history with an entry appended, and with the last one taken away.
 use Rattle.std.proofs.Common.{◌≡◌, ◌≢◌, ℕ, zero, suc, ◌+◌, ◌-◌, ◌<◌, ◌≤◌, ◌==◌, Bool, true, false, ◌||◌, if◌then◌else◌, List, [], ◌∷◌, ◌++◌, length, map, take, get_or, All, Option, Some, None, refl, sym, ap, ◌∙◌, ⊎_elim, arith, append-nil, length-append}
 use Rattle.std.specs.List.{cons_option, list_any, range_with_len}
 use Rattle.std.proofs.lemmas.Bool.{cases_eq}
@@ -112,7 +112,7 @@ marked-marks run told test helds ls some all are =
 
 -- What an entry reports.
 
--- whether a run is reported with one entry more
+-- whether a run is reported with an entry appended
 reported-step : (H : List Entry) (e : Entry) (r : ReportedRun) (run : ℕ) → report_in e.what ≡ Some r →
     is_reported (H ++ e ∷ []) run ≡ (is_reported H run || (r.run == run || false))
 reported-step H e r run is =
@@ -210,7 +210,7 @@ unreported-all run (e ∷ H) h =
 pub nowhere-unreported : (H : List Entry) (run : ℕ) → place_of_report H run ≡ None → is_reported H run ≡ false
 nowhere-unreported H run none = unreported-all run H (λ k d below. fails-from_none (is_report_of run) H d none k below)
 
--- What one entry more makes of the leases.
+-- What appending an entry makes of the leases.
 
 lease-not_report : (w : What) (l : LeasedRun) → lease_in w ≡ Some l → report_in w ≡ None
 lease-not_report (Leased k w r q t p d) l h = refl

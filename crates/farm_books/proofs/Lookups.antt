@@ -1,4 +1,4 @@
--- Places of keys and of reports after one entry more, and after one less.
+-- Places of keys and of reports after appending an entry, and after one less.
 use Rattle.std.proofs.Common.{◌≡◌, ◌≢◌, ℕ, ◌+◌, ◌<◌, ◌≤◌, Bool, true, false, cond, List, [], ◌∷◌, ◌++◌, length, position, Option, Some, None, refl, sym, ap, ◌∙◌, ⊎_elim, arith, length-append}
 use Rattle.std.proofs.lemmas.Bool.{cases_eq, cases_lt}
 use Rattle.std.proofs.lemmas.Bool.Decides.{nat_tests}
@@ -98,7 +98,7 @@ removed-this m k q same = get-remove nat_cmp_total m k q ∙ ap (λ (b : Bool). 
 removed-other : (m : Places) (k q : ℕ) → (q ≡ k → ⊥) → get (remove m k) q ≡ get m q
 removed-other m k q apart = get-remove nat_cmp_total m k q ∙ ap (λ (b : Bool). cond b None (get m q)) (untied q k apart)
 
--- keys with one entry more
+-- keys with an entry appended
 keys-push_by : (H : List Entry) (e : Entry) (keys : Places) (part : Option Key) → key_in e.what ≡ part → AreKeys H keys →
     ((key : Key) → part ≡ Some key → place_of_key H key ≡ None) →
     AreKeys (H ++ e ∷ []) (with_key keys part (length H))

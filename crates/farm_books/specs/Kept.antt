@@ -31,7 +31,7 @@ pub record AreLeases (H : List Entry) (helds : List Held) : Type 0 where
   pub leases_are : map (λ held. leased held.lease) helds ≡ all_leases H
   pub marks_are : map (λ held. held.is_answered) helds ≡ map (λ l. is_reported H l.run) (all_leases H)
 
--- What one entry more makes of them, and what is left where it is taken away.
+-- What appending an entry makes of them, and what is left where it is taken away.
 
 abbrev pub with_key : Places → Option Key → (place : ℕ) → Places
 with_key keys None place = keys

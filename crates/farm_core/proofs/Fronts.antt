@@ -71,7 +71,7 @@ shortened_farm f g old same front =
       within = omega (arith, same, long);
     }
 
--- one entry more, that may come next
+-- an entry appended, that may come next
 pub lengthened_farm : (f g : Inside) (e : Entry) → IsFarm f → IsLegal (f.kept ++ e ∷ []) → g.committed ≡ f.committed
     → g.kept ≡ f.kept ++ e ∷ [] → IsFarm g
 lengthened_farm f g e old legal same more =

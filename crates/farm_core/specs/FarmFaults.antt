@@ -11,12 +11,12 @@ use Rattle.farm_core.specs.declared.farm.AdmitFault.TheVariants as admit
 use Rattle.farm_core.specs.declared.prepared.CoreFault.{CoreFault}
 use Rattle.farm_core.specs.declared.prepared.CoreFault.TheVariants as core
 
--- a command is refused where it comes to that refusal; memory may be wanting at any time
+-- a command is refused where it comes to that refusal; memory may run out at any time
 abbrev pub IsRefusedBy : List Entry → Command → Moment → CoreFault → Type 0
 IsRefusedBy H q m (core.Refused x) = decide H q m ≡ Refuse x
 IsRefusedBy H q m core.Memory = ⊤
 
--- an entry isn't admitted where it makes no legal history; memory may be wanting at any time
+-- an entry isn't admitted where it makes no legal history; memory may run out at any time
 abbrev pub IsUnfit : List Entry → Entry → AdmitFault → Type 0
 IsUnfit H e admit.Illegal = ¬ IsLegal (H ++ e ∷ [])
 IsUnfit H e admit.Memory = ⊤

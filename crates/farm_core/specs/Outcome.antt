@@ -3,9 +3,11 @@ use Rattle.std.specs.Prelude.{◌≡◌, ℕ, List, [], ◌∷◌, ◌++◌, len
 use Rattle.farm_types.specs.declared.moment.Moment.{Moment}
 use Rattle.farm_entry.specs.Decision.{decide}
 use Rattle.farm_entry.specs.Reply.{reply_at}
+use Rattle.farm_entry.specs.declared.decision.Decision.{Decision}
 use Rattle.farm_entry.specs.declared.decision.Decision.TheVariants as decision
 use Rattle.farm_entry.specs.declared.command.Command.{Command}
 use Rattle.farm_entry.specs.declared.entry.Entry.{Entry}
+use Rattle.farm_entry.specs.declared.reply.Reply.{Reply}
 use Rattle.farm_core.specs.declared.prepared.CoreFault.{CoreFault}
 use Rattle.farm_core.specs.declared.prepared.Prepared.{Prepared}
 use Rattle.farm_core.specs.declared.prepared.Prepared.TheVariants.{Repeat, Shown, New}
@@ -16,6 +18,14 @@ abbrev pub IsPrepared : List Entry → Command → Moment → Prepared → Type 
 IsPrepared H q m (Repeat r) = (place : ℕ) × (decide H q m ≡ decision.Repeat place) × (reply_at H place ≡ Some r)
 IsPrepared H q m (Shown r) = decide H q m ≡ decision.Show r
 IsPrepared H q m (New e r) = (decide H q m ≡ decision.New e) × (reply_at (H ++ e ∷ []) (length H) ≡ Some r)
+
+-- the reply to a command that comes to this decision at a history: the first one again, what it shows, or that of its
+-- entry when it comes next
+abbrev pub IsReplied : List Entry → Decision → Reply → Type 0
+IsReplied H (decision.Repeat place) r = reply_at H place ≡ Some r
+IsReplied H (decision.Show page) r = r ≡ page
+IsReplied H (decision.New e) r = reply_at (H ++ e ∷ []) (length H) ≡ Some r
+IsReplied H (decision.Refuse cause) r = ⊥
 
 -- the entries that may be committed once a command was prepared: its own, or none
 abbrev pub ready_after : Result Prepared CoreFault → List Entry

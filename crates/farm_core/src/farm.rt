@@ -2,9 +2,9 @@
 
 use crate::prepared::{CoreFault, Prepared};
 use crate::tail::{cut, reply_of};
-use farm_entry::{Command, Decision, Entry, Reply, Settings, Totals, What};
+use farm_entry::{Command, Decision, Entry, Reply, Settings, Standing, Totals, What};
 use farm_types::{Memory, Moment};
-use kept_decisions::{KeptFarm, decide, is_next};
+use kept_decisions::{KeptFarm, decide, is_next, standing_of};
 use std::alloc::Global;
 use std::marker::Model;
 use thiserror::Error;
@@ -15,7 +15,7 @@ pub enum AdmitFault {
     /// No command makes this entry the next one.
     #[error("the entry can't come next")]
     Illegal,
-    /// Want of memory.
+    /// Running out of memory.
     #[error("out of memory")]
     Memory,
 }
@@ -57,12 +57,16 @@ impl Model for Farm {
 impl Farm {
     ghost use Rattle.std.specs.Prelude.{◌≡◌, ◌<◌, ◌-◌, ◌++◌, ◌∷◌, ◌↔◌, [], length, take, drop, slice_get, Some};
     ghost use Rattle.std.specs.Prelude.{IsTrue, IfOk, IfErr, OnOk, OnErr};
+    ghost use Rattle.std.specs.Option.{option_map};
     ghost use Rattle.farm_entry.specs.Decision.{decide};
+    ghost use Rattle.farm_entry.specs.History.{opening_numbered};
     ghost use Rattle.farm_entry.specs.Legal.{IsLegal, IsNext};
     ghost use Rattle.farm_entry.specs.Pages.{totals};
+    ghost use Rattle.farm_entry.specs.Playing.{after};
     ghost use Rattle.farm_entry.specs.Reply.{reply_at};
+    ghost use Rattle.farm_entry.specs.Standing.{standing};
     ghost use Rattle.farm_core.specs.FarmFaults.{IsRefusedBy, IsUnfit};
-    ghost use Rattle.farm_core.specs.Outcome.{IsPrepared, ready_after};
+    ghost use Rattle.farm_core.specs.Outcome.{IsPrepared, IsReplied, ready_after};
 
     /// A farm that was founded with these settings at this moment: its history is that one entry.
     ///
@@ -98,6 +102,16 @@ impl Farm {
         self.kept.totals_at(self.committed)
     }
 
+    /// Where a search stands, where it was opened. Nothing that was ready before may be committed any more.
+    pub fn standing(&mut self, search: u32) -> Option<Standing>
+        ensures standing { result ≡ option_map (standing self.old.history) (opening_numbered self.old.history search) }
+        ensures history { self.new.history ≡ self.old.history }
+        ensures ready { self.new.ready ≡ [] }
+    {
+        self.forget_ready();
+        self.kept_standing(search)
+    }
+
     /// Prepares a command: says what it comes to at the history and a moment, and where that is a new entry, makes it
     /// the one that may be committed, with the room for it. Whatever is answered, the history stays, and nothing that
     /// was ready before may be committed any more.
@@ -121,8 +135,38 @@ impl Farm {
             }
             Decision::Show(reply) => Ok(Prepared::Shown(reply)),
             Decision::New(entry) => {
-                let reply = self.prepare_new(&entry)?;
+                let copy = entry.copy()?;
+                let reply = self.prepare_new(copy)?;
                 Ok(Prepared::New(entry, reply))
+            }
+        }
+    }
+
+    /// Answers a command: says what it comes to at the history and a moment, and where that is a new entry, the history
+    /// ends with it from now on. It comes to the same as to prepare the command and to commit its entry, but makes no
+    /// copy of the entry. Nothing that was ready before may be committed any more.
+    ///
+    /// # Errors
+    ///
+    /// [`CoreFault::Refused`], exactly where the farm's definitions refuse the command; or [`CoreFault::Memory`]. The
+    /// history stays.
+    pub fn answer(&mut self, command: &Command, at: Moment) -> Result<Reply, CoreFault>
+        ensures replied { IfOk result (IsReplied self.old.history (decide self.old.history command.now at)) }
+        ensures refused { IfErr result (IsRefusedBy self.old.history command.now at) }
+        ensures history { OnOk result
+            (self.new.history ≡ after self.old.history (decide self.old.history command.now at)) }
+        ensures kept { OnErr result (self.new.history ≡ self.old.history) }
+        ensures ready { self.new.ready ≡ [] }
+    {
+        self.forget_ready();
+        match self.decide(command, at)? {
+            Decision::Refuse(refusal) => Err(CoreFault::Refused(refusal)),
+            Decision::Repeat(place) => Ok(self.repeat(place as usize)?),
+            Decision::Show(reply) => Ok(reply),
+            Decision::New(entry) => {
+                let reply = self.prepare_new(entry)?;
+                self.commit_next();
+                Ok(reply)
             }
         }
     }
@@ -185,6 +229,14 @@ impl Farm {
         cut(&mut self.kept, self.committed);
     }
 
+    /// Where a search stands, where nothing may be committed.
+    fn kept_standing(&self, search: u32) -> Option<Standing>
+        requires { self.now.ready ≡ [] }
+        ensures { result ≡ option_map (standing self.now.history) (opening_numbered self.now.history search) }
+    {
+        standing_of(&self.kept, search)
+    }
+
     /// What a command comes to, where nothing may be committed.
     fn decide(&self, command: &Command, at: Moment) -> Result<Decision, Memory>
         requires { self.now.ready ≡ [] }
@@ -235,16 +287,16 @@ impl Farm {
     }
 
     /// Makes the new entry of a command the one that may be committed, and says what the command is replied.
-    fn prepare_new(&mut self, entry: &Entry) -> Result<Reply, Memory>
+    fn prepare_new(&mut self, entry: Entry) -> Result<Reply, Memory>
         requires none_ready { self.old.ready ≡ [] }
-        requires next { IsLegal (self.old.history ++ entry.now ∷ []) }
+        requires next { IsLegal (self.old.history ++ entry ∷ []) }
         ensures reply { IfOk result
-            (λ reply. reply_at (self.old.history ++ entry.now ∷ []) (length self.old.history) ≡ Some reply) }
+            (λ reply. reply_at (self.old.history ++ entry ∷ []) (length self.old.history) ≡ Some reply) }
         ensures history { self.new.history ≡ self.old.history }
-        ensures ready { OnOk result (self.new.ready ≡ entry.now ∷ []) }
+        ensures ready { OnOk result (self.new.ready ≡ entry ∷ []) }
         ensures none { OnErr result (self.new.ready ≡ []) }
     {
-        self.make_ready(entry.copy()?)?;
+        self.make_ready(entry)?;
         let reply = self.next_reply();
         if reply.is_err() {
             self.forget_ready();

@@ -19,7 +19,7 @@ pub enum CoreFault {
     /// The farm refuses the command.
     #[error("{0}")]
     Refused(Refusal),
-    /// Want of memory.
+    /// Running out of memory.
     #[error("out of memory")]
     Memory,
 }

@@ -89,7 +89,7 @@ OnWriteFailed written.Did P = ⊤
 OnWriteFailed written.Failed P = P
 OnWriteFailed written.Memory P = ⊤
 
--- what holds where memory was wanting
+-- what holds where memory ran out
 abbrev pub OnWriteMemory : Written → Type 0 → Type 0
 OnWriteMemory written.Did P = ⊤
 OnWriteMemory written.Failed P = ⊤

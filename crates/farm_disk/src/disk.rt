@@ -41,7 +41,7 @@ pub enum Written {
     Did,
     /// The disk failed, and its count of faults rose. Some of the bytes may have been written.
     Failed,
-    /// Memory was wanting, and nothing was done.
+    /// Out of memory, and nothing was done.
     Memory,
 }
 
@@ -93,7 +93,7 @@ pub trait Disk {
         requires { tells self.old ≡ true → at ≤ length (told self.old).bytes }
         ensures same { tells self.new ≡ tells self.old }
         ensures writes { tells self.old ≡ true → Writes at bytes.now result (told self.old) (told self.new) }
-        // A write that stays within the size never wants memory.
+        // A write that stays within the size never runs out of memory.
         ensures within { tells self.old ≡ true → at + length bytes.now ≤ length (told self.old).bytes
             → OnWriteMemory result ⊥ }
         ensures cause { OnWriteFailed result (Rose (count self.old) (count self.new)) }

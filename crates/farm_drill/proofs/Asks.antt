@@ -1,7 +1,6 @@
 -- What a call on a store comes to, where nothing was pending.
-use Rattle.std.proofs.Common.{◌≡◌, ◌⊎◌, ◌++◌, ◌∷◌, [], List, ℕ, Ok, Err, refl, sym, ap, subst, ◌∙◌, ⊎_elim, append-nil}
+use Rattle.std.proofs.Common.{◌≡◌, ◌⊎◌, ◌++◌, [], List, Ok, Err, sym, ap, subst, ◌∙◌, ⊎_elim, append-nil}
 use Rattle.farm_types.specs.declared.moment.Moment.{Moment}
-use Rattle.farm_disk.specs.Images.{DiskState}
 use Rattle.farm_entry.specs.Decision.{decide}
 use Rattle.farm_entry.specs.Playing.{after}
 use Rattle.farm_entry.specs.declared.command.Command.{Command}
@@ -10,7 +9,7 @@ use Rattle.farm_entry.specs.declared.decision.Decision.TheVariants.{New, Refuse,
 use Rattle.farm_entry.specs.declared.entry.Entry.{Entry}
 use Rattle.farm_entry.specs.declared.refusal.Refusal.{Refusal}
 use Rattle.farm_entry.specs.declared.reply.Reply.{Reply}
-use Rattle.farm_store.specs.Answering.{CallSays, IsAnswer, IsAnswered}
+use Rattle.farm_store.specs.Answering.{CallSays, IsAnswer}
 use Rattle.farm_store.specs.State.{IsRepaired, StoreState}
 use Rattle.farm_store.specs.declared.asking.Answer.TheVariants as answer
 use Rattle.farm_store.specs.declared.asking.CallFault.TheVariants as call

@@ -1,23 +1,21 @@
 -- What a lease of the caller comes to.
-use Rattle.std.proofs.Common.{◌≡◌, ◌⊎◌, inl, inr, ℕ, zero, suc, ◌+◌, ◌<◌, ◌≤◌, nat_le, Bool, true, false, List, [], ◌∷◌, ◌++◌, length, take, slice_get, All, Contains, Option, Some, None, Result, Ok, Err, IfSome, IfNone, option_map, if◌then◌else◌, refl, sym, ap, subst, ◌∙◌, ⊎_elim, arith}
+use Rattle.std.proofs.Common.{◌≡◌, ◌⊎◌, inl, inr, ℕ, ◌+◌, ◌<◌, ◌≤◌, nat_le, Bool, true, false, List, [], ◌∷◌, ◌++◌, length, take, All, Option, Some, None, Result, Ok, Err, IfSome, IfNone, option_map, if◌then◌else◌, refl, sym, ap, subst, ◌∙◌, ⊎_elim, arith}
 use Rattle.std.specs.Option.{option_and_then}
 use Rattle.std.proofs.lemmas.Bool.{cases_Bool}
 use Rattle.std.proofs.lemmas.Bool.Decides.{nat_tests}
 use Rattle.farm_types.specs.Moment.{moment_ms}
 use Rattle.farm_types.specs.declared.key.Key.{Key}
-use Rattle.farm_types.specs.declared.commit_id.CommitId.{CommitId}
 use Rattle.farm_types.specs.declared.moment.Moment.{Moment}
-use Rattle.farm_types.specs.declared.stage.Stage.{Stage}
 use Rattle.farm_entry.specs.Decision.{decide, last_moment, later, lease_decision, moment_used}
 use Rattle.farm_entry.specs.Due.{next_run}
-use Rattle.farm_entry.specs.History.{all_leases, lease_in, lease_ms, opening_numbered, place_of_key}
+use Rattle.farm_entry.specs.History.{all_leases, lease_ms, opening_numbered, place_of_key}
 use Rattle.farm_entry.specs.Setup.{commit_of}
 use Rattle.farm_entry.specs.Legal.{IsLegal}
 use Rattle.farm_entry.specs.Playing.{after}
 use Rattle.farm_entry.specs.Reply.{reply_at, reply_to}
 use Rattle.farm_entry.specs.declared.command.Command.TheVariants.{Lease}
 use Rattle.farm_entry.specs.declared.decision.Decision.{Decision}
-use Rattle.farm_entry.specs.declared.decision.Decision.TheVariants.{New, Refuse}
+use Rattle.farm_entry.specs.declared.decision.Decision.TheVariants.{Refuse}
 use Rattle.farm_entry.specs.declared.entry.Entry.{Entry}
 use Rattle.farm_entry.specs.declared.entry.What.TheVariants.{Leased}
 use Rattle.farm_entry.specs.declared.lease.DueRun.{DueRun}
@@ -25,7 +23,7 @@ use Rattle.farm_entry.specs.declared.lease.LeasedRun.{LeasedRun}
 use Rattle.farm_entry.specs.declared.limits.TheConstants.{MAX_ENTRIES}
 use Rattle.farm_entry.specs.declared.opening.Opening.{Opening}
 use Rattle.farm_entry.specs.declared.refusal.Refusal.{Refusal}
-use Rattle.farm_entry.specs.declared.refusal.Refusal.TheVariants.{Full, NoRun}
+use Rattle.farm_entry.specs.declared.refusal.Refusal.TheVariants.{Full}
 use Rattle.farm_entry.specs.declared.reply.Reply.{Reply}
 use Rattle.farm_entry.specs.declared.reply.Reply.TheVariants as reply
 use Rattle.farm_laws.proofs.Bounds.{entries-bounded}

@@ -1,8 +1,7 @@
 -- Marks that are made entry by entry: of keys, and of runs that are reported.
-use Rattle.std.proofs.Common.{◌≡◌, ◌⊎◌, inl, inr, ℕ, zero, suc, ◌+◌, ◌<◌, ◌≤◌, ◌==◌, Bool, true, false, not, ◌||◌, List, [], ◌∷◌, ◌++◌, length, take, filter, get_or, position, replicate, All, Contains, Option, Some, None, refl, sym, ap, subst, ◌∙◌, ⊎_elim, if◌then◌else◌, add-one, arith, true≢false, take-suc}
+use Rattle.std.proofs.Common.{◌≡◌, ◌⊎◌, ℕ, zero, suc, ◌+◌, ◌<◌, ◌≤◌, ◌==◌, Bool, true, false, not, ◌||◌, List, [], ◌∷◌, ◌++◌, length, take, filter, get_or, replicate, All, Contains, Some, None, refl, sym, ap, subst, ◌∙◌, ⊎_elim, if◌then◌else◌, add-one, arith, true≢false, take-suc}
 use Rattle.std.specs.List.{cons_option, list_any}
 use Rattle.std.proofs.Math.Bool.{or-false, or-true}
-use Rattle.std.proofs.lemmas.Bool.{cases_Bool}
 use Rattle.std.proofs.lemmas.Bool.Decides.{nat_tests}
 use Rattle.std.proofs.lemmas.List.{get_or-replicate, length-replicate, take_all}
 use Rattle.std.proofs.lemmas.List.Elements.{All-cons, filter-append}
@@ -70,7 +69,7 @@ some-unmarked H used legal marked same all =
     let none : list_any (has_key free.key) H ≡ false = any-from_none (has_key free.key) H free.free in
     true≢false (sym there ∙ none)
 
--- a key that is taken stands in one entry more, and the others are free as before
+-- a key that is taken stands in one more entry, and the others are free as before
 pub free-next : (H : List Entry) (old new : Keys) (key : Key) (e : Entry) → AreFree H old
     → new.used.items ≡ old.used.items → new.next ≡ key.0 + 1 → old.next ≤ key.0 → key_in e.what ≡ Some key
     → AreFree (H ++ e ∷ []) new

@@ -1,5 +1,5 @@
 -- What a revert of the caller comes to.
-use Rattle.std.proofs.Common.{is_ok, MatchBool, ◌≡◌, ◌⊎◌, inl, inr, ℕ, zero, suc, ◌+◌, ◌<◌, ◌≤◌, nat_le, nat_lt, Bool, true, false, List, [], ◌∷◌, ◌++◌, length, Option, Some, None, Result, Ok, Err, if◌then◌else◌, refl, sym, ap, subst, ◌∙◌, ⊎_elim, arith}
+use Rattle.std.proofs.Common.{is_ok, MatchBool, ◌≡◌, ◌⊎◌, ℕ, ◌+◌, ◌<◌, ◌≤◌, nat_le, nat_lt, Bool, true, false, List, [], ◌∷◌, length, Option, Some, None, Result, Ok, Err, if◌then◌else◌, refl, sym, ap, subst, ◌∙◌, ⊎_elim, arith}
 use Rattle.std.proofs.lemmas.Bool.{cases_Bool}
 use Rattle.std.proofs.lemmas.Bool.Decides.{nat_tests}
 use Rattle.farm_types.proofs.SameValues.{moment_ms-injective}
@@ -18,7 +18,7 @@ use Rattle.farm_entry.specs.Orders.{confirmed_searches, day_in, next_order_at, o
 use Rattle.farm_entry.specs.Playing.{after}
 use Rattle.farm_entry.specs.declared.command.Command.TheVariants.{TakeRevert}
 use Rattle.farm_entry.specs.declared.decision.Decision.{Decision}
-use Rattle.farm_entry.specs.declared.decision.Decision.TheVariants.{New, Refuse}
+use Rattle.farm_entry.specs.declared.decision.Decision.TheVariants.{Refuse}
 use Rattle.farm_entry.specs.declared.entry.Entry.{Entry}
 use Rattle.farm_entry.specs.declared.entry.What.TheVariants.{Ordered}
 use Rattle.farm_entry.specs.declared.limits.TheConstants.{MAX_ENTRIES}
@@ -32,7 +32,7 @@ use Rattle.list_prefix.specs.Prefix.{IsPrefix}
 use Rattle.drill_plan.specs.Start.{drill_founding, revert_ms}
 use Rattle.drill_plan.specs.declared.limits.TheConstants.{DRILL_DAILY}
 use Rattle.farm_drill.specs.Asked.{AskSays, IsDone, IsRefused}
-use Rattle.farm_drill.specs.Ends.{IsFull, NoOrderGiven, RevertsEnded}
+use Rattle.farm_drill.specs.Ends.{NoOrderGiven, RevertsEnded}
 use Rattle.farm_drill.specs.Steps.{GivesOrder}
 use Rattle.farm_drill.proofs.Leases.{full-is, room-is}
 

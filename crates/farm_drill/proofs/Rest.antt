@@ -1,5 +1,5 @@
 -- One step of the caller: a run that is leased and reported, or an order.
-use Rattle.std.proofs.Common.{◌≡◌, ◌⊎◌, inl, inr, ◌+◌, ◌-◌, ◌<◌, ◌≤◌, ◌++◌, ◌∷◌, [], true, List, Contains, length, Some, None, sym, ap, subst, ◌∙◌, ⊎_elim, append-nil, arith}
+use Rattle.std.proofs.Common.{◌≡◌, ◌⊎◌, inl, inr, ◌+◌, ◌-◌, ◌<◌, ◌≤◌, ◌++◌, ◌∷◌, [], true, List, Contains, length, Some, None, sym, subst, ◌∙◌, ⊎_elim, append-nil, arith}
 use Rattle.list_prefix.specs.Prefix.{IsPrefix}
 use Rattle.farm_types.specs.declared.key.Key.{Key}
 use Rattle.farm_entry.specs.History.{all_leases, is_reported, key_in, place_of_key}
@@ -12,7 +12,7 @@ use Rattle.farm_drill.specs.Ends.{AllReported, AreOrders, AreRun, IsFull}
 use Rattle.farm_drill.specs.Free.{AreFree}
 use Rattle.farm_drill.specs.Steps.{FindsNone, GivesOrder, HandsOut}
 use Rattle.farm_drill.specs.declared.keys.Keys.{Keys}
-use Rattle.farm_drill.proofs.Growing.{all-after, lease-there, prefix-trans}
+use Rattle.farm_drill.proofs.Growing.{all-after, lease-there}
 use Rattle.farm_drill.proofs.Leases.{none-due}
 use Rattle.farm_drill.proofs.Steps.{free-on, free-then, longer-by, one-order-more, prefix-le}
 

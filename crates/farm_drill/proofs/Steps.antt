@@ -1,18 +1,16 @@
 -- What the commands of the caller come to, by what the store answered.
-use Rattle.std.proofs.Common.{◌≡◌, ◌+◌, ◌++◌, ◌∷◌, ◌≤◌, ◌<◌, [], ℕ, Bool, true, false, List, All, Contains, MatchBool, length, take, get_or, filter, Option, Some, None, Result, Ok, Err, is_ok, is_some, append_assoc, append-nil, length-append, refl, sym, ap, subst, ◌∙◌, arith, take-suc, add-one}
-use Rattle.std.proofs.lemmas.List.{take_all}
+use Rattle.std.proofs.Common.{◌≡◌, ◌+◌, ◌++◌, ◌∷◌, ◌≤◌, ◌<◌, [], ℕ, Bool, true, List, All, Contains, MatchBool, length, take, get_or, None, Result, Ok, Err, is_ok, is_some, append_assoc, length-append, refl, sym, ap, subst, ◌∙◌, arith, take-suc, add-one}
 use Rattle.std.proofs.lemmas.List.Elements.{All-push, All-weaker}
 use Rattle.list_prefix.specs.Prefix.{IsPrefix}
 use Rattle.weight_exact.specs.declared.run.Verdict.{Verdict}
 use Rattle.farm_types.specs.declared.key.Key.{Key}
 use Rattle.farm_types.specs.declared.moment.Moment.{Moment}
 use Rattle.farm_entry.specs.Decision.{decide}
-use Rattle.farm_entry.specs.History.{all_leases, is_reported, key_in, order_in, place_of_key}
+use Rattle.farm_entry.specs.History.{all_leases, is_reported, order_in, place_of_key}
 use Rattle.farm_entry.specs.Legal.{IsLegal}
 use Rattle.farm_entry.specs.Playing.{after}
 use Rattle.farm_entry.specs.declared.command.Command.TheVariants.{Open, Report}
 use Rattle.farm_entry.specs.declared.command.OpenAsk.{OpenAsk}
-use Rattle.farm_entry.specs.declared.decision.Decision.{Decision}
 use Rattle.farm_entry.specs.declared.decision.Decision.TheVariants.{New, Refuse}
 use Rattle.farm_entry.specs.declared.entry.Entry.{Entry}
 use Rattle.farm_entry.specs.declared.lease.LeasedRun.{LeasedRun}
@@ -23,7 +21,6 @@ use Rattle.drill_plan.specs.Start.{IsOpened, IsStart, drill_founding, drill_mome
 use Rattle.farm_drill.specs.Asked.{AskSays, IsDone, IsRefused}
 use Rattle.farm_drill.specs.Ends.{AreOrders, IsFull}
 use Rattle.farm_drill.specs.Free.{AreFree, key_numbered}
-use Rattle.farm_drill.specs.Steps.{GivesOrder}
 use Rattle.farm_drill.specs.declared.keys.Keys.{Keys}
 use Rattle.farm_drill.proofs.Reports.{report-done, report-refused}
 

@@ -1,5 +1,5 @@
 -- How far a drill is played: until no run is left, and then until no revert is.
-use Rattle.std.specs.Prelude.{◌≡◌, ◌⊎◌, ℕ, ◌+◌, Bool, true, List, ◌++◌, length, All, is_some, None, ⊤}
+use Rattle.std.specs.Prelude.{◌≡◌, ◌⊎◌, ℕ, ◌+◌, true, List, ◌++◌, length, All, is_some, None, ⊤}
 use Rattle.farm_types.specs.Moment.{moment_ms}
 use Rattle.farm_types.specs.declared.key.Key.{Key}
 use Rattle.farm_types.specs.declared.moment.Moment.{Moment}

@@ -1,8 +1,8 @@
 -- Keys that stand in no entry.
-use Rattle.std.specs.Prelude.{◌≡◌, ℕ, ◌+◌, ◌≤◌, ◌<◌, Bool, true, false, List, [], ◌∷◌, ◌++◌, length, get_or, Some, None}
+use Rattle.std.specs.Prelude.{◌≡◌, ℕ, ◌≤◌, ◌<◌, Bool, true, false, List, length, get_or, None}
 use Rattle.std.specs.List.{list_any}
 use Rattle.farm_types.specs.declared.key.Key.{Key}
-use Rattle.farm_entry.specs.History.{has_key, key_in, place_of_key}
+use Rattle.farm_entry.specs.History.{has_key, place_of_key}
 use Rattle.farm_entry.specs.declared.entry.Entry.{Entry}
 use Rattle.farm_drill.specs.declared.keys.Keys.{Keys}
 

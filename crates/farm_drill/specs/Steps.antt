@@ -1,5 +1,5 @@
 -- What one command of the caller adds to a history.
-use Rattle.std.specs.Prelude.{◌≡◌, ◌⊎◌, ◌<◌, true, false, nat_le, List, [], ◌∷◌, ◌++◌, length, is_some, Option, Some, None, Result, Ok, Err}
+use Rattle.std.specs.Prelude.{◌≡◌, ◌<◌, true, false, nat_le, List, [], ◌∷◌, ◌++◌, length, is_some, Option, Some, None, Result, Ok, Err}
 use Rattle.farm_types.specs.Moment.{moment_ms}
 use Rattle.farm_types.specs.declared.key.Key.{Key}
 use Rattle.farm_entry.specs.Decision.{moment_used}
@@ -12,7 +12,6 @@ use Rattle.farm_entry.specs.declared.refusal.Refusal.{Refusal}
 use Rattle.farm_entry.specs.declared.reply.Reply.{Reply}
 use Rattle.farm_entry.specs.declared.reply.Reply.TheVariants.{Leased}
 use Rattle.drill_plan.specs.Start.{drill_moment}
-use Rattle.farm_drill.specs.Ends.{IsFull}
 
 -- a history is longer by one entry, for which it had room, and which holds this key
 pub record IsOneMore (H : List Entry) (key : Key) (new : List Entry) : Type 0 where

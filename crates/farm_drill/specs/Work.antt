@@ -1,5 +1,5 @@
 -- What a worker of a drill holds, and what its runs say.
-use Rattle.std.specs.Prelude.{◌≡◌, ℕ, Option, Some, Result, Ok, Err}
+use Rattle.std.specs.Prelude.{◌≡◌, Option, Some, Result, Ok, Err}
 use Rattle.farm_entry.specs.declared.reply.Reply.{Reply}
 use Rattle.farm_entry.specs.declared.reply.Reply.TheVariants.{Leased}
 use Rattle.worker_core.specs.declared.event.Event.{Event}

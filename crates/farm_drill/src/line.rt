@@ -64,7 +64,7 @@ pub(crate) fn drill_line(alloc: Global, store: &mut Store<CalmDisk>) -> Result<S
     ensures kept { store.new ≡ store.old }
 {
     let searches = searches_count(store);
-    let tally = count_standings(store, searches)?;
+    let tally = count_standings(store, searches);
     let numbers = Numbers {
         searches,
         tally,
@@ -83,11 +83,11 @@ fn searches_count(store: &Store<CalmDisk>) -> u32
 }
 
 /// Where all searches stand.
-fn count_standings(store: &mut Store<CalmDisk>, searches: u32) -> Result<Tally, Memory>
+fn count_standings(store: &mut Store<CalmDisk>, searches: u32) -> Tally
     requires decided { store.old.pending ≡ [] }
     requires all { searches ≡ length (openings store.old.history) }
     requires legal { IsLegal store.old.history }
-    ensures tally { IfOk result (λ tally. tally ≡ tally_of store.old.history (openings store.old.history)) }
+    ensures tally { result ≡ tally_of store.old.history (openings store.old.history) }
     ensures kept { store.new ≡ store.old }
 {
     let mut tally = Tally {
@@ -96,21 +96,21 @@ fn count_standings(store: &mut Store<CalmDisk>, searches: u32) -> Result<Tally, 
         other: 0,
     };
     for before in 0..searches {
-        tally.note(standing_of(store, before + 1)?);
+        tally.note(standing_of(store, before + 1));
     }
-    Ok(tally)
+    tally
 }
 
 /// Where a search stands that was opened.
-fn standing_of(store: &mut Store<CalmDisk>, search: u32) -> Result<Standing, Memory>
+fn standing_of(store: &mut Store<CalmDisk>, search: u32) -> Standing
     requires decided { store.old.pending ≡ [] }
     requires opened { (o : Opening) × (opening_numbered store.old.history search ≡ Some o) }
-    ensures standing { IfOk result (λ found. (o : Opening) → opening_numbered store.old.history search ≡ Some o
-        → found ≡ standing store.old.history o) }
+    ensures standing { (o : Opening) → opening_numbered store.old.history search ≡ Some o
+        → result ≡ standing store.old.history o }
     ensures kept { store.new ≡ store.old }
 {
-    match store.page(search)? {
-        Some(page) => Ok(page.standing),
+    match store.standing(search) {
+        Some(standing) => standing,
         None => unreachable!(),
     }
 }

@@ -9,7 +9,7 @@ use drill_plan::planned_verdict;
 use farm_disk::CalmDisk;
 use farm_entry::{Command, MAX_ENTRIES, Refusal, Reply};
 use farm_store::CallFault;
-use farm_types::{Key, Memory, Name};
+use farm_types::{Key, Memory};
 use shared_farm::{Pass, SharedFarm};
 use std::alloc::Global;
 use std::sync::Wait;
@@ -35,17 +35,6 @@ impl Ended {
     }
 }
 
-impl From<Memory> for Ended {
-    ghost use Rattle.std.specs.Prelude.{◌≡◌};
-    ghost use Rattle.farm_drill.specs.declared.worker.Ended.TheVariants as ended;
-
-    ghost from_gives = { λ _ end. end ≡ ended.Memory };
-
-    fn from(_memory: Memory) -> Ended {
-        Ended::Memory
-    }
-}
-
 impl From<CallFault> for Ended {
     ghost from_gives = { λ _ _. Unit {0} };
 
@@ -64,11 +53,12 @@ pub(crate) struct Held {
     pub(crate) position: u16,
 }
 
-/// A worker: who it is, how many keys it has drawn, and the run that it leased last.
+/// A worker: its number, how it leases, how many keys it has drawn, and the run that it leased last.
 #[derive(Drop)]
 pub(crate) struct Worker {
     number: u32,
-    name: Name,
+    /// The command by which it leases, under the key that it drew last.
+    request: Command,
     core: WorkerCore,
     drawn: u64,
     held: Option<Held>,
@@ -79,7 +69,10 @@ impl Worker {
     fn start(alloc: Global, number: u32) -> Result<Worker, Memory> {
         Ok(Worker {
             number,
-            name: worker_name(alloc, number)?,
+            request: Command::Lease {
+                key: Key(0),
+                worker: worker_name(alloc, number)?,
+            },
             core: WorkerCore::start(MAX_ENTRIES as u32),
             drawn: 0,
             held: None,
@@ -147,9 +140,10 @@ impl Worker {
         requires { IsReady farm.now pass.old }
         ensures { IsReady farm.entry.now pass.new }
     {
-        let worker = self.name.copy()?;
-        let command = Command::Lease { key, worker };
-        match farm.call(rt, alloc, pass, &command, drill_moment()) {
+        if let Command::Lease { key: last, .. } = &mut self.request {
+            *last = key;
+        }
+        match farm.call(rt, alloc, pass, &self.request, drill_moment()) {
             Ok(reply) => self.take(&reply),
             Err(CallFault::Refused(Refusal::NoRun)) => Ok(Event::Nothing),
             Err(fault) => Err(Ended::from(fault)),

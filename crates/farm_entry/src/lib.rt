@@ -11,10 +11,11 @@
 //!
 //! The definitions stand in `specs/`, to be read in this order: `Ask` (the search that a request asks for), `Setup` (from
 //! an opening to its weights), `History` (what a list of entries holds), `Standing`, `Due`, `Orders`, `Pages`, `Reply`,
-//! `Decision`, `Legal` and `Playing` (what becomes of a history as commands are decided). They compute. Their laws stand in
-//! a crate above this one, `farm_laws`, and farms that are played by evaluating them in `farm_worked`. The layers above may
-//! cite the lemmas of `proofs/Growing` (what a history holds after one entry more, and its last moment), `proofs/Asked`
-//! (what is made of the numbers of an ask) and `proofs/SameSettings`. Its tests stand in `entry_tests`.
+//! `Decision`, `Legal` and `Playing` (what becomes of a history as commands are decided). They compute. Their laws
+//! stand in a crate above this one, `farm_laws`, and farms that are played by evaluating them in `farm_worked`. The
+//! layers above may cite the lemmas of `proofs/Growing` (what a history holds after appending an entry, and its last
+//! moment), `proofs/Asked` (what is made of the numbers of an ask) and `proofs/SameSettings`. Its tests stand in
+//! `entry_tests`.
 #![tactic(auto)]
 
 mod ask;

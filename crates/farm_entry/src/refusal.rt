@@ -49,7 +49,7 @@ pub enum Refusal {
 /// Why a search can't be opened. Where several causes stand, the first in this order is answered.
 #[derive(Clone, Copy, Debug, PartialEq, Eq, Error)]
 pub enum OpenFault {
-    /// The suspects make no range. Want of memory isn't said in this way.
+    /// The suspects make no range. Running out of memory isn't said in this way.
     #[error(transparent)]
     Range(RangeFault),
     /// The numbers, as given, are no flake rate.

@@ -112,7 +112,7 @@ front-more complete held items size request b a n some sum closes =
     behind-one bytes [] item = refl
     behind-one bytes (i ∷ before) item = behind-one (drop i.size bytes) before item
 
--- a batch with one command more
+-- a batch with one more command
 pub batch-more : (clock : Moment → Type 0) (complete : Bool) (held : List ℕ) (b more : BatchState) (request : Request) (ask : Ask)
     → IsBatch clock complete held b → b.closes ≡ false → length b.asks + 1 ≤ MAX_BATCH
     → IsNextFor complete (drop b.size held) request → request.interim ≡ false → (request.closes ≡ false → 0 < request.size)

@@ -279,7 +279,7 @@ module _ (start : Progress) (clock : Moment → Type 0) (old : Caller) (before :
       (after-legal clock start is.items is.steps is.so_far.are_steps legal))
       takes puts whole
 
-  -- a take failed, or memory was wanting for it
+  -- a take failed, or memory ran out for it
   pub serving-untaken : (new : Caller) (now later : LinkState) (r : ReceivedState) (requests : ℕ) (all : List Item) (end : End)
       → IsServing start clock old new before now r requests → IsLegal start.totals → later.taken ≡ now.taken → later.put ≡ now.put
       → Items r.held all end

@@ -135,7 +135,7 @@ module _ (clock : Moment → Type 0) (c : Progress) (complete : Bool) (held : Li
       (command-kind route asks ∙ ap (λ (x : Result Command WireFault). commands x) is, tt)
       (record { seen = refl; faults = refl; none = refl; counts = refl }) refl result same put
 
-  -- memory was wanting before its command was known
+  -- memory ran out before its command was known
   pub unread-says : (route : Route) → request.asks ≡ Ok (endpoint.Command route) → (result : Result Answered ServeFault)
       → ((d : Answered) → result ≡ Ok d → d ≡ one_answered request) → PutSays (request_bytes request no_memory) before now result
       → FrontSays clock c complete held out before now (record { pass = pass; read = c.totals }) (record { pass = pass; read = c.totals }) result
@@ -144,7 +144,7 @@ module _ (clock : Moment → Type 0) (c : Progress) (complete : Bool) (held : Li
       (record { reading = body_reading route (item_in held request).body; asked = command-kind route asks }, tt)
       (record { seen = refl; faults = refl; none = refl; counts = refl }) refl result same put
 
-  -- the body of a command was not read: it is no command, or memory was wanting for it
+  -- the body of a command was not read: it is no command, or memory ran out for it
   pub unasked-says : (route : Route) (f : WireFault) → request.asks ≡ Ok (endpoint.Command route)
       → (f ≢ wire.Memory → body_reading route (item_in held request).body ≡ Err f) → (result : Result Answered ServeFault)
       → ((d : Answered) → result ≡ Ok d → d ≡ one_answered request)

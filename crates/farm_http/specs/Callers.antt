@@ -18,8 +18,8 @@ caller pass read = record { pass = pass; read = read }
 abbrev pub mark_of : Known → Mark
 mark_of pass = record { seen = pass.seen; faults = pass.faults }
 
--- Items came to these steps: all that is carried past them is within what the pass has seen, the pass keeps the places of
--- what their commands recorded, and the reader has seen the history of the last totals.
+-- Items came to these steps: all that is carried past them is within what the pass has seen, the pass keeps the places
+-- of what their commands recorded, and the reader has seen the history of the last totals.
 pub record IsAfter (c : Progress) (steps : List Step) (old new : Caller) : Type 0 where
   pub within : IsWithin (progress_after c steps) (mark_of new.pass)
   pub places : new.pass.mine ≡ old.pass.mine ++ recorded_places steps

@@ -18,8 +18,8 @@ use Rattle.link_io.specs.declared.source.TheConstants.{INPUT_LIMIT}
 use Rattle.farm_http.specs.Callers.{Caller, IsAfter, mark_of}
 use Rattle.farm_http.specs.Received.{ReceivedState, AsksInterim}
 
--- Of what was taken, the items so far were answered whole, none of them closes, and what is behind them is held. An interim
--- answer may be out for the one at the front.
+-- Of what was taken, the items so far were answered whole, none of them closes, and what is behind them is held. An
+-- interim answer may be out for the one at the front.
 pub record IsServing (start : Progress) (clock : Moment → Type 0) (old new : Caller) (before now : LinkState) (r : ReceivedState)
     (requests : ℕ) : Type 0 where
   pub taken : List ℕ
@@ -37,8 +37,8 @@ pub record IsServing (start : Progress) (clock : Moment → Type 0) (old new : C
   pub requests_are : requests ≡ length items
   pub few : requests + length r.held ≤ r.taken
 
--- What the serving came to, by its answer and by the bytes that are held in the end: after a fault it takes the list of the
--- items of these.
+-- What the serving came to, by its answer and by the bytes that are held in the end: after a fault it takes the list
+-- of the items of these.
 abbrev pub HasServed : Result Served ServeFault → (held : List ℕ) → Progress → Mark → (Moment → Type 0) → (old new : LinkState)
     → (mine kept : List ℕ) → List Entry → Type 0
 HasServed (Ok served) held start final clock old new mine kept read = IsServed served start final clock old new mine kept read
@@ -49,7 +49,8 @@ HasServed (Err fault) held start final clock old new mine kept read =
 abbrev pub work_left : ReceivedState → ℕ
 work_left r = 2 * (INPUT_LIMIT - r.taken) + length r.held + (if r.ended then 0 else 1)
 
--- What a turn of the loop came to: it goes on, and less is left to do than there was; or it has ended; or a fault stopped it.
+-- What a turn of the loop came to: it goes on, and less is left to do than there was; or it has ended; or a fault
+-- stopped it.
 abbrev pub GoesOn : Progress → (Moment → Type 0) → (old : Caller) → (before : LinkState) → (work : ℕ) → Result (Option Why) ServeFault
     → (new : Caller) → (now : LinkState) → ReceivedState → (requests : ℕ) → Type 0
 GoesOn start clock old before work (Ok None) new now r requests =

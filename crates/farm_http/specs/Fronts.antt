@@ -56,8 +56,8 @@ abbrev pub FrontBy : (Moment → Type 0) → Progress → (complete : Bool) → 
 FrontBy clock c complete held out put old new (Ok done) = AreAnswered clock c complete held out put old new done
 FrontBy clock c complete held out put old new (Err fault) = ArePartly clock c held out put old new
 
--- What answering the items at the front came to, from what is carried to them: the bytes that were put, and the steps that
--- the items came to.
+-- What answering the items at the front came to, from what is carried to them: the bytes that were put, and the steps
+-- that the items came to.
 pub record FrontSays (clock : Moment → Type 0) (c : Progress) (complete : Bool) (held : List ℕ) (out : Bool)
     (before now : Option (List ℕ)) (old new : Caller) (result : Result Answered ServeFault) : Type 0 where
   pub put : List ℕ

@@ -7,8 +7,8 @@ use Rattle.http_requests.specs.Items.{HasHead, body_of}
 use Rattle.httparse.specs.Grammar.{RequestHead}
 use Rattle.link_io.specs.declared.source.TheConstants.{INPUT_LIMIT}
 
--- the bytes held, how many were taken in all, whether the last take found the end, and whether the interim answer of the
--- request at the front is out
+-- the bytes held, how many were taken in all, whether the last take found the end, and whether the interim answer of
+-- the request at the front is out
 pub record ReceivedState : Type 0 where
   pub held : List ℕ
   pub taken : ℕ

@@ -43,7 +43,7 @@ impl Model for Batch {
 }
 
 impl Batch {
-    /// A batch of one command, unless memory is wanting for it.
+    /// A batch of one command, unless memory runs out for it.
     pub fn of(alloc: Global, first: &Request, ask: Ask) -> Option<Batch>
         ensures { IfSome result (λ batch. batch ≡ record {
           asks = ask ∷ [];
@@ -95,7 +95,7 @@ impl Batch {
         self.last.closes
     }
 
-    /// Whether one command more may be in it.
+    /// Whether one more command may be in it.
     fn is_open(&self) -> bool
         ensures { result ≡ true → (length self.now.asks + 1 ≤ MAX_BATCH) × (self.now.closes ≡ false) }
     {
@@ -124,9 +124,10 @@ impl Batch {
         true
     }
 
-    /// Adds the commands that stand whole in the bytes held behind those of the batch, as many as may share a turn: it ends
-    /// before a request that is none, or whose interim answer has to be put, before a body that is no command or for which
-    /// memory is wanting, and after a request that closes the connection. Each is asked at a moment that the clock gives now.
+    /// Adds the commands that stand whole in the bytes held behind those of the batch, as many as may share a turn: it
+    /// ends before a request that is none, or whose interim answer has to be put, before a body that is no command or
+    /// for which memory runs out, and after a request that closes the connection. Each is asked at a moment that the
+    /// clock gives now.
     pub fn gather<C: Clock>(
         &mut self,
         alloc: Global,

@@ -1,5 +1,5 @@
 //! Commands asked of the farm, and their answers put.
-ghost use Rattle.std.specs.Prelude.{◌≡◌, ◌≢◌, ◌≤◌, Bool, List, All, Ok, length, map, true};
+ghost use Rattle.std.specs.Prelude.{◌≡◌, ◌≢◌, ◌≤◌, [], Bool, List, All, Ok, OnOk, length, map, true};
 ghost use Rattle.fault_types.specs.Counts.{Rose};
 ghost use Rattle.turn_lock.specs.Known.{IsReady};
 ghost use Rattle.http_requests.specs.Next.{IsNextFor};
@@ -30,17 +30,18 @@ use http_requests::Request;
 use http_routes::Pages;
 use http_words::{Endpoint, Route, StatusCode};
 use link_io::{Clock, Link, Sink};
-use shared_farm::{Pass, SharedFarm};
+use shared_farm::{Beginning, Pass, SharedFarm};
 use std::alloc::Global;
 use std::sync::Wait;
 
 /// Answers the command at the front, and with it those behind it that may share its turn.
-pub(crate) fn answer_commands<R: Wait, L: Link, D: Disk, C: Clock>(
+pub(crate) fn answer_commands<R: Wait, L: Link, D: Disk, B: Beginning, C: Clock>(
     rt: &R,
     alloc: Global,
     pages: &Pages,
-    shared: &SharedFarm<D>,
+    shared: &SharedFarm<D, B>,
     pass: &mut Pass,
+    out: &mut Gathered,
     link: &mut L,
     clock: &C,
     received: &Received,
@@ -51,7 +52,9 @@ pub(crate) fn answer_commands<R: Wait, L: Link, D: Disk, C: Clock>(
     requires next { IsNextFor (is_complete received.now) received.now.held first.now }
     requires asks { first.now.asks ≡ Ok (Endpoint.Command route) }
     requires interim { received.now.interim ≡ first.now.interim }
+    requires empty { out.old ≡ [] }
     ensures ready { IsReady shared.now pass.new }
+    ensures empty { OnOk result (out.new ≡ []) }
     ensures says { (c : Progress) → IsWithin c (mark_of pass.old)
         → FrontSays (MayGive C.Clock clock.now) c (is_complete received.now) received.now.held received.now.interim
         (L.Sink.written link.old) (L.Sink.written link.new) (record { pass = pass.old; read = c.totals })
@@ -64,17 +67,17 @@ pub(crate) fn answer_commands<R: Wait, L: Link, D: Disk, C: Clock>(
     let command = match command_of(alloc, &route, &held[first.body..first.size]) {
         Ok(command) => command,
         Err(fault) => {
-            answer_misread(alloc, link, first, &fault)?;
+            answer_misread(alloc, out, link, first, &fault)?;
             return Ok(Answered::one(first));
         }
     };
     let at = clock.now();
     let Some(mut batch) = Batch::of(alloc, first, Ask { command, at }) else {
-        put_response(link, first, &Says::no_memory())?;
+        put_response(out, link, first, &Says::no_memory())?;
         return Ok(Answered::one(first));
     };
     batch.gather(alloc, pages, clock, held, received.is_complete());
-    answer_batch(rt, alloc, shared, pass, link, &batch)?;
+    answer_batch(rt, alloc, shared, pass, out, link, &batch)?;
     Ok(Answered {
         requests: batch.asks().len() as u64,
         size: batch.size(),
@@ -82,13 +85,16 @@ pub(crate) fn answer_commands<R: Wait, L: Link, D: Disk, C: Clock>(
     })
 }
 
-/// Answers a request whose body is no command, or for whose reading memory was wanting.
+/// Answers a request whose body is no command, or for whose reading memory ran out.
 fn answer_misread<K: Sink>(
     alloc: Global,
+    out: &mut Gathered,
     link: &mut K,
     request: &Request,
     fault: &WireFault,
 ) -> Result<(), ServeFault>
+    requires empty { out.old ≡ [] }
+    ensures empty { OnOk result (out.new ≡ []) }
     ensures misread { fault.now ≢ WireFault.Memory → (written : Bool) × PutSays
         (request_bytes request.now (response_of (record { outcome = misread fault.now; written = written })))
         (K.written link.old) (K.written link.new) result }
@@ -99,28 +105,31 @@ fn answer_misread<K: Sink>(
     ensures never_falls { K.count link.old ≤ K.count link.new }
 {
     if *fault == WireFault::Memory {
-        return put_response(link, request, &Says::no_memory());
+        return put_response(out, link, request, &Says::no_memory());
     }
     match fault_text(alloc, fault) {
         Ok(text) => {
             let says = Says::plain(StatusCode::BadRequest, text.as_bytes());
-            put_response(link, request, &says)
+            put_response(out, link, request, &says)
         }
-        Err(_) => put_response(link, request, &Says::no_memory()),
+        Err(_) => put_response(out, link, request, &Says::no_memory()),
     }
 }
 
 /// Asks the farm for a batch at one turn, and puts its answers.
-fn answer_batch<R: Wait, L: Link, D: Disk>(
+fn answer_batch<R: Wait, L: Link, D: Disk, B: Beginning>(
     rt: &R,
     alloc: Global,
-    shared: &SharedFarm<D>,
+    shared: &SharedFarm<D, B>,
     pass: &mut Pass,
+    out: &mut Gathered,
     link: &mut L,
     batch: &Batch,
 ) -> Result<(), ServeFault>
     requires ready { IsReady shared.now pass.old }
+    requires empty { out.old ≡ [] }
     ensures ready { IsReady shared.now pass.new }
+    ensures empty { OnOk result (out.new ≡ []) }
     ensures faults { pass.old.faults ≤ pass.new.faults }
     ensures says { IsBatchPut D.count batch.now.asks batch.now.requests pass.old pass.new (L.Sink.written link.old)
         (L.Sink.written link.new) result }
@@ -129,24 +138,27 @@ fn answer_batch<R: Wait, L: Link, D: Disk>(
     ensures never_falls { L.Sink.count link.old ≤ L.Sink.count link.new }
 {
     match shared.call_batch(rt, alloc, pass, batch.asks()) {
-        Ok(answers) => put_answers(alloc, link, batch.requests(), answers.as_slice()),
+        Ok(answers) => put_answers(alloc, out, link, batch.requests(), answers.as_slice()),
         Err(CallFault::StoreFault { .. }) => {
             let says = Says::plain(StatusCode::Unavailable, store_fault_text());
-            put_each(link, batch.requests(), &says)
+            put_each(out, link, batch.requests(), &says)
         }
-        Err(_) => put_each(link, batch.requests(), &Says::no_memory()),
+        Err(_) => put_each(out, link, batch.requests(), &Says::no_memory()),
     }
 }
 
 /// Puts the answers of the farm, one for each request, in as few puts as there is room for.
 fn put_answers<K: Sink>(
     alloc: Global,
+    out: &mut Gathered,
     link: &mut K,
     requests: &[Request],
     answers: &[Answer],
 ) -> Result<(), ServeFault>
     requires each { length answers.now ≡ length requests.now }
     requires dates { All AnswerHasDates answers.now }
+    requires empty { out.old ≡ [] }
+    ensures empty { OnOk result (out.new ≡ []) }
     ensures says { (written : List Bool) × (length written ≡ length answers.now)
         × PutSays (requests_bytes requests.now (farm_responses answers.now written)) (K.written link.old)
         (K.written link.new) result }
@@ -154,13 +166,12 @@ fn put_answers<K: Sink>(
     ensures cause { OnLinkFault result (Rose (K.count link.old) (K.count link.new)) }
     ensures never_falls { K.count link.old ≤ K.count link.new }
 {
-    let mut out = Gathered::new();
     let mut place = 0;
     while place < requests.len() {
-        put_farm_answer(alloc, &mut out, link, &requests[place], &answers[place])?;
+        put_farm_answer(alloc, out, link, &requests[place], &answers[place])?;
         place += 1;
     }
-    put_out(&mut out, link)
+    put_out(out, link)
 }
 
 /// Puts an answer of the farm behind those that are gathered.
@@ -189,18 +200,24 @@ fn put_farm_answer<K: Sink>(
 }
 
 /// Puts the same answer to each request, in as few puts as there is room for.
-fn put_each<K: Sink>(link: &mut K, requests: &[Request], says: &Says) -> Result<(), ServeFault>
+fn put_each<K: Sink>(
+    out: &mut Gathered,
+    link: &mut K,
+    requests: &[Request],
+    says: &Says,
+) -> Result<(), ServeFault>
+    requires empty { out.old ≡ [] }
+    ensures empty { OnOk result (out.new ≡ []) }
     ensures says { PutSays (requests_bytes requests.now (map (λ _. said says.now) requests.now))
         (K.written link.old) (K.written link.new) result }
     ensures aside { K.aside link.new ≡ K.aside link.old }
     ensures cause { OnLinkFault result (Rose (K.count link.old) (K.count link.new)) }
     ensures never_falls { K.count link.old ≤ K.count link.new }
 {
-    let mut out = Gathered::new();
     let mut place = 0;
     while place < requests.len() {
-        put_behind(&mut out, link, &requests[place], says)?;
+        put_behind(out, link, &requests[place], says)?;
         place += 1;
     }
-    put_out(&mut out, link)
+    put_out(out, link)
 }

@@ -4,7 +4,7 @@ ghost use Rattle.std.specs.Prelude.{◌≡◌};
 use connection_laws::ServeFault;
 use link_io::PutFault;
 
-/// A put failed, or memory was wanting for it.
+/// A put failed, or memory ran out for it.
 pub(crate) fn unput(fault: PutFault) -> ServeFault
     ensures failed { fault ≡ PutFault.Failed → result ≡ ServeFault.WriteFault }
     ensures memory { fault ≡ PutFault.Memory → result ≡ ServeFault.Memory }

@@ -1,5 +1,5 @@
 //! The requests at the front of the bytes held, answered.
-ghost use Rattle.std.specs.Prelude.{◌≡◌, ◌≤◌, Bool, true};
+ghost use Rattle.std.specs.Prelude.{◌≡◌, ◌≤◌, [], Bool, OnOk, true};
 ghost use Rattle.fault_types.specs.Counts.{Rose};
 ghost use Rattle.turn_lock.specs.Known.{IsReady};
 ghost use Rattle.http_requests.specs.Next.{IsNextFor};
@@ -22,12 +22,13 @@ use crate::responses::{Says, put_response};
 use connection_laws::ServeFault;
 use farm_disk::Disk;
 use farm_wire::totals_text;
+use gathered_sink::Gathered;
 use http_answers::{fault_allow, fault_status, fault_text};
 use http_requests::Request;
 use http_routes::Pages;
 use http_words::{Endpoint, Fault, StatusCode};
 use link_io::{Clock, Link, Sink};
-use shared_farm::{Pass, SharedFarm, TotalsReader};
+use shared_farm::{Beginning, Pass, SharedFarm, TotalsReader};
 use std::alloc::Global;
 use std::sync::Wait;
 
@@ -58,22 +59,25 @@ impl Answered {
 }
 
 /// Answers the request at the front, and with it the commands behind it that may share its turn.
-pub(crate) fn answer_front<R: Wait, L: Link, D: Disk, C: Clock>(
+pub(crate) fn answer_front<R: Wait, L: Link, D: Disk, B: Beginning, C: Clock>(
     rt: &R,
     alloc: Global,
     pages: &Pages,
-    shared: &SharedFarm<D>,
+    shared: &SharedFarm<D, B>,
     pass: &mut Pass,
     reader: &mut TotalsReader,
+    out: &mut Gathered,
     link: &mut L,
     clock: &C,
     received: &Received,
     first: &Request,
 ) -> Result<Answered, ServeFault>
     requires ready { IsReady shared.now pass.old }
+    requires empty { out.old ≡ [] }
     requires next { IsNextFor (is_complete received.now) received.now.held first.now }
     requires interim { received.now.interim ≡ first.now.interim }
     ensures ready { IsReady shared.now pass.new }
+    ensures empty { OnOk result (out.new ≡ []) }
     ensures says { (c : Progress) → IsWithin c (mark_of pass.old) → reader.old ≡ c.totals
         → FrontSays (MayGive C.Clock clock.now) c (is_complete received.now) received.now.held received.now.interim
         (L.Sink.written link.old) (L.Sink.written link.new) (record { pass = pass.old; read = reader.old })
@@ -84,25 +88,32 @@ pub(crate) fn answer_front<R: Wait, L: Link, D: Disk, C: Clock>(
 {
     match first.asks {
         Ok(Endpoint::Command(route)) => answer_commands(
-            rt, alloc, pages, shared, pass, link, clock, received, first, route,
+            rt, alloc, pages, shared, pass, out, link, clock, received, first, route,
         ),
         Ok(Endpoint::Totals) => {
-            answer_totals(alloc, reader, link, first)?;
+            answer_totals(alloc, reader, out, link, first)?;
             Ok(Answered::one(first))
         }
         Ok(Endpoint::Log(from)) => {
-            answer_log(rt, alloc, shared, pass, link, first, from)?;
+            answer_log(rt, alloc, shared, pass, out, link, first, from)?;
             Ok(Answered::one(first))
         }
         Err(fault) => {
-            answer_fault(link, first, fault)?;
+            answer_fault(out, link, first, fault)?;
             Ok(Answered::one(first))
         }
     }
 }
 
 /// Answers a fault of a request.
-fn answer_fault<K: Sink>(link: &mut K, request: &Request, fault: Fault) -> Result<(), ServeFault>
+fn answer_fault<K: Sink>(
+    out: &mut Gathered,
+    link: &mut K,
+    request: &Request,
+    fault: Fault,
+) -> Result<(), ServeFault>
+    requires empty { out.old ≡ [] }
+    ensures empty { OnOk result (out.new ≡ []) }
     ensures says { PutSays (request_bytes request.now (response_to (faulted fault))) (K.written link.old)
         (K.written link.new) result }
     ensures aside { K.aside link.new ≡ K.aside link.old }
@@ -114,16 +125,19 @@ fn answer_fault<K: Sink>(link: &mut K, request: &Request, fault: Fault) -> Resul
         allow: fault_allow(fault),
         body: fault_text(fault),
     };
-    put_response(link, request, &says)
+    put_response(out, link, request, &says)
 }
 
 /// Answers a request for the totals that were posted last.
 fn answer_totals<K: Sink>(
     alloc: Global,
     reader: &mut TotalsReader,
+    out: &mut Gathered,
     link: &mut K,
     request: &Request,
 ) -> Result<(), ServeFault>
+    requires empty { out.old ≡ [] }
+    ensures empty { OnOk result (out.new ≡ []) }
     ensures longer { IsPrefix reader.old reader.new }
     ensures legal { IsLegal reader.new }
     ensures says { (written : Bool) × PutSays
@@ -137,8 +151,8 @@ fn answer_totals<K: Sink>(
     match totals_text(alloc, &totals) {
         Ok(text) => {
             let says = Says::plain(StatusCode::Ok, text.as_bytes());
-            put_response(link, request, &says)
+            put_response(out, link, request, &says)
         }
-        Err(_) => put_response(link, request, &Says::no_memory()),
+        Err(_) => put_response(out, link, request, &Says::no_memory()),
     }
 }

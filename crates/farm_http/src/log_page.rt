@@ -1,5 +1,5 @@
 //! Log pages, answered.
-ghost use Rattle.std.specs.Prelude.{◌≡◌, ◌≤◌, Bool, IfOk, string_bytes};
+ghost use Rattle.std.specs.Prelude.{◌≡◌, ◌≤◌, [], Bool, IfOk, OnOk, string_bytes};
 ghost use Rattle.connection_laws.specs.Answers.{response_of};
 ghost use Rattle.connection_laws.specs.Outcomes.{copied};
 ghost use Rattle.entry_codec.specs.LogPage.{log_page};
@@ -16,26 +16,30 @@ use connection_laws::ServeFault;
 use farm_disk::Disk;
 use farm_wire::log_text;
 use fault_types::Memory;
+use gathered_sink::Gathered;
 use http_requests::Request;
 use http_words::StatusCode;
 use link_io::Sink;
-use shared_farm::{Pass, SharedFarm};
+use shared_farm::{Beginning, Pass, SharedFarm};
 use std::alloc::Global;
 use std::sync::Wait;
 
 /// Answers a request for a log page: the entries from this one on, counted from 1, in a turn that changes nothing.
-pub(crate) fn answer_log<R: Wait, D: Disk, K: Sink>(
+pub(crate) fn answer_log<R: Wait, D: Disk, B: Beginning, K: Sink>(
     rt: &R,
     alloc: Global,
-    shared: &SharedFarm<D>,
+    shared: &SharedFarm<D, B>,
     pass: &mut Pass,
+    out: &mut Gathered,
     link: &mut K,
     request: &Request,
     from: u32,
 ) -> Result<(), ServeFault>
     requires ready { IsReady shared.now pass.old }
     requires from { 1 ≤ from }
+    requires empty { out.old ≡ [] }
     ensures ready { IsReady shared.now pass.new }
+    ensures empty { OnOk result (out.new ≡ []) }
     ensures longer { IsPrefix pass.old.seen pass.new.seen }
     ensures mine { pass.new.mine ≡ pass.old.mine }
     ensures faults { pass.old.faults ≤ pass.new.faults }
@@ -49,17 +53,17 @@ pub(crate) fn answer_log<R: Wait, D: Disk, K: Sink>(
     match page_text(rt, alloc, shared, pass, from) {
         Ok(text) => {
             let says = Says::plain(StatusCode::Ok, text.as_bytes());
-            put_response(link, request, &says)
+            put_response(out, link, request, &says)
         }
-        Err(_) => put_response(link, request, &Says::no_memory()),
+        Err(_) => put_response(out, link, request, &Says::no_memory()),
     }
 }
 
 /// The text of the log page from this entry on, counted from 1.
-fn page_text<R: Wait, D: Disk>(
+fn page_text<R: Wait, D: Disk, B: Beginning>(
     rt: &R,
     alloc: Global,
-    shared: &SharedFarm<D>,
+    shared: &SharedFarm<D, B>,
     pass: &mut Pass,
     from: u32,
 ) -> Result<String, Memory>

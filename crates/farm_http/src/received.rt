@@ -19,11 +19,14 @@ use link_io::{INPUT_LIMIT, PIECE, Sink, Source, Took};
 use std::alloc::Global;
 use std::marker::Model;
 
-/// The bytes that were taken of a link and aren't answered yet, how many were taken in all, whether the last take found the
-/// end of the input, whether the interim answer of the request at the front is out, and how far that request was read.
+/// The bytes that were taken of a link and aren't answered yet, how many were taken in all, whether the last take
+/// found the end of the input, whether the interim answer of the request at the front is out, and how far that request
+/// was read.
 #[derive(Drop)]
 pub(crate) struct Received {
     bytes: Vec<u8>,
+    /// The buffer that a piece is taken into. Between takes its bytes mean nothing.
+    piece: [u8; PIECE],
     /// Where those begin that aren't answered yet.
     from: usize,
     taken: usize,
@@ -53,6 +56,7 @@ impl Received {
     {
         Received {
             bytes: Vec::new(alloc),
+            piece: [0; PIECE],
             from: 0,
             taken: 0,
             ended: false,
@@ -104,11 +108,15 @@ impl Received {
     fn compact(&mut self)
         ensures { self.new ≡ self.old }
     {
-        let _ = self.bytes.drain(..self.from);
+        if self.from < self.bytes.len() {
+            let _ = self.bytes.drain(..self.from);
+        } else {
+            self.bytes.clear();
+        }
         self.from = 0;
     }
 
-    /// Takes a piece more, which is held then. Where the link fails or memory is wanting, nothing was taken.
+    /// Takes a piece more, which is held then. Where the link fails or memory runs out, nothing was taken.
     pub fn take<S: Source>(&mut self, link: &mut S) -> Result<(), ServeFault>
         requires open_ { is_complete self.old ≡ false }
         ensures taken { OnOk result (IsTaken self.old self.new (S.taken link.old) (S.taken link.new) (S.ended link.new)) }
@@ -120,7 +128,7 @@ impl Received {
     {
         self.compact();
         let room = PIECE.min(INPUT_LIMIT - self.taken);
-        let count = take_behind(&mut self.bytes, room, link)?;
+        let count = take_behind(&mut self.bytes, &mut self.piece, room, link)?;
         readings_stay();
         self.taken += count;
         self.ended = count == 0;
@@ -162,10 +170,11 @@ impl Received {
     }
 }
 
-/// Takes a piece of so many bytes at most, and adds it to those held. Where the link fails or memory is wanting, nothing was
-/// taken.
+/// Takes a piece of so many bytes at most into a buffer, and adds it to those held. Where the link fails or memory runs
+/// out, nothing was taken.
 fn take_behind<S: Source>(
     held: &mut Vec<u8>,
+    piece: &mut [u8; PIECE],
     room: usize,
     link: &mut S,
 ) -> Result<usize, ServeFault>
@@ -182,10 +191,9 @@ fn take_behind<S: Source>(
     if held.reserve(PIECE).is_err() {
         return Err(ServeFault::Memory);
     }
-    let mut buf = [0; PIECE];
-    match link.take(&mut buf[..room]) {
+    match link.take(&mut piece[..room]) {
         Took::Took(count) => {
-            append_reserved(held, &buf[..count]);
+            append_reserved(held, &piece[..count]);
             Ok(count)
         }
         Took::Failed => Err(ServeFault::ReadFault),
@@ -197,7 +205,7 @@ fn append_reserved(held: &mut Vec<u8>, piece: &[u8])
     requires { vec_len held.old + length piece.now ≤ vec_capacity held.old }
     ensures { held.new.items ≡ held.old.items ++ piece.now }
 {
-    for byte in piece {
-        held.push_reserved(*byte);
+    if held.extend_from_slice(piece).is_err() {
+        unreachable!();
     }
 }

@@ -36,7 +36,7 @@ impl<'b> Says<'b> {
         }
     }
 
-    /// Memory was wanting.
+    /// Out of memory.
     pub fn no_memory() -> Says<'static>
         ensures { said result ≡ no_memory }
     {
@@ -85,8 +85,9 @@ pub(crate) fn put_out<K: Sink>(out: &mut Gathered, link: &mut K) -> Result<(), S
     }
 }
 
-/// Puts the answer to a request behind those that are gathered: it is gathered too, and without room for it those before it
-/// are put first. One that is too long to be gathered is put itself. Its interim answer, where it has one, is out.
+/// Puts the answer to a request behind those that are gathered: it is gathered too, and without room for it those
+/// before it are put first. One that is too long to be gathered is put itself. Its interim answer, where it has one,
+/// is out.
 pub(crate) fn put_behind<K: Sink>(
     out: &mut Gathered,
     link: &mut K,
@@ -114,18 +115,20 @@ pub(crate) fn put_behind<K: Sink>(
     }
 }
 
-/// Puts the answer to a request. Its interim answer, where it has one, is out.
+/// Puts the answer to a request, where nothing is gathered. Its interim answer, where it has one, is out.
 pub(crate) fn put_response<K: Sink>(
+    out: &mut Gathered,
     link: &mut K,
     request: &Request,
     says: &Says,
 ) -> Result<(), ServeFault>
+    requires empty { out.old ≡ [] }
+    ensures empty { OnOk result (out.new ≡ []) }
     ensures says { PutSays (request_bytes request.now (said says.now)) (K.written link.old) (K.written link.new) result }
     ensures aside { K.aside link.new ≡ K.aside link.old }
     ensures cause { OnLinkFault result (Rose (K.count link.old) (K.count link.new)) }
     ensures never_falls { K.count link.old ≤ K.count link.new }
 {
-    let mut out = Gathered::new();
-    put_behind(&mut out, link, request, says)?;
-    put_out(&mut out, link)
+    put_behind(out, link, request, says)?;
+    put_out(out, link)
 }

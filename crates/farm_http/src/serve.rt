@@ -1,5 +1,5 @@
 //! The serving of one connection.
-ghost use Rattle.std.specs.Prelude.{◌≡◌, ◌≤◌, ◌+◌, true, length};
+ghost use Rattle.std.specs.Prelude.{◌≡◌, ◌≤◌, ◌+◌, [], OnOk, true, length};
 ghost use Rattle.farm_entry.specs.Legal.{IsLegal};
 ghost use Rattle.fault_types.specs.Counts.{Rose};
 ghost use Rattle.http_requests.specs.Next.{IsNextFor};
@@ -20,28 +20,29 @@ use crate::front::answer_front;
 use crate::received::Received;
 use connection_laws::{ServeFault, Served, Why};
 use farm_disk::Disk;
+use gathered_sink::Gathered;
 use http_requests::{Next, Request, every_input_has_items};
 use http_routes::Pages;
 use link_io::{Clock, Link};
-use shared_farm::{Pass, SharedFarm, TotalsReader};
+use shared_farm::{Beginning, Pass, SharedFarm, TotalsReader};
 use std::alloc::Global;
 use std::sync::Wait;
 
-/// Serves a connection: takes the bytes of a link, and answers the requests in them one after the other, each as soon as it
-/// is whole, until the input ends, a request closes the connection, or [`INPUT_LIMIT`](link_io::INPUT_LIMIT) bytes were
-/// taken. What a request asks for is looked up in `pages`. A command is answered at a turn of the pass, at the moment that
-/// the clock gives, and commands that stand whole in the bytes held share a turn, up to
+/// Serves a connection: takes the bytes of a link, and answers the requests in them one after the other, each as soon
+/// as it is whole, until the input ends, a request closes the connection, or [`INPUT_LIMIT`](link_io::INPUT_LIMIT)
+/// bytes were taken. What a request asks for is looked up in `pages`. A command is answered at a turn of the pass, at
+/// the moment that the clock gives, and commands that stand whole in the bytes held share a turn, up to
 /// [`MAX_BATCH`](farm_store::MAX_BATCH) of them. The totals are read by the reader, without a turn.
 ///
 /// # Errors
 ///
-/// The link failed at a take or at a put, or memory was wanting for the bytes held. What was put by then is a prefix of the
+/// The link failed at a take or at a put, or memory ran out for the bytes held. What was put by then is a prefix of the
 /// answers, and what was recorded stays.
-pub fn serve_link<R: Wait, L: Link, D: Disk, C: Clock>(
+pub fn serve_link<R: Wait, L: Link, D: Disk, B: Beginning, C: Clock>(
     rt: &R,
     alloc: Global,
     pages: &Pages,
-    shared: &SharedFarm<D>,
+    shared: &SharedFarm<D, B>,
     pass: &mut Pass,
     reader: &mut TotalsReader,
     link: &mut L,
@@ -60,6 +61,7 @@ pub fn serve_link<R: Wait, L: Link, D: Disk, C: Clock>(
     ensures never_falls { L.Source.count link.old ≤ L.Source.count link.new }
 {
     let mut received = Received::new(alloc);
+    let mut out = Gathered::new();
     let result = serve_all(
         rt,
         alloc,
@@ -67,6 +69,7 @@ pub fn serve_link<R: Wait, L: Link, D: Disk, C: Clock>(
         shared,
         pass,
         reader,
+        &mut out,
         link,
         clock,
         &mut received,
@@ -81,13 +84,14 @@ pub fn serve_link<R: Wait, L: Link, D: Disk, C: Clock>(
 }
 
 /// The same, with the bytes that are held in the end.
-fn serve_all<R: Wait, L: Link, D: Disk, C: Clock>(
+fn serve_all<R: Wait, L: Link, D: Disk, B: Beginning, C: Clock>(
     rt: &R,
     alloc: Global,
     pages: &Pages,
-    shared: &SharedFarm<D>,
+    shared: &SharedFarm<D, B>,
     pass: &mut Pass,
     reader: &mut TotalsReader,
+    out: &mut Gathered,
     link: &mut L,
     clock: &C,
     received: &mut Received,
@@ -95,6 +99,7 @@ fn serve_all<R: Wait, L: Link, D: Disk, C: Clock>(
     requires ready { IsReady shared.now pass.old }
     requires legal { IsLegal reader.old }
     requires nothing { received.old ≡ nothing_received }
+    requires empty { out.old ≡ [] }
     ensures ready { IsReady shared.now pass.new }
     ensures serves { HasServed result received.new.held (progress_from pass.old.seen reader.old pass.old.faults)
         (mark_of pass.new) (MayGive C.Clock clock.now) (link_state L.Source L.Sink link.old)
@@ -112,6 +117,7 @@ fn serve_all<R: Wait, L: Link, D: Disk, C: Clock>(
             shared,
             pass,
             reader,
+            out,
             link,
             clock,
             received,
@@ -125,13 +131,14 @@ fn serve_all<R: Wait, L: Link, D: Disk, C: Clock>(
 
 /// Takes what has to be taken until the request at the front is whole, or answers it and those that may share its turn.
 /// Where the serving has ended it says why.
-fn serve_next<R: Wait, L: Link, D: Disk, C: Clock>(
+fn serve_next<R: Wait, L: Link, D: Disk, B: Beginning, C: Clock>(
     rt: &R,
     alloc: Global,
     pages: &Pages,
-    shared: &SharedFarm<D>,
+    shared: &SharedFarm<D, B>,
     pass: &mut Pass,
     reader: &mut TotalsReader,
+    out: &mut Gathered,
     link: &mut L,
     clock: &C,
     received: &mut Received,
@@ -140,9 +147,11 @@ fn serve_next<R: Wait, L: Link, D: Disk, C: Clock>(
     requires ready { IsReady shared.now pass.old }
     requires legal { IsLegal reader.old }
     requires few { requests.old + length received.old.held ≤ INPUT_LIMIT }
+    requires empty { out.old ≡ [] }
     requires interim { received.old.interim ≡ true → AsksInterim received.old.held }
     ensures ready { IsReady shared.now pass.new }
     ensures legal { IsLegal reader.new }
+    ensures empty { OnOk result (out.new ≡ []) }
     ensures goes_on { (start : Progress) (old : Caller) (before : LinkState)
         → IsServing start (MayGive C.Clock clock.now) old (caller pass.old reader.old) before
         (link_state L.Source L.Sink link.old) received.old requests.old
@@ -166,20 +175,22 @@ fn serve_next<R: Wait, L: Link, D: Disk, C: Clock>(
         Next::Request(first) => {
             received.put_interim(first.interim, link)?;
             answer_next(
-                rt, alloc, pages, shared, pass, reader, link, clock, received, requests, &first,
+                rt, alloc, pages, shared, pass, reader, out, link, clock, received, requests,
+                &first,
             )
         }
     }
 }
 
 /// Answers the request at the front, and those that may share its turn. Its interim answer is out, where it has one.
-fn answer_next<R: Wait, L: Link, D: Disk, C: Clock>(
+fn answer_next<R: Wait, L: Link, D: Disk, B: Beginning, C: Clock>(
     rt: &R,
     alloc: Global,
     pages: &Pages,
-    shared: &SharedFarm<D>,
+    shared: &SharedFarm<D, B>,
     pass: &mut Pass,
     reader: &mut TotalsReader,
+    out: &mut Gathered,
     link: &mut L,
     clock: &C,
     received: &mut Received,
@@ -189,10 +200,12 @@ fn answer_next<R: Wait, L: Link, D: Disk, C: Clock>(
     requires ready { IsReady shared.now pass.old }
     requires legal { IsLegal reader.old }
     requires few { requests.old + length received.old.held ≤ INPUT_LIMIT }
+    requires empty { out.old ≡ [] }
     requires next { IsNextFor (is_complete received.old) received.old.held first.now }
     requires interim { received.old.interim ≡ first.now.interim }
     ensures ready { IsReady shared.now pass.new }
     ensures legal { IsLegal reader.new }
+    ensures empty { OnOk result (out.new ≡ []) }
     ensures goes_on { (start : Progress) (old : Caller) (before : LinkState)
         → IsServing start (MayGive C.Clock clock.now) old (caller pass.old reader.old) before
         (link_state L.Source L.Sink link.old) received.old requests.old
@@ -203,7 +216,7 @@ fn answer_next<R: Wait, L: Link, D: Disk, C: Clock>(
     ensures never_falls { L.Source.count link.old ≤ L.Source.count link.new }
 {
     let done = answer_front(
-        rt, alloc, pages, shared, pass, reader, link, clock, received, first,
+        rt, alloc, pages, shared, pass, reader, out, link, clock, received, first,
     )?;
     *requests += done.requests;
     if done.closes {

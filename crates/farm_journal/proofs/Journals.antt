@@ -145,7 +145,7 @@ kept-appended tells told d e past past' copy p pending gate v w told_is copied i
         → gate + (5 + length p) ≡ gate_of (in_order past ++ p ∷ [])
     sum here more = omega (arith, here, more)
 
--- the invariant after want of memory
+-- the invariant after running out of memory
 pub kept-same : {D : Type 0} (tells : D → Bool) (told : D → DiskState) (d e : D) (ps : List (List ℕ))
     (pending : Option (List ℕ)) (gate w : ℕ)
     → pending ≡ None → gate ≡ gate_of ps → tells e ≡ tells d → (tells d ≡ true → Rests w ps gate (told e))

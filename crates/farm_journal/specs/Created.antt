@@ -30,8 +30,8 @@ abbrev pub disk_created : {D : Type 0} → CreatingResult D → D
 disk_created (Ok journal) = journal.disk
 disk_created (Err missed) = missed.0
 
--- Why nothing was created: something was created there before, and then only. A fault and want of memory say nothing of
--- that.
+-- Why nothing was created: something was created there before, and then only. A fault and running out of memory say
+-- nothing of that.
 abbrev pub Refuses : List ℕ → CreateFault → Type 0
 Refuses bytes AlreadyBorn = is_unborn bytes ≡ false
 Refuses bytes (StoreFault before after) = ⊤
@@ -48,7 +48,7 @@ CreatingCause AlreadyBorn first last = ⊤
 CreatingCause (StoreFault before after) first last = (before ≡ first) × (after ≡ last) × Rose first last
 CreatingCause Memory first last = ⊤
 
--- what holds where memory was wanting
+-- what holds where memory ran out
 abbrev pub OnCreatingMemory : CreateFault → Type 0 → Type 0
 OnCreatingMemory AlreadyBorn P = ⊤
 OnCreatingMemory (StoreFault before after) P = ⊤

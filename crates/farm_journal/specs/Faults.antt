@@ -10,7 +10,7 @@ OnStoreFault (Ok done) P = ⊤
 OnStoreFault (Err (StoreFault before after)) P = P
 OnStoreFault (Err Memory) P = ⊤
 
--- what holds where memory was wanting
+-- what holds where memory ran out
 abbrev pub OnMemory : {T : Type 0} → Result T JournalFault → Type 0 → Type 0
 OnMemory (Ok done) P = ⊤
 OnMemory (Err (StoreFault before after)) P = ⊤

@@ -15,7 +15,7 @@ abbrev pub disk_after : {D : Type 0} → OpeningResult D → D
 disk_after (Ok opened) = opened.0.disk
 disk_after (Err missed) = missed.0
 
--- why it wasn't opened is what the bytes open to; a fault of the disk and want of memory say nothing of them
+-- why it wasn't opened is what the bytes open to; a fault of the disk and running out of memory say nothing of them
 abbrev pub Misses : Opening → OpeningFault → Type 0
 Misses opening Unborn = opening ≡ unborn
 Misses opening (Damaged o) = opening ≡ damaged o

@@ -11,7 +11,7 @@ use std::alloc::{AllocError, AllocFailed};
 /// Why a call on the disk wasn't done.
 #[derive(Clone, Copy, Debug, PartialEq, Eq)]
 pub(super) enum DiskFault {
-    /// Memory was wanting.
+    /// Out of memory.
     Memory,
     /// The disk failed, and its count of faults rose.
     Failed,

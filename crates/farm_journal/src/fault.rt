@@ -15,7 +15,7 @@ pub enum CreateFault {
         /// The count after it.
         after: u64,
     },
-    /// Memory was wanting.
+    /// Out of memory.
     #[error("out of memory")]
     Memory,
 }
@@ -37,7 +37,7 @@ pub enum OpeningFault {
         /// The count after it.
         after: u64,
     },
-    /// Memory was wanting.
+    /// Out of memory.
     #[error("out of memory")]
     Memory,
 }
@@ -53,7 +53,7 @@ pub enum JournalFault {
         /// The count after it.
         after: u64,
     },
-    /// Memory was wanting.
+    /// Out of memory.
     #[error("out of memory")]
     Memory,
 }

@@ -197,8 +197,8 @@ impl<D: Disk> Journal<D> {
 
     /// Appends a payload of 1 to `MAX_PAYLOAD` bytes. At `Ok` it is acknowledged: from then on each crash leaves a file
     /// that has it. That takes one write and one sync, and then one byte and one sync; a journal of version 1 is first
-    /// made one of version 2. After a `StoreFault` the payload is pending. After want of memory the payloads are as
-    /// before, and no crash in the call leaves anything else.
+    /// made one of version 2. After a `StoreFault` the payload is pending. After running out of memory the payloads
+    /// are as before, and no crash in the call leaves anything else.
     pub fn append(&mut self, alloc: Global, payload: &[u8]) -> Result<(), JournalFault>
         requires idle { self.old.pending ≡ None }
         requires payload { IsPayload payload.now }
@@ -262,9 +262,9 @@ impl<D: Disk> Journal<D> {
         }
     }
 
-    /// Finds out whether the pending payload was kept: after a sync it was where the gate reads other than 0. That takes
-    /// one sync and one read, and the bytes stay as they are, whatever it answers. After a `StoreFault` the payload is
-    /// still pending, and the repair may be tried again. It takes no memory.
+    /// Finds out whether the pending payload was kept: after a sync it was where the gate reads other than 0. That
+    /// takes one sync and one read, and the bytes stay as they are, whatever it answers. After a `StoreFault` the
+    /// payload is still pending, and the repair may be tried again. It takes no memory.
     pub fn repair(&mut self) -> Result<Repaired, JournalFault>
         requires { IsSome self.old.pending }
 

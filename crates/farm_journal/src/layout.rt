@@ -29,7 +29,7 @@ pub(super) fn closed_frame(alloc: Global, payload: &[u8]) -> Result<Vec<u8>, All
     requires { IsPayload payload.now }
     ensures { IfOk result (λ bytes. bytes.items ≡ framed payload.now ++ 0 ∷ []) }
 {
-    let mut bytes = Vec::new(alloc);
+    let mut bytes = Vec::with_capacity(alloc, payload.len() + 5)?;
     bytes.extend_from_slice(&(payload.len() as u32).to_be_bytes())?;
     bytes.extend_from_slice(payload)?;
     bytes.push(0)?;

@@ -48,7 +48,7 @@ pub(super) fn store<D: Disk>(
         → Rests version.old ps gate (D.told disk.old) → Waits version.new ps gate payload.now (D.told disk.new) }
     ensures memory { IsErrOf result DiskFault.Memory → D.tells disk.old ≡ true → (ps : List (List ℕ))
         → Rests version.old ps gate (D.told disk.old) → Rests version.new ps gate (D.told disk.new) }
-    // Where memory was wanting, no crash leaves the new one.
+    // Where memory ran out, no crash leaves the new one.
     ensures leaves_before { IsErrOf result DiskFault.Memory → D.tells disk.old ≡ true → (ps : List (List ℕ))
         → Rests version.old ps gate (D.told disk.old)
         → LeavesOnly (D.told disk.old) (D.told disk.new) (Stands 1 ps gate) }

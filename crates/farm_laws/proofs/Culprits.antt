@@ -90,7 +90,7 @@ next-is_for H m d h =
       is = found.commit;
     }
 
--- and it stays with one entry more
+-- and it stays with an entry appended
 for-stays : (H : List Entry) (e : Entry) (search : ℕ) (commit : CommitId) → IsLegal H → Stepped H e.at e.what →
     IsForCulprit H search commit → IsForCulprit (H ++ e ∷ []) search commit
 for-stays H e search commit legal s was =

@@ -49,7 +49,7 @@ unless (inr b) never = absurd (never b)
 both-ways : (b : Bool) → b ≡ false → b ≡ true → ⊥
 both-ways b is_false is_true = true≢false (sym is_true ∙ is_false)
 
--- the runs of a search that isn't searching stay with one entry more
+-- the runs of a search that isn't searching stay with an entry appended
 pub runs-kept : (H : List Entry) (e : Entry) (o : Opening) → IsLegal H → Contains (openings H) o → Stepped H e.at e.what →
     is_searching (standing H o) ≡ false → runs (H ++ e ∷ []) o.search ≡ runs H o.search
 runs-kept H e o legal there s idle =

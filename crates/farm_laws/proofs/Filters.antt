@@ -1,4 +1,4 @@
--- What the filters of a history give after one entry more.
+-- What the filters of a history give after appending an entry.
 use Rattle.std.proofs.Common.{◌≡◌, ℕ, ◌==◌, Bool, ◌&&◌, ◌||◌, List, [], ◌∷◌, ◌++◌, find, filter, if◌then◌else◌, Option, Some, None, refl, sym, ap, ◌∙◌, All}
 use Rattle.std.specs.List.{cons_option, filter_map, list_any}
 use Rattle.std.specs.Option.{option_and_then, option_or}

@@ -1,4 +1,4 @@
--- How the runs of an opened search, its reruns, its end and its cancellation change with one entry more.
+-- How the runs of an opened search, its reruns, its end and its cancellation change with an entry appended.
 use Rattle.std.proofs.Common.{◌≡◌, ◌⊎◌, inl, inr, ℕ, ◌≤◌, ◌==◌, Bool, true, false, ◌&&◌, ◌||◌, nat_lt, if◌then◌else◌, List, [], ◌∷◌, ◌++◌, Contains, Option, Some, None, refl, sym, ap, subst, ◌∙◌, arith, append-nil, true≢false, ⊎_elim}
 use Rattle.std.specs.List.{cons_option, filter_map, list_any}
 use Rattle.std.specs.Option.{option_and_then}
@@ -101,7 +101,7 @@ pub fate-here : (H : List Entry) (o : Opening) (l : LeasedRun) (v : Verdict) →
 fate-here H o l v legal there same =
     ap (fate_of H l v) (ap (opening_numbered H) same ∙ opening-found H o legal there)
 
--- A run that one entry more adds to the runs of a search at a stage.
+-- A run that appending an entry adds to the runs of a search at a stage.
 pub record NewRun (H : List Entry) (e : Entry) (o : Opening) (stage : Stage) : Type 0 where
   pub lease : LeasedRun
   pub verdict : Verdict

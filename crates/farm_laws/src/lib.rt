@@ -1,6 +1,11 @@
 //! Laws of farms: what holds of every legal history by the definitions of `farm_entry`, each law the contract of a call
 //! that does nothing.
 //!
+//! Among the laws: a legal history grows entry by entry (`legal_histories_grow_by_entries`); the entry that a command
+//! makes may come next, whatever the command (`decisions_can_be_recorded`); a command that an entry names is answered
+//! by that entry's place from then on, at every moment (`repeats_are_known`); each entry after the founding has a
+//! reply, which stays the same (`replies_stay`).
+//!
 //! The crate stands on `farm_entry` for the types and the definitions, and on the crates below it for their laws. The
 //! layers above cite its lemmas, of which these serve most: `Induct` (a legal history grows entry by entry),
 //! `Recorded` (what is decided can be recorded), `Bounds`, `InRange`, `Loads`, `OpenLimits`, `Opened`, `ReplyDays`,

@@ -1,4 +1,4 @@
--- The orders of a history with one entry more, and with one less.
+-- The orders of a history with an entry appended, and with the last one taken away.
 use Rattle.std.proofs.Common.{◌≡◌, ℕ, ◌+◌, ◌-◌, ◌<◌, ◌^◌, false, List, [], ◌∷◌, ◌++◌, length, map, take, Option, Some, None, refl, sym, ap, subst, ◌∙◌, append-nil, arith, length-append}
 use Rattle.std.specs.List.{cons_option}
 use Rattle.std.specs.Option.{IfSome, is_some, option_map}

@@ -1,4 +1,4 @@
--- How many leases each row counts, with one entry more, and with one less.
+-- How many leases each row counts, with an entry appended, and with the last one taken away.
 use Rattle.std.proofs.Common.{◌≡◌, ◌≢◌, ◌⊎◌, inr, ⊎_elim, ℕ, zero, suc, ◌+◌, ◌-◌, ◌<◌, ◌≤◌, ◌==◌, Bool, true, false, if◌then◌else◌, List, [], ◌∷◌, ◌++◌, length, set, get_or, take, filter, Contains, Option, Some, None, refl, sym, ap, ◌∙◌, arith, length-append}
 use Rattle.std.specs.List.{cons_option}
 use Rattle.std.specs.Option.{IfSome, is_some}

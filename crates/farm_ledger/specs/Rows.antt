@@ -25,7 +25,7 @@ pub record AreRows (H : List Entry) (rows : List Row) : Type 0 where
   pub places : map (λ row. row.place) rows ≡ opening_places 0 H
   pub counts : (k : ℕ) → (get_or rows k blank).leases ≡ length (leases H (k + 1))
 
--- What one entry more makes of them, and what is left where it is taken away.
+-- What appending an entry makes of them, and what is left where it is taken away.
 
 abbrev pub with_row : List Row → (is_opening : Bool) → (place : ℕ) → List Row
 with_row rows false place = rows

@@ -160,7 +160,7 @@ pub reached-start : {E : Type 0} (rule : Rule E) (first : List E) (w0 : Option (
     → Reached rule first w0 all first w0 all
 reached-start rule first w0 all = record { done = []; parts = refl; answered = answered-none rule first w0 }
 
--- one line more was answered
+-- one more line was answered
 pub reached-step : {E : Type 0} {rule : Rule E} {first mid now : List E} {w0 w1 w : Option
     (List ℕ)} {all left others : List (List ℕ)} {line : List ℕ}
     → left ≡ line ∷ others → Reached rule first w0 all mid w1 left → Answered rule mid w1 (line ∷ []) now w

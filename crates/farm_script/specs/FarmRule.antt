@@ -13,8 +13,8 @@ use Rattle.farm_answers.specs.Texts.{decision_text}
 use Rattle.farm_script.specs.Script.{Rule, history_of, text_of}
 use Rattle.farm_script.specs.Lines.{lines}
 
--- what a line is answered that was read so, and the history after it: a line with a fault gets its refusal, and any other
--- is decided at the moment that it says
+-- what a line is answered that was read so, and the history after it: a line with a fault gets its refusal, and any
+-- other is decided at the moment that it says
 abbrev pub read_rule : List Entry → Result (Moment × Command) WireFault → List ℕ × List Entry
 read_rule H (Err fault) = (compact_text (fault_data fault), H)
 read_rule H (Ok asked) = (decision_text H (decide H asked.1 asked.0), after H (decide H asked.1 asked.0))

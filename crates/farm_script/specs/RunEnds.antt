@@ -50,9 +50,9 @@ StoppedByStore rule before after =
     after.streams.written
 
 -- What each end says. Done: the input was read to its end, which came within the limit, and all its lines were
--- answered. ReadFault, InputLimit: all lines that count were answered. StoreFault: all up to a line that counts, and what
--- is pending is what that line adds. WriteFault, Memory: some of the lines that count. A fault of the input or the output
--- comes only where it failed in this run
+-- answered. ReadFault, InputLimit: all lines that count were answered. StoreFault: all up to a line that counts, and
+-- what is pending is what that line adds. WriteFault, Memory: some of the lines that count. A fault of the input or
+-- the output comes only where it failed in this run
 abbrev pub RunEnds : {E : Type 0} → Rule E → RunEnd → Seen E → Seen E → Type 0
 RunEnds rule Done before after =
     (taken : List ℕ) × HasTaken before.streams after.streams taken true × (length taken < INPUT_LIMIT)
@@ -69,8 +69,8 @@ RunEnds rule WriteFault before after =
 RunEnds rule StoreFault before after = StoppedByStore rule before after
 RunEnds rule Memory before after = Stopped rule before after
 
--- where nothing fails, the store neither, and memory is there, a run over an input below the limit is done, and one over
--- a longer input stops at the limit
+-- where nothing fails, the store neither, and memory is there, a run over an input below the limit is done, and one
+-- over a longer input stops at the limit
 abbrev pub RunCompletes : RunEnd → Streams → Streams → Type 0
 RunCompletes end before after =
     ¬ Rose before.read_faults after.read_faults → ¬ Rose before.write_faults after.write_faults

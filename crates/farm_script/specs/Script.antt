@@ -3,7 +3,8 @@ use Rattle.std.specs.Prelude.{◌≡◌, ◌≢◌, ℕ, ◌+◌, ◌-◌, ◌<�
 use Rattle.std.specs.Io.KnownBytes.{append_known}
 use Rattle.farm_script.specs.Held.{held}
 
--- how a line is answered: from the history before it to the reply's text, without its line feed, and the history after it
+-- how a line is answered: from the history before it to the reply's text, without its line feed, and the history after
+-- it
 abbrev pub Rule : Type 0 → Type 0
 Rule E = List E → List ℕ → List ℕ × List E
 
@@ -66,8 +67,8 @@ pub record IsPendingOf {E : Type 0} (rule : Rule E) (history : List E) (line : L
   pub some : pending ≢ []
   pub all : history ++ pending ≡ next_history rule history line
 
--- The store failed at one of these lines: those before it were answered whole, nothing was put of its own reply, and what
--- is pending is what it adds to the history
+-- The store failed at one of these lines: those before it were answered whole, nothing was put of its own reply, and
+-- what is pending is what it adds to the history
 pub record FailsIn {E : Type 0} (rule : Rule E) (first : List E) (written_first : Option (List ℕ))
     (counted : List (List ℕ)) (now pending : List E) (written_now : Option (List ℕ)) : Type 0 where
   pub done : List (List ℕ)

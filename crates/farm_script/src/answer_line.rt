@@ -17,7 +17,7 @@ pub enum LineFault {
     WriteFault,
     /// The store failed.
     StoreFault,
-    /// Want of memory.
+    /// Running out of memory.
     Memory,
 }
 

@@ -14,8 +14,8 @@ pub fn lines_make_up_their_text()
     ensures rest { (bytes : List ℕ) → All (λ b. b ≢ LINE_FEED) (rest_of bytes) }
 {}
 
-/// The lines that end in what was taken of a text are the first ones of the text. So what is put for them is a prefix of
-/// what the whole script puts.
+/// The lines that end in what was taken of a text are the first ones of the text. So what is put for them is a prefix
+/// of what the whole script puts.
 pub fn lines_taken_are_the_first()
     ensures { (taken further : List ℕ) →
         (others : List (List ℕ)) × (lines (taken ++ further) ≡ ended_lines taken ++ others) }

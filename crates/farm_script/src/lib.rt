@@ -3,15 +3,20 @@
 //!
 //! What a script gives is a definition: `text_of` and `history_of` of `specs/Script` make of a rule, a history and some
 //! lines the text of all replies and the history after them, and `farm_rule` of `specs/FarmRule` is the rule by which a
-//! farm answers a line. [`run_script`] runs a script over any [`ScriptFarm`], whatever stands behind it, and its contract
-//! says for every way to end which lines were answered and which bytes were put; [`run_founded`] does so over a farm in
-//! memory that it founds.
+//! farm answers a line. [`run_script`] runs a script over any [`ScriptFarm`], whatever stands behind it, and its
+//! contract says for every way to end which lines were answered and which bytes were put; [`run_founded`] does so over
+//! a farm in memory that it founds.
 //!
 //! [`shown_text`] is what the farm of a store shows of itself: its own page, and that of each search.
 //!
-//! It stands on `farm_core` for the farm in memory, on `farm_store` for one whose history stands on a disk, on `farm_wire`
-//! for what a line says, on `farm_answers` for the answer to it and its text, on `link_io` for the input and the output,
-//! on `memchr`, and on the crates of the farm's values and definitions. The layer above may use every name below.
+//! Wherever a script ends, the history that it leaves begins with the one that it was run from (`Grows`), and is legal
+//! where that one was (`scripts_leave_legal_histories`). A line has at most `MAX_COMMAND_BYTES` bytes: a longer one is
+//! refused by what is held of it, and the run goes on. A script has fewer than `INPUT_LIMIT` bytes, 2^30.
+//!
+//! It stands on `farm_core` for the farm in memory, on `farm_store` for one whose history stands on a disk, on
+//! `farm_wire` for what a line says, on `farm_answers` for the answer to it and its text, on `link_io` for the input
+//! and the output, on `memchr`, and on the crates of the farm's values and definitions. The layer above may use every
+//! name below.
 #![tactic(auto)]
 
 mod answer_line;

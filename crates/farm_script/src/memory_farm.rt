@@ -45,7 +45,7 @@ impl ScriptFarm for Farm {
 }
 
 /// The reply to a line, without its line feed. The entry that it makes is in the history before its reply is written,
-/// and stays there where memory is wanting for that.
+/// and stays there where memory runs out for that.
 fn answer_line(alloc: Global, farm: &mut Farm, line: &[u8]) -> Result<String, Memory>
     ensures reply { IfOk result (λ text. string_bytes text ≡ (farm_rule farm.old.history line.now).0) }
     ensures history { OnOk result (farm.new.history ≡ (farm_rule farm.old.history line.now).1) }

@@ -9,8 +9,9 @@ pub enum RunEnd {
     WriteFault,
     /// The farm's store failed.
     StoreFault,
-    /// Want of memory.
+    /// Running out of memory.
     Memory,
-    /// As many bytes were taken as are taken at most ([`INPUT_LIMIT`](link_io::INPUT_LIMIT)), and their end wasn't reached.
+    /// As many bytes were taken as are taken at most ([`INPUT_LIMIT`](link_io::INPUT_LIMIT)), and their end wasn't
+    /// reached.
     InputLimit,
 }

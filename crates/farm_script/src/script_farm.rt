@@ -15,7 +15,7 @@ use std::alloc::Global;
 pub enum ReplyFault {
     /// The store failed as what the line adds to the history was stored. It may stand there or not.
     StoreFault,
-    /// Want of memory. What the line adds may stand in the history already.
+    /// Running out of memory. What the line adds may stand in the history already.
     Memory,
 }
 
@@ -69,7 +69,7 @@ pub trait ScriptFarm {
             × IsPendingOf rule (history self.old) line.now (pending self.new) }
         ensures rises { IsErrOf result ReplyFault.StoreFault → Rose (count self.old) (count self.new) }
         ensures never_falls { count self.old ≤ count self.new }
-        // Memory may be wanting for the reply alone.
+        // Memory may run out for the reply alone.
         ensures memory { IsErrOf result ReplyFault.Memory → (pending self.new ≡ [])
             × ((history self.new ≡ history self.old) ⊎ (history self.new ≡ (rule (history self.old) line.now).1)) }
 

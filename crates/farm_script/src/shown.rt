@@ -14,8 +14,8 @@ use farm_types::Memory;
 use farm_wire::reply_text;
 use std::alloc::Global;
 
-/// The text that the farm of a store shows of itself while nothing is pending: its own reply line, and then that of each
-/// search, by number. The disk is not asked.
+/// The text that the farm of a store shows of itself while nothing is pending: its own reply line, and then that of
+/// each search, by number. The disk is not asked.
 pub fn shown_text<D: Disk>(alloc: Global, store: &mut Store<D>) -> Result<String, Memory>
     requires { store.old.pending ≡ [] }
     ensures text { IfOk result (λ text. string_bytes text ≡ shown_text store.old.history) }

@@ -48,7 +48,7 @@ impl<D: Disk> ScriptFarm for Store<D> {
 }
 
 /// The reply to a line, without its line feed. The entry that it makes is stored before its reply is written, and stays
-/// where memory is wanting for that.
+/// where memory runs out for that.
 #[tactic(auto, using(crate::proofs::Growing::growing))]
 fn answer_line<D: Disk>(
     alloc: Global,

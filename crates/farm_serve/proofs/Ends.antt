@@ -1,31 +1,33 @@
 -- How a service ended.
-use Rattle.std.proofs.Common.{◌≡◌, inl, inr, ℕ, List, length, Option, Result, Ok, Err, Bool, true, false, if◌then◌else◌, sym, refl, subst, ap, ◌∙◌}
+use Rattle.std.proofs.Common.{◌≡◌, ◌⊎◌, ⊎_elim, inl, inr, [], ℕ, List, length, Option, Result, Ok, Err, Bool, true, false, if◌then◌else◌, sym, refl, subst, ap, ◌∙◌}
 use Rattle.std.proofs.Math.Seq.{take-length}
 use Rattle.std.specs.Io.KnownBytes.{append_known}
 use Rattle.connection_laws.specs.Marks.{Mark}
+use Rattle.farm_disk.proofs.Moments.{leaves_only-weaker}
+use Rattle.farm_disk.specs.Images.{IsSettled, LeavesOnly, LeavesSinceSync}
 use Rattle.farm_disk.specs.declared.disk.Disk as disk
 use Rattle.farm_entry.specs.Legal.{IsLegal}
 use Rattle.farm_entry.specs.declared.entry.Entry.{Entry}
-use Rattle.farm_journal.specs.Opened.{OpeningCause}
-use Rattle.farm_journal.specs.ReadsOnly.{ReadsOnly}
-use Rattle.farm_journal.specs.declared.fault.OpeningFault.{OpeningFault}
 use Rattle.farm_journal.specs.declared.fault.OpeningFault.TheVariants as opening
 use Rattle.farm_store.proofs.Excluded.{stands-born, stands-not_damaged}
 use Rattle.farm_store.specs.Bytes.{StandsFor}
-use Rattle.farm_store.specs.Opened.{IsMissedBy}
 use Rattle.farm_store.specs.State.{IsStored, StoreState}
 use Rattle.farm_types.specs.declared.moment.Moment.{Moment}
 use Rattle.fault_types.specs.Counts.{Rose}
 use Rattle.link_io.specs.declared.sink.PutFault.{PutFault}
 use Rattle.link_io.specs.declared.sink.PutFault.TheVariants as put
 use Rattle.net_io.specs.Events.{NetworkEvent}
-use Rattle.farm_serve.proofs.Counts.{IfSome-map}
+use Rattle.shared_farm.specs.Rests.{AreTurns, CameBy, Rest, begun_of, rest_of}
+use Rattle.farm_serve.proofs.Counts.{IfSome-map, Rose-from}
+use Rattle.farm_serve.proofs.Crashes.{IsReached, mark_of_rest, turns-kept, turns-reached, within-first, within-from}
 use Rattle.farm_serve.proofs.Steps.{AreHeldBack-longer}
 use Rattle.farm_serve.proofs.Marks.{Follows-refl}
+use Rattle.farm_serve.proofs.Openings.{WasOpened, any_moment-opened, since_sync-opened}
+use Rattle.farm_serve.specs.Crashes.{StandsWithin, WentByTurns}
 use Rattle.farm_serve.specs.Ending.{is_memory, ending_by_line, ending_of, TellsFailure, HasNetCause}
 use Rattle.farm_serve.specs.Gained.{has_failed}
 use Rattle.farm_serve.specs.LastLine.{EndSays, IsPartPut, LinePut, LineSays, farm_line}
-use Rattle.farm_serve.specs.Outside.{NetworkSeen, Outside, OutputSeen, disk_seen, outside}
+use Rattle.farm_serve.specs.Outside.{DiskSeen, NetworkSeen, Outside, OutputSeen, disk_seen, outside}
 use Rattle.farm_serve.specs.ServeEnds.{FarmServed, LinksServed, ServeCompletes, ServeEnds, mark_at}
 use Rattle.farm_serve.specs.Serving.{AreServed, ComesTo, store_mark}
 use Rattle.farm_serve.specs.declared.ending.Ending.{Ending}
@@ -35,7 +37,7 @@ use Rattle.farm_serve.specs.declared.standing.Standing.{Standing}
 abbrev Line : Type 0
 Line = Result (Unit {0}) PutFault
 
--- how it ends, by want of memory, an accept that failed, and what became of the line
+-- how it ends, by running out of memory, an accept that failed, and what became of the line
 abbrev by : Bool → Bool → Line → Ending
 by short failed line = if short then Memory else ending_by_line failed line
 
@@ -98,13 +100,21 @@ links_served start final clock links s line before now h = record {
   fault = tells_failure s.short s.failed (has_failed h.gained) line h.faults;
 }
 
+-- what is known of each crash of a service, from the disk at entry to the one at exit
+pub record AreCrashes (first last pending : List Entry) (old new : DiskSeen) : Type 0 where
+  pub decided : old.tells ≡ true → (pending ≡ []) ⊎ Rose old.faults new.faults
+  pub since_sync : old.tells ≡ true → LeavesSinceSync old.told new.told (StandsWithin (mark_at first old) (mark_at last new))
+  pub any_moment : old.tells ≡ true → IsSettled old.told
+      → LeavesOnly old.told new.told (StandsWithin (mark_at first old) (mark_at last new))
+  pub by_turns : old.tells ≡ true → WentByTurns (mark_at first old) (mark_at last new) pending old.told new.told
+
 -- a farm was served from a first history to a last one
 pub ends : (first last pending : List Entry) (links : ℕ) (clock : Moment → Type 0) (s : Standing) (ending : Ending)
     (old new : Outside) → (old.disk.tells ≡ true → StandsFor first old.disk.told.bytes) → IsLegal first → IsLegal last
-    → (old.disk.tells ≡ true → IsStored last pending new.disk.told)
+    → (old.disk.tells ≡ true → IsStored last pending new.disk.told) → AreCrashes first last pending old.disk new.disk
     → ComesTo (mark_at first old.disk) (mark_at last new.disk) clock links s old.network new.network
     → EndSays s (farm_line last) ending old.output new.output → ServeEnds links clock ending old new
-ends first last pending links clock s ending old new held legal legal_after at_exit comes says =
+ends first last pending links clock s ending old new held legal legal_after at_exit crashed comes says =
     subst (λ (e : Ending). ServeEnds links clock e old new) (sym says.is)
     (farm_ends s.short s.failed says.line links clock old new record {
       first = first;
@@ -115,6 +125,10 @@ ends first last pending links clock s ending old new held legal legal_after at_e
       follows = comes.follows;
       legal_after = legal_after;
       at_exit = at_exit;
+      decided = crashed.decided;
+      since_sync = crashed.since_sync;
+      any_moment = crashed.any_moment;
+      by_turns = crashed.by_turns;
       text = line_put s.short s.failed says.line (farm_line last) old.output new.output says.says;
       served = IfSome-map old.network.told
           (λ before. AreServed (mark_at first old.disk) (mark_at last new.disk) clock links s before new.network.told)
@@ -124,53 +138,72 @@ ends first last pending links clock s ending old new held legal legal_after at_e
       cause = net_cause s.short s.failed says.line old.network.faults new.network.faults comes.rose;
     })
 
--- The same over a store that was opened on a disk and given back, by what is known of the disks that the calls took and
--- gave: `made` was opened, `left` is that of the store given back, and `back` is what the service gives back.
-pub opened-ends : {D : Type 0} (meant : disk.Ghosts D) (clock : Moment → Type 0) (links : ℕ) (old made left back : D)
-    (before : ℕ) (tells : Bool) (store given : StoreState D) (s : Standing) (ending : Ending) (net net_after : NetworkSeen)
-    (out out_after : OutputSeen) → made ≡ old → before ≡ meant.count old → meant.tells old ≡ tells
-    → (meant.tells made ≡ true → StandsFor store.history (meant.told made).bytes) → IsLegal store.history
-    → ComesTo (record { seen = store.history; faults = before }) (store_mark meant.count given) clock links s net net_after
-    → EndSays s (farm_line given.history) ending out out_after → IsLegal given.history → left ≡ given.disk
-    → (meant.tells given.disk ≡ true → IsStored given.history given.pending (meant.told left)) → back ≡ left
-    → meant.tells back ≡ tells
-    → ServeEnds links clock ending (outside net out (disk_seen meant old)) (outside net_after out_after (disk_seen meant back))
-opened-ends {D} meant clock links old made left back before tells store given s ending net net_after out out_after is_made
-    counted told answers legal comes says legal_after is_left stored is_back told_after =
-    let same : back ≡ given.disk = is_back ∙ is_left in
-    let first : Mark = record { seen = store.history; faults = meant.count old } in
-    ends store.history given.history given.pending links clock s ending (outside net out (disk_seen meant old))
-    (outside net_after out_after (disk_seen meant back))
-    (λ tell. subst (λ (d : D). StandsFor store.history (meant.told d).bytes) is_made
-    (answers (ap (λ (d : D). meant.tells d) is_made ∙ tell)))
-    legal legal_after
-    (λ tell. subst (λ (d : D). IsStored given.history given.pending (meant.told d)) (sym is_back)
-    (stored (sym (ap (λ (d : D). meant.tells d) same) ∙ (told_after ∙ (sym told ∙ tell)))))
-    (subst (λ (d : D). ComesTo first (record { seen = given.history; faults = meant.count d }) clock links s net net_after)
-    (sym same)
-    (subst (λ (n : ℕ). ComesTo (record { seen = store.history; faults = n }) (store_mark meant.count given) clock links s net
-    net_after) counted comes))
-    says
-
--- where the journal was not opened
-pub missed-ends : {D : Type 0} (meant : disk.Ghosts D) (clock : Moment → Type 0) (links : ℕ) (old made left back : D)
-    (fault : OpeningFault) (net : NetworkSeen) (out : OutputSeen) → made ≡ old
-    → (meant.tells made ≡ true → IsMissedBy (meant.told made).bytes fault)
-    → (meant.tells made ≡ true → ReadsOnly (meant.told made) (meant.told left))
-    → OpeningCause fault (meant.count made) (meant.count left) → back ≡ left
-    → ServeEnds links clock (NotOpened fault) (outside net out (disk_seen meant old)) (outside net out (disk_seen meant back))
-missed-ends {D} meant clock links old made left back fault net out is_made missed only cause is_back =
-    let tells_made : meant.tells made ≡ meant.tells old = ap (λ (d : D). meant.tells d) is_made in
+-- of a store that was opened on a disk and came on by turns
+crashes : {D : Type 0} (meant : disk.Ghosts D) (old : D) (store given : StoreState D) → WasOpened meant store old
+    → CameBy meant (begun_of meant store) given
+    → AreCrashes store.history given.history given.pending (disk_seen meant old) (disk_seen meant given.disk)
+crashes {D} meant old store given opened came =
+    let first : Rest = rest_of meant store in
+    let last : Rest = rest_of meant given in
+    let before : Mark = mark_at store.history (disk_seen meant old) in
+    let after : Mark = mark_at given.history (disk_seen meant given.disk) in
+    let told : meant.tells old ≡ true → AreTurns first came.turns last = λ tell. came.turned (opened.same ∙ tell) in
+    let stored : meant.tells old ≡ true → IsStored store.history store.pending (meant.told store.disk) =
+    λ tell. subst (λ (p : List Entry). IsStored store.history p (meant.told store.disk)) (sym opened.none)
+    (opened.stored tell) in
+    let reached : meant.tells old ≡ true → IsReached first last =
+    λ tell. turns-reached first came.turns last opened.none (stored tell) (told tell) in
+    let holds : meant.tells old ≡ true → StandsWithin before after (meant.told old).bytes =
+    λ tell. within-first before after (meant.told old).bytes (reached tell).follows.longer (opened.held tell) in
+    let leaves : meant.tells old ≡ true → LeavesOnly (meant.told store.disk) (meant.told given.disk) (StandsWithin before after) =
+    λ tell. leaves_only-weaker (meant.told store.disk) (meant.told given.disk)
+    (StandsWithin (mark_of_rest first) (mark_of_rest last)) (StandsWithin before after)
+    (λ c w. within-from store.history (meant.count old) (meant.count store.disk) after c opened.never_falls w)
+    (reached tell).leaves in
     record {
-      untouched = (refl, refl);
-      cause = λ tell. subst (λ (d : D). IsMissedBy (meant.told d).bytes fault) is_made (missed (tells_made ∙ tell));
-      only = λ tell. subst (λ (d : D). ReadsOnly (meant.told old) (meant.told d)) (sym is_back)
-          (subst (λ (d : D). ReadsOnly (meant.told d) (meant.told left)) is_made (only (tells_made ∙ tell)));
-      counts = subst (λ (d : D). OpeningCause fault (meant.count old) (meant.count d)) (sym is_back)
-          (subst (λ (d : D). OpeningCause fault (meant.count d) (meant.count left)) is_made cause);
+      decided = λ tell. ⊎_elim (λ (none : given.pending ≡ []). inl none)
+          (λ (rose : Rose (meant.count store.disk) (meant.count given.disk)).
+          inr (Rose-from (meant.count old) (meant.count store.disk) (meant.count given.disk) opened.never_falls rose))
+          (reached tell).decided;
+      since_sync = λ tell. since_sync-opened (meant.told old) (meant.told store.disk) (meant.told given.disk)
+          (StandsWithin before after) (holds tell) (opened.only tell) (leaves tell);
+      any_moment = λ tell settled. any_moment-opened (meant.told old) (meant.told store.disk) (meant.told given.disk)
+          (StandsWithin before after) (holds tell) (opened.only tell) (leaves tell) settled;
+      by_turns = λ tell. record {
+        opened = first;
+        turns = came.turns;
+        history = refl;
+        decided = opened.none;
+        faults = opened.never_falls;
+        only = opened.only tell;
+        turned = told tell;
+        kept = turns-kept first came.turns last (told tell);
+      };
     }
 
--- where nothing fails and the journal holds a history, only memory may have been wanting
+-- The same over a store that was opened on a disk and given back: `back` is the disk that the service gives back.
+pub opened-ends : {D : Type 0} (meant : disk.Ghosts D) (clock : Moment → Type 0) (links : ℕ) (old back : D) (before : ℕ)
+    (store given : StoreState D) (s : Standing) (ending : Ending) (net net_after : NetworkSeen) (out out_after : OutputSeen)
+    → before ≡ meant.count old → WasOpened meant store old
+    → ComesTo (record { seen = store.history; faults = before }) (store_mark meant.count given) clock links s net net_after
+    → CameBy meant (begun_of meant store) given → EndSays s (farm_line given.history) ending out out_after
+    → IsLegal given.history → back ≡ given.disk
+    → (meant.tells given.disk ≡ true → IsStored given.history given.pending (meant.told back))
+    → ServeEnds links clock ending (outside net out (disk_seen meant old)) (outside net_after out_after (disk_seen meant back))
+opened-ends {D} meant clock links old back before store given s ending net net_after out out_after counted opened comes came
+    says legal_after is_back stored =
+    subst (λ (d : D). ServeEnds links clock ending (outside net out (disk_seen meant old))
+    (outside net_after out_after (disk_seen meant d))) (sym is_back)
+    (ends store.history given.history given.pending links clock s ending (outside net out (disk_seen meant old))
+    (outside net_after out_after (disk_seen meant given.disk)) opened.held opened.legal legal_after
+    (λ tell. subst (λ (d : D). IsStored given.history given.pending (meant.told d)) is_back
+    (stored (came.same ∙ (opened.same ∙ tell))))
+    (crashes meant old store given opened came)
+    (subst (λ (n : ℕ). ComesTo (record { seen = store.history; faults = n }) (store_mark meant.count given) clock links s net
+    net_after) counted comes)
+    says)
+
+-- where nothing fails and the journal holds a history, only memory may have run out
 pub completes : (links : ℕ) (clock : Moment → Type 0) (ending : Ending) (old new : Outside) → ServeEnds links clock ending old new
     → ServeCompletes ending old new
 completes links clock Done old new e net out disk tell history stands = inl refl

@@ -1,6 +1,8 @@
 pub mod Counts
-pub mod Marks
-pub mod Links
-pub mod Steps
-pub mod Served
+pub mod Crashes
 pub mod Ends
+pub mod Links
+pub mod Marks
+pub mod Openings
+pub mod Served
+pub mod Steps

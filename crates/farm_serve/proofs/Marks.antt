@@ -33,7 +33,7 @@ IsHeldOf-longer start final later clock other link whole follows more h = record
       (held-longer (progress_at start) final later clock h.taken h.put link.ended whole follows h.held);
 }
 
--- and what is held of a link taken back, where memory was wanting since then, too
+-- and what is held of a link taken back, where memory ran out since then, too
 pub IsHeldBack-longer : (start final later : Mark) (clock other : Moment → Type 0) (short still : Bool) (link : LinkState)
     → Follows final later → ((at : Moment) → clock at → other at) → (short ≡ true → still ≡ true)
     → IsHeldBack start final clock short link → IsHeldBack start later other still link

@@ -20,7 +20,7 @@ accepts_made made zero links last e over = inl (omega arith)
 accepts_made made (suc left) links last e (inl none) = absurd (omega arith)
 accepts_made made (suc left) links last e (inr ended) = inr (omega arith, ended)
 
--- where memory was never wanting, all accepts were made
+-- where memory never ran out, all accepts were made
 closed_by : (s : Standing) → IsClosed s ⊎ (s.short ≡ true) → s.short ≡ false → IsClosed s
 closed_by s (inl closed) fine = closed
 closed_by s (inr want) fine = absurd (cc (want, fine))
@@ -70,7 +70,7 @@ no_accept start final clock links (Some before) = record {
   faults = refl;
 }
 
--- no accept was made, as memory was wanting
+-- no accept was made, as memory ran out
 pub comes_to_none : (start final : Mark) (clock : Moment → Type 0) (links : ℕ) (told : Option (List NetworkEvent)) (count : ℕ)
     (s : Standing) → s ≡ stands links false false true → Follows start final
     → ComesTo start final clock links s (network_seen told count) (network_seen told count)

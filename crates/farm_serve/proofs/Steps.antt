@@ -161,7 +161,7 @@ serving_used a clock old held out s now count lock ready same h =
     serving_longer a clock old held out s now count (record { own = lock ∙ h.ready.own; free = ready ∙ h.ready.free })
     (subst (λ (m : Mark). Follows (mark_of old) m) (sym same) (Follows-refl (mark_of old))) h
 
--- memory was wanting
+-- memory ran out
 pub serving_short : (a : AtEntry) (clock : Moment → Type 0) (pass : Known) (out : ℕ) (s : Standing)
     (now : Option (List NetworkEvent)) (count : ℕ) → IsServing a clock pass out s now count
     → IsServing a clock pass out (stands s.left s.ended s.failed true) now count

@@ -7,7 +7,7 @@ use Rattle.farm_serve.specs.declared.ending.Ending.{Ending}
 use Rattle.farm_serve.specs.declared.ending.Ending.TheVariants.{Done, NetFault, WriteFault, Memory, NotOpened}
 use Rattle.farm_serve.specs.declared.standing.Standing.{Standing}
 
--- memory was wanting
+-- memory ran out
 abbrev pub is_memory : Ending → Bool
 is_memory Done = false
 is_memory NetFault = false

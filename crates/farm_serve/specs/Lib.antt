@@ -1,3 +1,4 @@
+pub mod Crashes
 pub mod Ending
 pub mod Entries
 pub mod Gained

@@ -13,7 +13,7 @@ pub record GiveAlike (one other : Moment → Type 0) : Type 0 where
   pub there : (at : Moment) → one at → other at
   pub back : (at : Moment) → other at → one at
 
--- the link was read to its end and answered, or it failed, or memory was wanting, by the answer of its serving; a part is
+-- the link was read to its end and answered, or it failed, or memory ran out, by the answer of its serving; a part is
 -- held of what was put to it in each case
 abbrev pub IsServedLink : Mark → Mark → (Moment → Type 0) → LinkState → Result Served ServeFault → Type 0
 IsServedLink start final clock link (Ok served) = IsHeldOf start final clock link true
@@ -22,7 +22,7 @@ IsServedLink start final clock link (Err WriteFault) = IsHeldOf start final cloc
 IsServedLink start final clock link (Err Memory) = IsHeldOf start final clock link false
 
 -- What is held of a link that was taken back. It was read and answered whole; or a part is held, and then the link failed,
--- or memory was wanting.
+-- or memory ran out.
 abbrev pub IsHeldBack : Mark → Mark → (Moment → Type 0) → (short : Bool) → LinkState → Type 0
 IsHeldBack start final clock short link =
     IsHeldOf start final clock link true

@@ -1,6 +1,7 @@
 -- What a service promises.
-use Rattle.std.specs.Prelude.{◌≡◌, ◌⊎◌, ◌<◌, ◌++◌, ℕ, List, true, false, Option, Some, IfSome}
+use Rattle.std.specs.Prelude.{◌≡◌, ◌⊎◌, ◌<◌, ◌++◌, ℕ, List, [], true, false, Option, Some, IfSome}
 use Rattle.connection_laws.specs.Marks.{Mark, Follows}
+use Rattle.farm_disk.specs.Images.{IsSettled, LeavesOnly, LeavesSinceSync}
 use Rattle.farm_entry.specs.Legal.{IsLegal}
 use Rattle.farm_entry.specs.declared.entry.Entry.{Entry}
 use Rattle.farm_journal.specs.Opened.{OpeningCause}
@@ -13,6 +14,7 @@ use Rattle.farm_store.specs.State.{IsStored}
 use Rattle.farm_types.specs.declared.moment.Moment.{Moment}
 use Rattle.fault_types.specs.Counts.{Rose}
 use Rattle.net_io.specs.Events.{NetworkEvent}
+use Rattle.farm_serve.specs.Crashes.{StandsWithin, WentByTurns}
 use Rattle.farm_serve.specs.Ending.{HasNetCause, TellsFailure, is_memory}
 use Rattle.farm_serve.specs.Gained.{AreHeldBack, accepts_of, has_failed, last_ended, links_of, returns_of}
 use Rattle.farm_serve.specs.LastLine.{LinePut, farm_line}
@@ -24,9 +26,9 @@ use Rattle.farm_serve.specs.declared.ending.Ending.TheVariants as end
 abbrev pub mark_at : List Entry → DiskSeen → Mark
 mark_at history disk = record { seen = history; faults = disk.faults }
 
--- Of the events that the network gained, the newest first. Unless memory was wanting they hold so many accepts, or fewer of
+-- Of the events that the network gained, the newest first. Unless memory ran out they hold so many accepts, or fewer of
 -- which the last one answered that no more will come. As many links were taken back as were given. Each of them was read
--- and answered whole; or a part is held of what was put to it, and then it failed, or memory was wanting: from the mark at
+-- and answered whole; or a part is held of what was put to it, and then it failed, or memory ran out: from the mark at
 -- entry to the one at exit, with the moments that the clock may give. And whether an accept failed is as the ending says.
 pub record LinksServed (start final : Mark) (clock : Moment → Type 0) (links : ℕ) (ending : Ending)
     (before : List NetworkEvent) (now : Option (List NetworkEvent)) : Type 0 where
@@ -39,16 +41,21 @@ pub record LinksServed (start final : Mark) (clock : Moment → Type 0) (links :
   pub fault : TellsFailure ending (has_failed gained)
 
 -- The journal was not opened: no accept was made, nothing was put, and the disk was only read. Why is what its bytes are,
--- or the disk failed, or memory was wanting.
+-- or the disk failed, or memory ran out.
 pub record JournalMissed (fault : OpeningFault) (old new : Outside) : Type 0 where
   pub untouched : (new.network ≡ old.network) × (new.output ≡ old.output)
   pub cause : old.disk.tells ≡ true → IsMissedBy old.disk.told.bytes fault
   pub only : old.disk.tells ≡ true → ReadsOnly old.disk.told new.disk.told
   pub counts : OpeningCause fault old.disk.faults new.disk.faults
 
--- The journal held a first history, and its farm was served from there to a last one, whose line was put. Both are legal,
--- whether the disk tells what it holds or not. At exit a read of the disk, and each crash, gives the last history, or it
--- with what a fault of the disk left undecided.
+-- The journal held a first history, and its farm was served from there to a last one, whose line was put. Both are
+-- legal, whether the disk tells what it holds or not. At exit a read of the disk, and each crash, gives the last
+-- history, or it with what a fault of the disk left undecided, where the disk failed in this call.
+--
+-- A crash at any moment since the sync with which opening begins leaves a history that begins with the first one, and
+-- with which the last one begins; or such a one with entries that a fault of the disk left undecided, where the disk
+-- failed in this call. And so since the call's start, where the one image was then what a read gave. What stood before
+-- a turn, which has all that was acknowledged by then, each crash leaves from then on.
 pub record FarmServed (links : ℕ) (clock : Moment → Type 0) (ending : Ending) (old new : Outside) : Type 0 where
   pub first : List Entry
   pub last : List Entry
@@ -58,6 +65,13 @@ pub record FarmServed (links : ℕ) (clock : Moment → Type 0) (ending : Ending
   pub follows : Follows (mark_at first old.disk) (mark_at last new.disk)
   pub legal_after : IsLegal last
   pub at_exit : old.disk.tells ≡ true → IsStored last pending new.disk.told
+  pub decided : old.disk.tells ≡ true → (pending ≡ []) ⊎ Rose old.disk.faults new.disk.faults
+  pub since_sync : old.disk.tells ≡ true → LeavesSinceSync old.disk.told new.disk.told
+      (StandsWithin (mark_at first old.disk) (mark_at last new.disk))
+  pub any_moment : old.disk.tells ≡ true → IsSettled old.disk.told → LeavesOnly old.disk.told new.disk.told
+      (StandsWithin (mark_at first old.disk) (mark_at last new.disk))
+  pub by_turns : old.disk.tells ≡ true
+      → WentByTurns (mark_at first old.disk) (mark_at last new.disk) pending old.disk.told new.disk.told
   pub text : LinePut (farm_line last) ending old.output new.output
   pub served : IfSome old.network.told (λ before. LinksServed (mark_at first old.disk) (mark_at last new.disk) clock links
       ending before new.network.told)
@@ -72,7 +86,7 @@ ServeEnds links clock end.WriteFault old new = FarmServed links clock end.WriteF
 ServeEnds links clock end.Memory old new = FarmServed links clock end.Memory old new
 
 -- Where neither the network nor the output nor the disk fails, and the journal holds a history, the service is done, but for
--- want of memory.
+-- running out of memory.
 abbrev pub ServeCompletes : Ending → (old new : Outside) → Type 0
 ServeCompletes ending old new =
     ¬ Rose old.network.faults new.network.faults → ¬ Rose old.output.faults new.output.faults

@@ -39,7 +39,7 @@ pub record IsServing (a : AtEntry) (clock : Moment → Type 0) (pass : Known) (o
   pub gained : IfSome a.told (λ before. IsGained a clock (mark_of pass) out s before now)
 
 -- Of the events that a network gained in serving: they hold so many accepts, or fewer of which the last one answered that
--- no more will come, unless memory was wanting; as many links were taken back as were given; each is held for the mark at
+-- no more will come, unless memory ran out; as many links were taken back as were given; each is held for the mark at
 -- exit; and the standing says whether an accept failed.
 pub record AreServed (start final : Mark) (clock : Moment → Type 0) (links : ℕ) (s : Standing)
     (before : List NetworkEvent) (now : Option (List NetworkEvent)) : Type 0 where

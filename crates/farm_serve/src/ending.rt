@@ -22,8 +22,8 @@ pub enum Ending {
 }
 
 impl Ending {
-    /// How the service ends, by how the serving stands and by what became of the last line: the first that fits of want of
-    /// memory, a fault of the output, and an accept that failed.
+    /// How the service ends, by how the serving stands and by what became of the last line: the first that fits of
+    /// running out of memory, a fault of the output, and an accept that failed.
     pub fn of(standing: Standing, line: Result<(), PutFault>) -> Ending
         ensures { result ≡ ending_of standing line }
     {

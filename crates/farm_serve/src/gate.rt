@@ -20,7 +20,7 @@ use farm_http::{Pages, ServeFault, Served};
 use farm_types::Memory;
 use link_io::Clock;
 use net_io::{Accepted, Network};
-use shared_farm::{Pass, SharedFarm, TotalsReader};
+use shared_farm::{Beginning, Pass, SharedFarm, TotalsReader};
 use std::alloc::Global;
 use std::marker::Model;
 use std::sync::Wait;
@@ -73,7 +73,11 @@ impl<N: Network + Drop, J: Naming> Gate<N, J> {
     }
 
     /// The next link, with a pass that has seen what the held one has.
-    pub fn next<D: Disk>(&mut self, farm: &SharedFarm<D>, mine: &mut Share<J>) -> Next<N::End>
+    pub fn next<D: Disk, B: Beginning>(
+        &mut self,
+        farm: &SharedFarm<D, B>,
+        mine: &mut Share<J>,
+    ) -> Next<N::End>
         requires farm { farm.now ≡ J.entry.lock }
         requires parts { 0 < mine.old.parts }
         ensures parts { mine.new.parts ≡ mine.old.parts }
@@ -101,11 +105,11 @@ impl<N: Network + Drop, J: Naming> Gate<N, J> {
         }
     }
 
-    /// A reader of totals, which has seen what the held pass has. Want of memory is noted.
-    pub fn reader<D: Disk, R: Wait>(
+    /// A reader of totals, which has seen what the held pass has. Running out of memory is noted.
+    pub fn reader<D: Disk, B: Beginning, R: Wait>(
         &mut self,
         rt: &R,
-        farm: &SharedFarm<D>,
+        farm: &SharedFarm<D, B>,
     ) -> Result<TotalsReader, Memory>
         requires farm { farm.now ≡ J.entry.lock }
         ensures reader { IfOk result (λ reader. IsReaderOf J.entry reader) }
@@ -118,7 +122,7 @@ impl<N: Network + Drop, J: Naming> Gate<N, J> {
         made
     }
 
-    /// A table of paths. Want of memory is noted.
+    /// A table of paths. Running out of memory is noted.
     pub fn pages(&mut self, alloc: Global) -> Result<Pages, Memory>
         ensures short { OnErr result (self.new.short ≡ true) }
     {
@@ -130,9 +134,9 @@ impl<N: Network + Drop, J: Naming> Gate<N, J> {
     }
 
     /// Takes a link back, and its pass.
-    pub fn back<D: Disk>(
+    pub fn back<D: Disk, B: Beginning>(
         &mut self,
-        farm: &SharedFarm<D>,
+        farm: &SharedFarm<D, B>,
         link: N::End,
         pass: Pass,
         served: Result<Served, ServeFault>,
@@ -154,11 +158,11 @@ impl<N: Network + Drop, J: Naming> Gate<N, J> {
     }
 
     /// Makes the accepts that are left and serves their links, where there is memory for a reader and a table of paths.
-    pub fn serve_rest<D: Disk, C: Clock, R: Wait>(
+    pub fn serve_rest<D: Disk, B: Beginning, C: Clock, R: Wait>(
         &mut self,
         rt: &R,
         alloc: Global,
-        farm: &SharedFarm<D>,
+        farm: &SharedFarm<D, B>,
         clock: &C,
         mine: &mut Share<J>,
     )
@@ -182,7 +186,7 @@ impl<N: Network + Drop, J: Naming> Gate<N, J> {
                 Next::Link(link, pass) => {
                     let mut link = link;
                     let mut pass = pass;
-                    let served = serve_one::<D, N, C, J, R>(
+                    let served = serve_one::<D, B, N, C, J, R>(
                         rt,
                         alloc,
                         &pages,

@@ -10,7 +10,7 @@ use crate::standing::Next;
 use farm_disk::Disk;
 use link_io::Clock;
 use net_io::Network;
-use shared_farm::SharedFarm;
+use shared_farm::{Beginning, SharedFarm};
 use std::alloc::Global;
 use std::sync::ledger::{Ledger, Share};
 use std::sync::{Mutex, Wait};
@@ -28,6 +28,7 @@ impl<L: Ledger> Promise<Share<L>> for NoneOut {
 /// Runs so many handlers, until all have ended. This thread is one of them.
 pub fn run_all<
     D: Disk + Drop + Send,
+    B: Beginning + Send,
     N: Network + Drop + Send,
     C: Clock + Sync,
     J: Naming + Send + Sync,
@@ -36,7 +37,7 @@ pub fn run_all<
     rt: &R,
     alloc: Global,
     gate: &Mutex<Gate<N, J>>,
-    farm: &SharedFarm<D>,
+    farm: &SharedFarm<D, B>,
     clock: &C,
     all: Share<J>,
     handlers: u8,
@@ -68,6 +69,7 @@ fn start_all<
     's,
     E,
     D: Disk + Drop + Send,
+    B: Beginning + Send,
     N: Network + Drop + Send,
     C: Clock + Sync,
     J: Naming + Send + Sync,
@@ -77,7 +79,7 @@ fn start_all<
     rt: &'s R,
     alloc: Global,
     gate: &'s Mutex<Gate<N, J>>,
-    farm: &'s SharedFarm<D>,
+    farm: &'s SharedFarm<D, B>,
     clock: &'s C,
     all: Share<J>,
     others: u8,
@@ -112,11 +114,11 @@ where
 
 /// Takes links and serves them, one after the other, until no accept is left or one answers that no more will come. It has
 /// one table of paths and one reader for all its links.
-fn handle<D: Disk, N: Network + Drop, C: Clock, J: Naming, R: Wait>(
+fn handle<D: Disk, B: Beginning, N: Network + Drop, C: Clock, J: Naming, R: Wait>(
     rt: &R,
     alloc: Global,
     gate: &Mutex<Gate<N, J>>,
-    farm: &SharedFarm<D>,
+    farm: &SharedFarm<D, B>,
     clock: &C,
     share: Share<J>,
 ) -> Share<J>
@@ -142,7 +144,7 @@ fn handle<D: Disk, N: Network + Drop, C: Clock, J: Naming, R: Wait>(
             Next::Link(link, pass) => {
                 let mut link = link;
                 let mut pass = pass;
-                let served = serve_one::<D, N, C, J, R>(
+                let served = serve_one::<D, B, N, C, J, R>(
                     rt,
                     alloc,
                     &pages,

@@ -15,7 +15,6 @@ mod handlers;
 mod last_line;
 mod link;
 mod naming;
-mod same_disk;
 mod serving;
 mod standing;
 

@@ -12,16 +12,16 @@ use farm_disk::Disk;
 use farm_http::{Pages, ServeFault, Served, serve_link};
 use link_io::Clock;
 use net_io::Network;
-use shared_farm::{Pass, SharedFarm, TotalsReader};
+use shared_farm::{Beginning, Pass, SharedFarm, TotalsReader};
 use std::alloc::Global;
 use std::sync::Wait;
 
 /// Serves a link that has done nothing yet, and tells its other end that nothing more will come. No lock is held.
-pub fn serve_one<D: Disk, N: Network, C: Clock, J: Naming, R: Wait>(
+pub fn serve_one<D: Disk, B: Beginning, N: Network, C: Clock, J: Naming, R: Wait>(
     rt: &R,
     alloc: Global,
     pages: &Pages,
-    farm: &SharedFarm<D>,
+    farm: &SharedFarm<D, B>,
     pass: &mut Pass,
     reader: &mut TotalsReader,
     link: &mut N::End,

@@ -22,16 +22,3 @@ impl Naming for Brand {
 
     ghost gives = { λ _. ⊤ };
 }
-
-/// Whether a disk tells contracts what it holds. Each call of serving picks it.
-pub trait Telling {
-    ghost use Rattle.std.specs.Prelude.{Bool};
-
-    ghost tells: { Bool };
-}
-
-impl Telling for Brand {
-    ghost use Rattle.std.specs.Prelude.{false};
-
-    ghost tells = { false };
-}

@@ -1,7 +1,8 @@
 //! The service.
-ghost use Rattle.std.specs.Prelude.{◌≡◌, ◌<◌, ◌≤◌};
+ghost use Rattle.std.specs.Prelude.{◌≡◌, ◌<◌, ◌≤◌, IfSome};
 ghost use Rattle.connection_laws.specs.Moments.{MayGive};
 ghost use Rattle.farm_entry.specs.Legal.{IsLegal};
+ghost use Rattle.shared_farm.specs.Rests.{CameBy};
 ghost use Rattle.turn_lock.specs.Known.{IsReady};
 ghost use Rattle.farm_serve.specs.LastLine.{EndSays, farm_line};
 ghost use Rattle.farm_serve.specs.Links.{GiveAlike};
@@ -13,14 +14,13 @@ use crate::ending::Ending;
 use crate::gate::Gate;
 use crate::handlers::run_all;
 use crate::last_line::put_farm_line;
-use crate::naming::{Naming, Telling};
-use crate::same_disk::SameDisk;
+use crate::naming::Naming;
 use crate::standing::Standing;
 use farm_disk::Disk;
 use farm_store::Store;
 use link_io::{Clock, Sink};
 use net_io::Network;
-use shared_farm::{Pass, SharedFarm};
+use shared_farm::{Beginning, Pass, SharedFarm};
 use std::alloc::Global;
 use std::marker::Brand;
 use std::sync::ledger::Blank;
@@ -31,7 +31,7 @@ use std::thread::Threads;
 /// handlers, until so many accepts were made or one answered that no more will come, and puts the farm's line. The disk and
 /// the network are given back.
 ///
-/// A link that fails, or for which memory is wanting, ends alone, and a failed accept is one of those that are made. After
+/// A link that fails, or for which memory runs out, ends alone, and a failed accept is one of those that are made. After
 /// a fault of the disk a command gets its answer that the store failed, and the next one tries again.
 pub fn serve<
     D: Disk + Drop + Send,
@@ -64,49 +64,16 @@ where
     ensures disk_never_falls { D.count disk ≤ D.count result.1 }
     ensures network_never_falls { N.count network ≤ N.count result.2 }
 {
-    serve_on::<D, N, K, C, Brand, R>(rt, alloc, disk, network, output, clock, handlers, links)
-}
-
-/// The same, where it is known whether the disk tells.
-fn serve_on<
-    D: Disk + Drop + Send,
-    N: Network + Drop + Send,
-    K: Sink,
-    C: Clock + Sync,
-    T: Telling + Send,
-    R: Threads + Wait + Sync,
->(
-    rt: &R,
-    alloc: Global,
-    disk: D,
-    network: N,
-    output: &mut K,
-    clock: &C,
-    handlers: u8,
-    links: u64,
-) -> (Ending, D, N)
-where
-    N::End: Send,
-    requires tells { D.tells disk ≡ T.tells }
-    requires some { 0 < handlers }
-    ensures ends { ServeEnds links (MayGive C.Clock clock.now) result.0
-        (outside (network_seen (N.told network) (N.count network)) (output_seen K.Sink output.old) (disk_seen D.Disk disk))
-        (outside (network_seen (N.told result.2) (N.count result.2)) (output_seen K.Sink output.new)
-        (disk_seen D.Disk result.1)) }
-    ensures tells { D.tells result.1 ≡ D.tells disk }
-    ensures disk_never_falls { D.count disk ≤ D.count result.1 }
-    ensures network_never_falls { N.count network ≤ N.count result.2 }
-{
     let before = disk.faults();
-    match Store::open_on(alloc, SameDisk::<D, T>::new(disk)) {
+    match Store::open_on(alloc, disk) {
         Ok(store) => {
-            let (store, network, standing) = serve_store(
+            let (store, network, standing) = serve_store::<D, Brand, N, C, R>(
                 rt, alloc, store, before, network, clock, handlers, links,
             );
             let ending = end(alloc, &store, standing, output);
-            (ending, store.into_disk().into_disk(), network)
+            (ending, store.into_disk(), network)
         }
-        Err((disk, fault)) => (Ending::NotOpened(fault), disk.into_disk(), network),
+        Err((disk, fault)) => (Ending::NotOpened(fault), disk, network),
     }
 }
 
@@ -129,6 +96,7 @@ fn end<D: Disk, K: Sink>(
 /// share the farm no accept is made.
 fn serve_store<
     D: Disk + Drop + Send,
+    B: Beginning + Send,
     N: Network + Drop + Send,
     C: Clock + Sync,
     R: Threads + Wait + Sync,
@@ -144,16 +112,18 @@ fn serve_store<
 ) -> (Store<D>, N, Standing)
 where
     N::End: Send,
+    requires came { IfSome B.begun (λ begun. CameBy D.Disk begun store) }
     requires before { before ≤ D.count store.disk }
     requires some { 0 < handlers }
     ensures comes { ComesTo (record { seen = store.history; faults = before }) (store_mark D.count result.0)
         (MayGive C.Clock clock.now) links result.2 (network_seen (N.told network) (N.count network))
         (network_seen (N.told result.1) (N.count result.1)) }
+    ensures came { IfSome B.begun (λ begun. CameBy D.Disk begun result.0) }
 {
-    match SharedFarm::of(alloc, store) {
+    match SharedFarm::<D, B>::of(alloc, store) {
         Ok((farm, pass)) => {
             let blank = Blank::new(u64::from(handlers));
-            serve_farm::<D, N, C, Brand, R>(
+            serve_farm::<D, B, N, C, Brand, R>(
                 rt, alloc, farm, pass, before, network, clock, blank, handlers, links,
             )
         }
@@ -163,6 +133,7 @@ where
 
 fn serve_farm<
     D: Disk + Drop + Send,
+    B: Beginning + Send,
     N: Network + Drop + Send,
     C: Clock + Sync,
     J: Naming + Send + Sync,
@@ -170,7 +141,7 @@ fn serve_farm<
 >(
     rt: &R,
     alloc: Global,
-    farm: SharedFarm<D>,
+    farm: SharedFarm<D, B>,
     pass: Pass,
     before: u64,
     network: N,
@@ -196,6 +167,7 @@ where
     ensures comes { ComesTo (record { seen = pass.seen; faults = before }) (store_mark D.count result.0)
         (MayGive C.Clock clock.now) links result.2 (network_seen (N.told network) (N.count network))
         (network_seen (N.told result.1) (N.count result.1)) }
+    ensures came { IfSome B.begun (λ begun. CameBy D.Disk begun result.0) }
 {
     let (out, all) = blank.open::<J>();
     let gate = Mutex::new(Gate::new(network, pass, out, links));

@@ -14,12 +14,12 @@ pub struct Standing {
     pub ended: bool,
     /// Whether an accept failed.
     pub failed: bool,
-    /// Whether memory was wanting.
+    /// Whether memory ran out.
     pub short: bool,
 }
 
 impl Standing {
-    /// Memory was wanting before the first of so many accepts.
+    /// Memory ran out before the first of so many accepts.
     pub fn without_memory(left: u64) -> Standing
         ensures { result ≡ record { left = left; ended = false; failed = false; short = true } }
     {

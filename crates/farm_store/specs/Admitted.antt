@@ -18,17 +18,17 @@ pub record GoesOn (payload : List ℕ) (H K : List Entry) : Type 0 where
   pub whole : K ≡ H ++ part
   pub legal : IsLegal K
 
--- a payload spells no entries that make a legal history with those before them, unless memory was wanting
+-- a payload spells no entries that make a legal history with those before them, unless memory ran out
 abbrev pub IsMisfit : List ℕ → List Entry → Misfit → Type 0
 IsMisfit payload H Unfit = (part : List Entry) → AreSpelled part → payload ≡ spelling part → IsLegal (H ++ part) → ⊥
 IsMisfit payload H Memory = ⊤
 
--- a payload spells no entries, unless memory was wanting
+-- a payload spells no entries, unless memory ran out
 abbrev pub SpellsNone : List ℕ → Misfit → Type 0
 SpellsNone payload Unfit = (part : List Entry) → AreSpelled part → payload ≡ spelling part → ⊥
 SpellsNone payload Memory = ⊤
 
--- no history that begins so is legal, unless memory was wanting
+-- no history that begins so is legal, unless memory ran out
 abbrev pub IsNotLegal : (List Entry → List Entry) → Misfit → Type 0
 IsNotLegal begun Unfit = (more : List Entry) → IsLegal (begun more) → ⊥
 IsNotLegal begun Memory = ⊤

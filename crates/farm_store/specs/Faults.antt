@@ -25,7 +25,7 @@ OnCallFault (Err (Refused cause)) P = ⊤
 OnCallFault (Err (StoreFault before after)) P = P
 OnCallFault (Err Memory) P = ⊤
 
--- what holds where memory was wanting
+-- what holds where memory ran out
 abbrev pub OnCallMemory : {T : Type 0} → Result T CallFault → Type 0 → Type 0
 OnCallMemory (Ok answered) P = ⊤
 OnCallMemory (Err (Refused cause)) P = ⊤

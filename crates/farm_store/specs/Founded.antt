@@ -28,8 +28,8 @@ abbrev pub disk_founded : {D : Type 0} → StoreFounding D → D
 disk_founded (Ok store) = store.disk
 disk_founded (Err missed) = missed.0
 
--- Why nothing was founded: something was created there before, and then only. A fault and want of memory say nothing of
--- that.
+-- Why nothing was founded: something was created there before, and then only. A fault and running out of memory say
+-- nothing of that.
 abbrev pub IsRefusedBy : List ℕ → CreateFault → Type 0
 IsRefusedBy bytes AlreadyBorn = is_unborn bytes ≡ false
 IsRefusedBy bytes (StoreFault before after) = ⊤

@@ -16,7 +16,7 @@ abbrev pub disk_opened : {D : Type 0} → StoreOpening D → D
 disk_opened (Ok store) = store.disk
 disk_opened (Err missed) = missed.0
 
--- why it wasn't opened is what the bytes are; a fault of the disk and want of memory say nothing of them
+-- why it wasn't opened is what the bytes are; a fault of the disk and running out of memory say nothing of them
 abbrev pub IsMissedBy : List ℕ → OpeningFault → Type 0
 IsMissedBy bytes Unborn = opens bytes ≡ unborn
 IsMissedBy bytes (Damaged o) = IsDamagedAt bytes o

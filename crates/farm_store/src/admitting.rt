@@ -19,7 +19,7 @@ use std::alloc::Global;
 pub enum Misfit {
     /// It spells no entries, or none that may come next.
     Unfit,
-    /// Memory was wanting.
+    /// Out of memory.
     Memory,
 }
 

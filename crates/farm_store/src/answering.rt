@@ -6,7 +6,7 @@ ghost use Rattle.farm_entry.specs.Playing.{after};
 ghost use Rattle.farm_store.specs.Answering.{AreAnswers, IsAnswer, history_after};
 
 use crate::asking::{Answer, Ask};
-use farm_core::{CoreFault, Farm, Prepared};
+use farm_core::{CoreFault, Farm};
 use farm_entry::{Command, Entry};
 use farm_types::{Memory, Moment};
 use std::alloc::Global;
@@ -17,20 +17,15 @@ pub fn answer(farm: &mut Farm, command: &Command, at: Moment) -> Result<Answer, 
     ensures history { OnOk result (farm.new.history ≡ after farm.old.history (decide farm.old.history command.now at)) }
     ensures kept { OnErr result (farm.new.history ≡ farm.old.history) }
 {
-    match farm.prepare(command, at) {
-        Ok(Prepared::Repeat(reply)) => Ok(Answer::Done(reply)),
-        Ok(Prepared::Shown(reply)) => Ok(Answer::Done(reply)),
-        Ok(Prepared::New(entry, reply)) => {
-            farm.commit(entry);
-            Ok(Answer::Done(reply))
-        }
+    match farm.answer(command, at) {
+        Ok(reply) => Ok(Answer::Done(reply)),
         Err(CoreFault::Refused(refusal)) => Ok(Answer::Refused(refusal)),
         Err(CoreFault::Memory) => Err(Memory),
     }
 }
 
 /// Answers a list of asks, one after the other. The new entries stand at the end of the history, at most one for each;
-/// where memory was wanting, those of the first asks do.
+/// where memory ran out, those of the first asks do.
 pub fn answer_all(alloc: Global, farm: &mut Farm, asks: &[Ask]) -> Result<Vec<Answer>, Memory>
     ensures answers { IfOk result (λ answers. AreAnswers farm.old.history asks.now answers.items) }
     ensures history { OnOk result (farm.new.history ≡ history_after farm.old.history asks.now) }

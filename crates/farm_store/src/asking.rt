@@ -44,7 +44,7 @@ pub enum CallFault {
         /// The count after it.
         after: u64,
     },
-    /// Memory was wanting, and nothing of the call is recorded.
+    /// Out of memory, and nothing of the call is recorded.
     #[error("out of memory")]
     Memory,
 }

@@ -22,6 +22,7 @@ ghost use Rattle.farm_disk.specs.Images.{EachImage, LeavesOnly, LeavesSinceSync,
 ghost use Rattle.farm_entry.specs.History.{opening_numbered};
 ghost use Rattle.farm_entry.specs.Legal.{IsLegal};
 ghost use Rattle.farm_entry.specs.Pages.{page_of, totals};
+ghost use Rattle.farm_entry.specs.Standing.{standing};
 ghost use Rattle.farm_journal.specs.Created.{CreatingCause, IsUnborn, OnCreatingMemory};
 ghost use Rattle.farm_journal.specs.Layout.{is_unborn, version_of};
 ghost use Rattle.farm_journal.specs.Opened.{OpeningCause};
@@ -41,7 +42,7 @@ use crate::recording::record_from;
 use crate::showing::page_in;
 use farm_core::Farm;
 use farm_disk::Disk;
-use farm_entry::{Command, Entry, Reply, SearchPage, Settings, Totals};
+use farm_entry::{Command, Entry, Reply, SearchPage, Settings, Standing, Totals};
 use farm_journal::{CreateFault, Journal, JournalFault, OpeningFault, Repaired};
 use farm_types::{Memory, Moment};
 use std::alloc::Global;
@@ -265,6 +266,16 @@ impl<D: Disk> Store<D> {
         ensures kept { self.new ≡ self.old }
     {
         page_in(&mut self.farm, search)
+    }
+
+    /// Where a search stands, where it was opened, while nothing is pending. It takes no memory, and the disk is not
+    /// asked.
+    pub fn standing(&mut self, search: u32) -> Option<Standing>
+        requires { self.old.pending ≡ [] }
+        ensures standing { result ≡ option_map (standing self.old.history) (opening_numbered self.old.history search) }
+        ensures kept { self.new ≡ self.old }
+    {
+        self.farm.standing(search)
     }
 
     /// How many entries the last call recorded for its asks: they are the last of the history. Those that its repair

@@ -1,4 +1,4 @@
--- The farm with its order of turns, with one entry more and with one less.
+-- The farm with its order of turns, with an entry appended and with one less.
 use Rattle.std.proofs.Common.{◌≡◌, ℕ, zero, suc, ◌+◌, ◌-◌, ◌<◌, List, [], ◌∷◌, ◌++◌, length, take, get_or, length-append, refl, sym, ap, subst, ◌∙◌, arith, append_assoc, append-nil, length-take-le}
 use Rattle.std.proofs.Math.Seq.{get_or-append_seam, take-append_seam}
 use Rattle.farm_entry.specs.Legal.{AreNext, IsFounding, IsLegal}

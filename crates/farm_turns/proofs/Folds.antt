@@ -1,4 +1,4 @@
--- The order that a history makes, with one entry more.
+-- The order that a history makes, with an entry appended.
 use Rattle.std.proofs.Common.{◌≡◌, List, [], ◌∷◌, ◌++◌, sym, ap, ◌∙◌, append_assoc, append-nil}
 use Rattle.farm_entry.specs.declared.entry.Entry.{Entry}
 use Rattle.farm_turns.specs.Moves.{Turns}

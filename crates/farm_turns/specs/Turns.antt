@@ -7,7 +7,7 @@ use Rattle.farm_turns.specs.declared.moves.Change.{Change}
 abbrev pub no_turns : Turns
 no_turns = record { never = []; leased = [] }
 
--- the order with one entry more
+-- the order with an entry appended
 abbrev pub turns_after : List Entry → Entry → Turns → Turns
 turns_after H e t = made (H ++ e ∷ []) (move_in H e.what) t
 

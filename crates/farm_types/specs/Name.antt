@@ -16,7 +16,7 @@ name_fault text =
     if nat_le 1 (length text) && nat_le (length text) NAME_MAX_BYTES then option_map Byte (first_unprintable text)
     else Some (Length (length text))
 
--- the fault of the text that a refusal names: want of memory names none
+-- the fault of the text that a refusal names: running out of memory names none
 abbrev pub refusal : NameFault → Option NameFault
 refusal (Length n) = Some (Length n)
 refusal (Byte i) = Some (Byte i)

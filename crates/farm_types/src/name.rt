@@ -97,7 +97,7 @@ impl Name {
     ghost use Rattle.farm_types.specs.Limits.{IsName};
 
     /// The name that a text spells. The first fault of the text is answered: its length, else its first byte that is no
-    /// printable ASCII character, else want of memory.
+    /// printable ASCII character, else out of memory.
     pub fn of(alloc: Global, text: &str) -> Result<Name, NameFault>
         ensures taken { OnOk result (name_fault text.now ≡ None) }
         ensures kept { IfOk result (λ name. name ≡ text.now) }

@@ -51,7 +51,8 @@ next-is_day n c h =
       day_low = omega arith;
       day_high = omega (arith, (long (c.month + 1)).1);
       counted =
-          omega (arith, signed_arith, h.counted, days_from_civil-next_month (pos c.year) c.month c.day h.month_low last);
+          omega
+          (arith, signed_arith, h.counted, days_from_civil-next_month (pos c.year) c.month c.day h.month_low last);
     })
     (λ at_year_end. let december : c.month ≡ 12 = omega (arith, ltb-false _ _ at_year_end, h.month_high) in
     let ends : c.day ≡ 31 = last ∙ rw december refl in

@@ -22,7 +22,7 @@ line_reading-too_long line long =
     let over : nat_lt MAX_COMMAND_BYTES (length line) ≡ true = lt-ltb _ _ long in
     rw over refl
 
--- what a reading gives isn't want of memory
+-- what a reading gives isn't running out of memory
 record IsSaid {X : Type 0} (r : Result X WireFault) : Type 0 where
   pub said : r ≢ Err Memory
 

@@ -3,3 +3,6 @@ pub mod Faults
 pub mod JsonObjects
 pub mod MadeValues
 pub mod Objects
+pub mod Quoted
+pub mod Written
+pub mod WrittenOrders

@@ -1,8 +1,8 @@
 -- Values that the calls make are those that the definitions make.
-use Rattle.std.proofs.Common.{◌≡◌, ◌↔◌, ℕ, zero, suc, ◌<◌, nat_lt, List, [], ◌∷◌, slice_index, Bool, true, false, IsTrue, IsOk, OnOk, IfOk, IfErr, Some, None, Result, Ok, Err, refl, sym, ap, subst, eq-eqb}
+use Rattle.std.proofs.Common.{◌≡◌, ◌↔◌, ℕ, zero, suc, ◌<◌, nat_lt, List, [], ◌∷◌, slice_index, true, IsOk, OnOk, IfOk, IfErr, Some, None, Result, Ok, Err, refl, sym, subst, eq-eqb}
 use Rattle.std.specs.List.{list_all}
 use Rattle.std.specs.Result.{result_ok}
-use Rattle.std.proofs.lemmas.Bool.{and_from, false≢true, le-leb, lt-ltb}
+use Rattle.std.proofs.lemmas.Bool.{and_from, false≢true, lt-ltb}
 use Rattle.hex.specs.Hex.{decode_of}
 use Rattle.farm_entry.proofs.Asked.{when_passed-none, when_passed-same}
 use Rattle.farm_types.proofs.SameValues.{id_bytes-injective, moment_ms-injective}
@@ -19,7 +19,8 @@ use Rattle.farm_wire.specs.Made.{id_named, id_of, is_id, moment_at}
 pub moment_at-of : (m : Moment) (ms : ℕ) → moment_ms m ≡ ms → moment_at ms ≡ Some m
 unfolding moment_at
 moment_at-of m ms is =
-    when_passed-same (is_moment ms) _ m (moment-tested ms (subst IsMoment is m.in_range)) (λ h. moment_ms-injective _ m (sym is))
+    when_passed-same (is_moment ms) _ m (moment-tested ms (subst IsMoment is m.in_range))
+    (λ h. moment_ms-injective _ m (sym is))
 
 pub moment_at-none : (ms : ℕ) → (IsMoment ms → ⊥) → moment_at ms ≡ None
 unfolding moment_at

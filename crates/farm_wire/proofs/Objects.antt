@@ -1,19 +1,12 @@
 -- Objects that members are put into.
-use Rattle.std.proofs.Common.{◌≡◌, Option, Some, None, ℕ, ◌+◌, ◌<◌, ◌≤◌, List, [], ◌∷◌, ◌++◌, length, map, drop, get_or, Bool, true, false, ◌||◌, refl, sym, ap, ◌∙◌, add-one, append_assoc, drop-cons}
-use Rattle.std.proofs.lemmas.List.{append-nil, drop_all, map-append}
+use Rattle.std.proofs.Common.{◌≡◌, Option, Some, None, ℕ, List, ◌++◌, Bool, true, false, ◌||◌, refl, ap, ◌∙◌}
 use Rattle.std.specs.declared.cmp.Ordering.{Ordering}
 use Rattle.std.specs.declared.cmp.Ordering.TheVariants.{Less, Equal, Greater}
 use Rattle.std.specs.Ordering.{match_ordering, nat_cmp}
 use Rattle.std.specs.Cmp.Lexicographic.{slice_cmp}
 use Rattle.serde_json.specs.Data.{Data, Members, member, no_members, put}
-use Rattle.serde_json.specs.Written.{has_float, items_have_float, members_have_float}
-use Rattle.serde_json.specs.View.{items_of}
-use Rattle.farm_wire.specs.Members.{Named, put_all, with_member}
-
--- putting members in goes on from what was put before
-pub put_all_append : (ms : Members) (a b : List Named) → put_all ms (a ++ b) ≡ put_all (put_all ms a) b
-put_all_append ms [] b = refl
-put_all_append ms (m ∷ a) b = put_all_append (with_member m.0 m.1 ms) a b
+use Rattle.serde_json.specs.Written.{has_float, members_have_float}
+use Rattle.farm_wire.specs.Members.{with_member}
 
 neither : (x y : Bool) → (x || y) ≡ false → (x ≡ false) × (y ≡ false)
 neither true y h = cc
@@ -39,32 +32,6 @@ members_have_float-put k d (member l e ms) plain before =
     (none_of (has_float d) _ plain before)
     (none_of (has_float d) _ plain parts.1)
     (none_of (has_float e) _ parts.0 (members_have_float-put k d ms plain parts.1))
-
--- an item that has no float brings none
-pub items_have_float_push : (ds : List Data) (d : Data) → items_have_float (items_of ds) ≡ false → has_float d ≡ false
-    → items_have_float (items_of (ds ++ d ∷ [])) ≡ false
-items_have_float_push [] d before plain = none_of (has_float d) false plain refl
-items_have_float_push (e ∷ ds) d before plain =
-    let parts : (has_float e ≡ false) × (items_have_float (items_of ds) ≡ false) = neither _ _ before in
-    none_of (has_float e) _ parts.0 (items_have_float_push ds d parts.1 plain)
-
--- Lists that are made item by item, of what stands before and what is left.
-
-pub moved_on : {V X Y : Type 0} (f : V → Y) (g : X → Y) (done : List V) (v : V) (xs : List X) (i : ℕ) (d : X) →
-    i < length xs
-    → f v ≡ g (get_or xs i d) → map f done ++ map g (drop i xs) ≡ map g xs
-    → map f (done ++ v ∷ []) ++ map g (drop (i + 1) xs) ≡ map g xs
-moved_on f g done v xs i d within same before =
-    let cons : drop i xs ≡ get_or xs i d ∷ drop (i + 1) xs = rw (add-one, drop-cons xs i d) refl in
-    let mapped : map f (done ++ v ∷ []) ≡ map f done ++ (f v ∷ []) = map-append f done (v ∷ []) in
-    let left : map g (drop i xs) ≡ g (get_or xs i d) ∷ map g (drop (i + 1) xs) = ap (map g) cons in
-    rw (mapped, append_assoc, same, ← left) before
-
-pub all_moved : {V X Y : Type 0} (f : V → Y) (g : X → Y) (done : List V) (xs : List X) (i : ℕ) → length xs ≤ i
-    → map f done ++ map g (drop i xs) ≡ map g xs → map f done ≡ map g xs
-all_moved f g done xs i ended before =
-    let none : drop i xs ≡ [] = drop_all i xs ended in
-    sym (append-nil (map f done)) ∙ ap (λ rest. map f done ++ map g rest) (sym none) ∙ before
 
 -- what a member is put among, in its place
 pub onto : (k : List ℕ) (d : Data) {made old known : Members} → made ≡ with_member k d old → old ≡ known

@@ -4,6 +4,7 @@ pub mod Forms
 pub mod Made
 pub mod Members
 pub mod Object
+pub mod Pieces
 pub mod Reading
 pub mod Refusals
 pub mod Replies

@@ -58,7 +58,7 @@ refusal_data refusal.NoRevert = refused_as (codes "NoRevert") []
 refusal_data (refusal.DailyLimit day count) =
     refused_as (codes "DailyLimit") ((codes "day", whole day) ∷ (codes "count", whole count) ∷ [])
 
--- the faults of a line or of a body. Want of memory is none of theirs, and has no text here
+-- the faults of a line or of a body. Running out of memory is none of theirs, and has no text here
 unfoldable pub fault_data : WireFault → Data
 fault_data TooLong = refused_as (codes "TooLong") []
 fault_data BadJson = refused_as (codes "BadJson") []

@@ -114,7 +114,7 @@ pub(crate) fn miss_in(object: &Value) -> Result<(u32, u32), WireFault>
     }
 }
 
-/// A name. Want of memory is answered only where the member is one.
+/// A name. Running out of memory is answered only where the member is one.
 #[tactic(auto, unfolding(crate::specs::Reading::field_in))]
 pub(crate) fn name_in(alloc: Global, object: &Value, field: Field) -> Result<Name, WireFault>
     ensures read { IfOk result (λ name. field_in field form.name (view object.now) ≡ Ok name) }

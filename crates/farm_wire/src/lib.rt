@@ -1,11 +1,17 @@
 //! The farm's commands as they are sent, and its answers as they are sent back, in JSON: script lines and the bodies of
 //! requests are read as commands, and replies, refusals and faults are written as texts.
 //!
+//! No text says that memory ran out: that is an answer of the call. A line longer than [`MAX_COMMAND_BYTES`] is refused
+//! as too long by its length alone.
+//!
 //! The crate stands on `farm_entry` for commands, replies and refusals, on `farm_types`, `suspect_range`, `flake_rate`
 //! and `weight_exact` for the values in them, on `http_words` for routes, on `revert_orders` and `jiff` for dates, on
-//! `serde_json` for JSON, on `uuid` for keys, on `hex` for ids, and on `thiserror` for the texts of its faults. The layers above may use every
-//! name below. What a text says is defined by `line_reading` and `body_reading` of `specs/`, over the value that
-//! `serde_json` reads; what is written is `serde_json`'s text of `reply_data`, `refusal_data` and `fault_data`.
+//! `serde_json` and `json` for JSON, on `itoa` for digits, on `uuid` for keys, on `hex` for ids, and on `thiserror` for
+//! the texts of its faults. The layers above may use every name below. What a text says is defined by `line_reading`
+//! and `body_reading` of `specs/`, over the value that `serde_json` reads; what is written is `serde_json`'s text of
+//! `reply_data`, `refusal_data` and `fault_data`. Replies are written member by member into one text (`JsonText`), as
+//! `serde_json` writes their values; log pages and refusals, which are rare or long, go through a map of members
+//! (`JsonObject`).
 #![tactic(auto)]
 
 mod command;
@@ -17,10 +23,12 @@ mod forms;
 pub mod laws;
 mod limits;
 mod object;
+mod orders;
 mod page;
 mod refusal;
 mod reply;
 mod standing;
+mod text;
 mod texts;
 mod verb;
 

@@ -6,7 +6,7 @@ ghost use Rattle.serde_json.specs.Written.{members_have_float};
 
 use crate::standing::{culprit_in, standing_word};
 use farm_entry::Standing;
-use farm_types::{CommitId, Memory};
+use farm_types::Memory;
 use serde_json::{Map, Value};
 use std::alloc::Global;
 
@@ -25,7 +25,7 @@ impl JsonObject {
     ghost use Rattle.serde_json.specs.View.{view};
     ghost use Rattle.serde_json.specs.Written.{compact_text, has_float};
     ghost use Rattle.hex.specs.Hex.{encode_lower};
-    ghost use Rattle.farm_wire.specs.Members.{commit_value, put_all, standing_members, whole, with_member};
+    ghost use Rattle.farm_wire.specs.Members.{put_all, standing_members, whole, with_member};
     ghost use Rattle.farm_wire.specs.Object.{members_in};
 
     /// The object with no member.
@@ -61,14 +61,6 @@ impl JsonObject {
     {
         let value = Value::try_from_str(self.alloc, text)?;
         self.with(name, value)
-    }
-
-    /// With the id of a commit as a member.
-    pub(crate) fn with_commit(self, name: &str, commit: &CommitId) -> Result<JsonObject, Memory>
-        ensures { IfOk result (λ made. members_in made
-            ≡ with_member name.now (commit_value commit.now) (members_in self)) }
-    {
-        self.with_bytes(name, &commit.bytes())
     }
 
     /// With bytes as a member, in hexadecimal digits with letters in lower case.

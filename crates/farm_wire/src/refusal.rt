@@ -23,7 +23,7 @@ pub fn refusal_text(alloc: Global, refusal: &Refusal) -> Result<String, Memory>
     refusal_object(alloc, refusal)?.into_text()
 }
 
-/// The text of a fault of a line or of a body, in the form of a refusal. Want of memory is none of theirs.
+/// The text of a fault of a line or of a body, in the form of a refusal. Running out of memory is none of theirs.
 #[tactic(auto, unfolding(crate::specs::Refusals::fault_data))]
 pub fn fault_text(alloc: Global, fault: &WireFault) -> Result<String, Memory>
     requires { fault.now ≢ WireFault.Memory }

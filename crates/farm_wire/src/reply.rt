@@ -2,14 +2,16 @@
 
 ghost use Rattle.std.specs.Prelude.{◌≡◌, ◌≤◌, IfOk, codes, string_bytes};
 ghost use Rattle.farm_types.specs.declared.moment.TheConstants.{LAST_DAY};
-ghost use Rattle.serde_json.specs.Data.{object};
 ghost use Rattle.serde_json.specs.Written.{compact_text};
-ghost use Rattle.farm_wire.specs.Object.{members_in};
+ghost use Rattle.farm_wire.specs.Members.{culprit_in};
+ghost use Rattle.farm_wire.specs.Pieces.{fate_name};
 ghost use Rattle.farm_wire.specs.Replies.{HasDates, fate_word, log_data, reply_data, stage_word, totals_data, verdict_word};
 
 use crate::date::day_text;
-use crate::object::JsonObject;
-use crate::page::{log_object, orders_object, page_object, totals_object};
+use crate::orders::orders_text;
+use crate::page::{log_object, page_text, totals_reply};
+use crate::standing::{culprit_in, standing_word};
+use crate::text::JsonText;
 use farm_entry::{DueRun, Fate, Reply, Standing, Totals};
 use farm_types::{CommitId, Memory, Name, Stage};
 use std::alloc::Global;
@@ -19,27 +21,6 @@ use weight_exact::Verdict;
 pub fn reply_text(alloc: Global, reply: &Reply) -> Result<String, Memory>
     requires { HasDates reply.now }
     ensures { IfOk result (λ text. string_bytes text ≡ compact_text (reply_data reply.now)) }
-{
-    reply_object(alloc, reply)?.into_text()
-}
-
-/// The text of the totals that were posted last, as an answer of their own.
-pub fn totals_text(alloc: Global, totals: &Totals) -> Result<String, Memory>
-    ensures { IfOk result (λ text. string_bytes text ≡ compact_text (totals_data (codes "totals") totals.now)) }
-{
-    totals_object(alloc, "totals", totals)?.into_text()
-}
-
-/// The text of a log page: the bytes of the history's entries from this one on, counted from 1, in hexadecimal digits.
-pub fn log_text(alloc: Global, from: u32, bytes: &[u8]) -> Result<String, Memory>
-    ensures { IfOk result (λ text. string_bytes text ≡ compact_text (log_data from bytes.now)) }
-{
-    log_object(alloc, from, bytes)?.into_text()
-}
-
-fn reply_object(alloc: Global, reply: &Reply) -> Result<JsonObject, Memory>
-    requires { HasDates reply.now }
-    ensures { IfOk result (λ made. object (members_in made) ≡ reply_data reply.now) }
 {
     match reply {
         Reply::Opened {
@@ -77,24 +58,41 @@ fn reply_object(alloc: Global, reply: &Reply) -> Result<JsonObject, Memory>
             search,
             day,
         } => ordered(alloc, *order, commit, *search, *day),
-        Reply::Search(page) => page_object(alloc, page),
-        Reply::Farm(totals) => totals_object(alloc, "farm", totals),
-        Reply::Orders(page) => orders_object(alloc, page),
+        Reply::Search(page) => page_text(alloc, page),
+        Reply::Farm(totals) => totals_reply(alloc, "farm", totals),
+        Reply::Orders(page) => orders_text(alloc, page),
     }
 }
 
-#[tactic(auto, unfolding(crate::specs::Replies::reply_data))]
-fn opened(alloc: Global, search: u32, budget: u32, standing: Standing) -> Result<JsonObject, Memory>
-    ensures { IfOk result (λ made. object (members_in made) ≡ reply_data (Reply.Opened search budget standing)) }
+/// The text of the totals that were posted last, as an answer of their own.
+pub fn totals_text(alloc: Global, totals: &Totals) -> Result<String, Memory>
+    ensures { IfOk result (λ text. string_bytes text ≡ compact_text (totals_data (codes "totals") totals.now)) }
 {
-    JsonObject::new(alloc)
-        .with_text("reply", "open")?
-        .with_number("search", search as u64)?
-        .with_number("budget", budget as u64)?
-        .with_standing(standing)
+    totals_reply(alloc, "totals", totals)
 }
 
-#[tactic(auto, unfolding(crate::specs::Replies::reply_data))]
+/// The text of a log page: the bytes of the history's entries from this one on, counted from 1, in hexadecimal digits.
+pub fn log_text(alloc: Global, from: u32, bytes: &[u8]) -> Result<String, Memory>
+    ensures { IfOk result (λ text. string_bytes text ≡ compact_text (log_data from bytes.now)) }
+{
+    log_object(alloc, from, bytes)?.into_text()
+}
+
+/// The text of a search that was opened.
+fn opened(alloc: Global, search: u32, budget: u32, standing: Standing) -> Result<String, Memory>
+    ensures { IfOk result (λ text. string_bytes text
+        ≡ compact_text (reply_data (Reply.Opened search budget standing))) }
+{
+    let mut out = JsonText::new(alloc)?;
+    out.put_number("{\"budget\":", budget as u64)?;
+    out.put_culprit(",\"culprit\":", standing)?;
+    out.put_number(",\"reply\":\"open\",\"search\":", search as u64)?;
+    out.put_text(",\"standing\":", standing_word(standing))?;
+    out.put("}")?;
+    Ok(out.into_text())
+}
+
+/// The text of a run that was leased.
 fn leased(
     alloc: Global,
     run: u32,
@@ -102,22 +100,23 @@ fn leased(
     commit: &CommitId,
     test: &Name,
     deadline: u64,
-) -> Result<JsonObject, Memory>
-    ensures { IfOk result (λ made. object (members_in made)
-        ≡ reply_data (Reply.Leased run due.search due.stage due.position commit.now test.now deadline)) }
+) -> Result<String, Memory>
+    ensures { IfOk result (λ text. string_bytes text
+        ≡ compact_text (reply_data (Reply.Leased run due.search due.stage due.position commit.now test.now deadline))) }
 {
-    JsonObject::new(alloc)
-        .with_text("reply", "lease")?
-        .with_number("run", run as u64)?
-        .with_number("search", due.search as u64)?
-        .with_text("stage", stage_word(due.stage))?
-        .with_number("position", due.position as u64)?
-        .with_commit("commit", commit)?
-        .with_text("test", test.text())?
-        .with_number("deadline", deadline)
+    let mut out = JsonText::new(alloc)?;
+    out.put_commit("{\"commit\":", commit)?;
+    out.put_number(",\"deadline\":", deadline)?;
+    out.put_number(",\"position\":", due.position as u64)?;
+    out.put_number(",\"reply\":\"lease\",\"run\":", run as u64)?;
+    out.put_number(",\"search\":", due.search as u64)?;
+    out.put_text(",\"stage\":", stage_word(due.stage))?;
+    out.put_text(",\"test\":", test.text())?;
+    out.put("}")?;
+    Ok(out.into_text())
 }
 
-#[tactic(auto, unfolding(crate::specs::Replies::reply_data))]
+/// The text of a run that was reported.
 fn reported(
     alloc: Global,
     run: u32,
@@ -125,49 +124,62 @@ fn reported(
     verdict: Verdict,
     fate: Fate,
     standing: Standing,
-) -> Result<JsonObject, Memory>
-    ensures { IfOk result (λ made. object (members_in made)
-        ≡ reply_data (Reply.Reported run search verdict fate standing)) }
+) -> Result<String, Memory>
+    ensures { IfOk result (λ text. string_bytes text
+        ≡ compact_text (reply_data (Reply.Reported run search verdict fate standing))) }
 {
-    JsonObject::new(alloc)
-        .with_text("reply", "report")?
-        .with_number("run", run as u64)?
-        .with_number("search", search as u64)?
-        .with_text("verdict", verdict_word(verdict))?
-        .with_text("fate", fate_word(fate))?
-        .with_standing(standing)
+    let mut out = JsonText::new(alloc)?;
+    out.put_culprit("{\"culprit\":", standing)?;
+    out.put_text(fate_name(standing), fate_word(fate))?;
+    out.put_number(",\"reply\":\"report\",\"run\":", run as u64)?;
+    out.put_number(",\"search\":", search as u64)?;
+    out.put_text(",\"standing\":", standing_word(standing))?;
+    out.put_text(",\"verdict\":", verdict_word(verdict))?;
+    out.put("}")?;
+    Ok(out.into_text())
 }
 
-#[tactic(auto, unfolding(crate::specs::Replies::reply_data))]
-fn cancelled(alloc: Global, search: u32) -> Result<JsonObject, Memory>
-    ensures { IfOk result (λ made. object (members_in made) ≡ reply_data (Reply.Cancelled search)) }
+/// What stands before what became of a run: the object's beginning, where its standing names no culprit.
+fn fate_name(standing: Standing) -> &'static str
+    ensures { result.now ≡ fate_name (culprit_in standing) }
 {
-    JsonObject::new(alloc)
-        .with_text("reply", "cancel")?
-        .with_number("search", search as u64)?
-        .with_standing(Standing::Cancelled)
+    match culprit_in(standing) {
+        Some(_) => ",\"fate\":",
+        None => "{\"fate\":",
+    }
 }
 
-#[tactic(auto, unfolding(crate::specs::Replies::reply_data))]
+/// The text of a search that was cancelled.
+fn cancelled(alloc: Global, search: u32) -> Result<String, Memory>
+    ensures { IfOk result (λ text. string_bytes text ≡ compact_text (reply_data (Reply.Cancelled search))) }
+{
+    let mut out = JsonText::new(alloc)?;
+    out.put_number("{\"reply\":\"cancel\",\"search\":", search as u64)?;
+    out.put(",\"standing\":\"cancelled\"}")?;
+    Ok(out.into_text())
+}
+
+/// The text of an order to revert a commit.
 fn ordered(
     alloc: Global,
     order: u32,
     commit: &CommitId,
     search: u32,
     day: u32,
-) -> Result<JsonObject, Memory>
+) -> Result<String, Memory>
     requires { day ≤ LAST_DAY }
-    ensures { IfOk result (λ made. object (members_in made)
-        ≡ reply_data (Reply.Ordered order commit.now search day)) }
+    ensures { IfOk result (λ text. string_bytes text
+        ≡ compact_text (reply_data (Reply.Ordered order commit.now search day))) }
 {
     let date = day_text(alloc, day)?;
-    JsonObject::new(alloc)
-        .with_text("reply", "revert")?
-        .with_number("order", order as u64)?
-        .with_commit("commit", commit)?
-        .with_number("search", search as u64)?
-        .with_number("day", day as u64)?
-        .with_text("date", date.as_str())
+    let mut out = JsonText::new(alloc)?;
+    out.put_commit("{\"commit\":", commit)?;
+    out.put_text(",\"date\":", date.as_str())?;
+    out.put_number(",\"day\":", day as u64)?;
+    out.put_number(",\"order\":", order as u64)?;
+    out.put_number(",\"reply\":\"revert\",\"search\":", search as u64)?;
+    out.put("}")?;
+    Ok(out.into_text())
 }
 
 fn stage_word(stage: Stage) -> &'static str

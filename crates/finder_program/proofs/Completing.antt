@@ -68,7 +68,7 @@ found-completes settings at status before after old new ends cause calm steady t
     (text-completes founded_text status before after founded.text calm))
     ends
 
--- where the disk doesn't fail, a journal that holds a history is opened, but for want of memory
+-- where the disk doesn't fail, a journal that holds a history is opened, unless memory runs out
 not_opened-completes : (fault : OpeningFault) (status : Status) (old new : DiskSeen) (history : List Entry)
     → status ≡ status_of_opening fault → IsMissedBy old.told.bytes fault → HasStoreCause status old new
     → ¬ Rose old.faults new.faults → StandsFor history old.told.bytes → status ≡ Memory
@@ -98,7 +98,7 @@ ended-as status end as_end before after first last pending stands said ends =
     subst (λ (e : RunEnd). RunEnds farm_rule e (over_journal before first []) (over_journal after last pending))
     (same_Some end as_end (sym stands ∙ said)) ends
 
--- where nothing fails, a script is run to its end or to the limit, but for want of memory
+-- where nothing fails, a script is run to its end or to the limit, unless memory runs out
 ran-completes : (status : Status) (end : RunEnd) (before after : Streams) (old new : DiskSeen) (first last pending : List Entry)
     → journal_end status ≡ Some end → RunEnds farm_rule end (over_journal before first []) (over_journal after last pending)
     → HasStoreCause status old new → ¬ Rose before.read_faults after.read_faults

@@ -21,7 +21,7 @@ use Rattle.journal_follow.specs.declared.following.Followed.{Followed}
 use Rattle.list_prefix.specs.Prefix.{IsPrefix}
 use Rattle.list_prefix.proofs.Prefixes.{IsPrefix-append, IsPrefix-refl, IsPrefix-trans}
 use Rattle.finder_program.proofs.Completing.{no-store_fault, text-completes}
-use Rattle.finder_program.proofs.JournalRuns.{any_moment-opened, since_sync-opened}
+use Rattle.farm_serve.proofs.Openings.{any_moment-opened, since_sync-opened}
 use Rattle.finder_program.proofs.Unread.{unread-not_opened}
 use Rattle.finder_program.specs.Disks.{HasStoreCause}
 use Rattle.finder_program.specs.FollowCommand.{EndsBy, FollowCompletes, FollowEnds, JournalFollowed, LeaderFollowed, SaysFollow, follow_line}
@@ -91,7 +91,7 @@ born-status (opening.Damaged o) status born is same = cc
 born-status (opening.StoreFault before after) status born is same = cc
 born-status opening.Memory status born is same = cc
 
--- where memory was wanting to read the words
+-- where memory ran out to read the words
 pub unread-follow : (rounds : ℕ) (seen : Outside) → FollowEnds rounds Memory seen seen
 unread-follow rounds seen =
     inl (λ is. memory-not is, unread-not_opened {V = NetworkSeen × OutputSeen} (seen.network, seen.output) seen.disk)

@@ -53,7 +53,7 @@ unjudged before after bytes (judge.BadInput line) read bad same = (
 )
 unjudged before after bytes judge.Memory read bad same = λ all told. (0, same ∙ sym (append_known-nil before.written))
 
--- where nothing fails, they have none only for want of memory or at a bad line
+-- where nothing fails, they have none only for running out of memory or at a bad line
 pub unjudged_completes : (before after : Streams) (bytes : List ℕ) (fault : JudgeFault) → WasRead before.left after.left bytes →
     ((line : ℕ) → fault ≡ judge.BadInput line → judged bytes ≡ Err line) →
     JudgeCompletes (status_of_judge fault) before after

@@ -33,7 +33,7 @@ by_ending ending status is (inl done) = inr (is ∙ ap status_of_ending done)
 by_ending ending status is (inr (inl memory)) = inl (is ∙ ap status_of_ending memory)
 by_ending ending status is (inr (inr missed)) = inl (is ∙ ap status_of_ending missed)
 
--- where nothing fails, a journal that holds a history is served, but for want of memory
+-- where nothing fails, a journal that holds a history is served, unless memory runs out
 pub serve-completes : (ending : Ending) (status : Status) (old new : Outside) → status ≡ status_of_ending ending
     → ServeCompletes ending old new → JournalServeCompletes status old new
 serve-completes ending status old new is completes net out disk tell history stands =

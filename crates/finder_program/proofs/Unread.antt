@@ -1,4 +1,4 @@
--- What each command's answers say where memory was wanting to read the words.
+-- What each command's answers say where memory ran out to read the words.
 use Rattle.std.proofs.Common.{◌≡◌, refl, sym, ℕ}
 use Rattle.farm_types.specs.declared.moment.Moment.{Moment}
 use Rattle.farm_disk.specs.Images.{DiskState}

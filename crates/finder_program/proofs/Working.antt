@@ -39,7 +39,7 @@ put-not_runner text status before after put e =
     let at : TextPut text RunnerFault before after = subst (λ (s : Status). TextPut text s before after) e put in
     at
 
--- where memory was wanting to read the words, nothing was done
+-- where memory ran out to read the words, nothing was done
 pub unread-work : (worker : List ℕ) (runs : ℕ) (seen : OutsideSeen) (written : OutputSeen) →
     WorkEnds worker runs Memory seen seen written written
 unread-work worker runs seen written = record {

@@ -16,7 +16,7 @@ pub record DrillPut (searches : ℕ) (status : Status) (before after : OutputSee
   pub drilled : IsDrilled searches history
   pub text : TextPut (drill_line history) status before after
 
--- what a status says: memory was wanting before anything was put, or the line was put as the status says
+-- what a status says: memory ran out before anything was put, or the line was put as the status says
 abbrev pub DrillEnds : (searches : ℕ) → Status → OutputSeen → OutputSeen → Type 0
 DrillEnds searches status before after = IsUnread status before after ⊎ DrillPut searches status before after
 

@@ -1,4 +1,4 @@
--- What is done where memory is wanting to read the words: nothing.
+-- What is done where memory runs out to read the words: nothing.
 use Rattle.std.specs.Prelude.{◌≡◌}
 use Rattle.finder_program.specs.declared.status.Status.{Status}
 use Rattle.finder_program.specs.declared.status.Status.TheVariants.{Memory}

@@ -90,7 +90,7 @@ pub fn finder<
 ) -> (Status, D, N)
 where
     N::End: Send,
-    // Usage is answered just where the words ask for nothing, unless memory is wanting to read them. Nothing is read or
+    // Usage is answered just where the words ask for nothing, unless memory runs out to read them. Nothing is read or
     // written then.
     ensures usage { result.0 ≡ Status.Usage → asked (map string_bytes words.now) ≡ None }
     ensures refused { asked (map string_bytes words.now) ≡ None

@@ -6,7 +6,7 @@ ghost use Rattle.link_io.specs.Intake.{no_intake};
 use link_io::{Put, Sink};
 use std::alloc::Global;
 
-/// At which put an output stops, counted from 1, where 0 is none; and whether it wants memory there, or fails.
+/// At which put an output stops, counted from 1, where 0 is none; and whether it runs out of memory there, or fails.
 #[derive(Clone, Copy)]
 pub(crate) struct Stop {
     pub(crate) at: u64,

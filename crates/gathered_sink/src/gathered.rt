@@ -12,7 +12,7 @@ use std::marker::Model;
 pub const GATHERED_BYTES: usize = 8_192;
 
 /// A sink in memory that holds what is put to it, until it goes on to another one. It has room for [`GATHERED_BYTES`], and
-/// never fails: where there is no room for a piece, it answers that memory is wanting.
+/// never fails: where there is no room for a piece, it answers that memory runs out.
 ///
 /// Contracts see it as the bytes that it holds.
 #[derive(Drop)]

@@ -28,7 +28,7 @@ fault_text (fault.BadField name) = bad_field_text name
 unfoldable pub store_fault_text : List ℕ
 store_fault_text = codes "{\"refused\":\"StoreFault\"}"
 
--- the body of an answer for which memory was wanting
+-- the body of an answer for which memory ran out
 unfoldable pub memory_text : List ℕ
 memory_text = codes "{\"refused\":\"Memory\"}"
 

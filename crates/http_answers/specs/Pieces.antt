@@ -1,5 +1,5 @@
 -- Texts one after the other.
-use Rattle.std.specs.Prelude.{ℕ, List, [], ◌∷◌}
+use Rattle.std.specs.Prelude.{ℕ, List, [], ◌∷◌, ◌++◌}
 use Rattle.std.specs.List.{flat_map}
 use Rattle.std.specs.Borrow.{Bor}
 use Rattle.httparse.specs.Ascii.{crlf_bytes}
@@ -13,3 +13,12 @@ joined pieces = flat_map (λ piece. piece.now) pieces
 unfoldable pub parts_joined : List ℕ → List ℕ → List ℕ → List ℕ → List ℕ → List ℕ
 parts_joined status size allow close body =
     flat_map (λ part. part) (status ∷ content_type ∷ length_name ∷ size ∷ crlf_bytes ∷ allow ∷ close ∷ crlf_bytes ∷ body ∷ [])
+
+-- what stands behind the digits of the body's length, up to the body
+abbrev pub ending_of : (allow close : List ℕ) → List ℕ
+ending_of allow close = crlf_bytes ++ (allow ++ (close ++ crlf_bytes))
+
+-- the same answer by fewer parts
+unfoldable pub by_parts : List ℕ → List ℕ → List ℕ → List ℕ → List ℕ
+by_parts status size ending body =
+    flat_map (λ part. part) (status ∷ (content_type ++ length_name) ∷ size ∷ ending ∷ body ∷ [])

@@ -2,9 +2,9 @@
 ghost use Rattle.std.specs.Prelude.{◌≡◌, ◌<◌, ◌≤◌, ℕ, OnOk, OnErr, IsErrOf, length, take};
 ghost use Rattle.std.specs.Io.KnownBytes.{append_known};
 ghost use Rattle.fault_types.specs.Counts.{Rose};
-ghost use Rattle.http_answers.specs.Answers.{allow_line, answer_bytes, body_put, close_line, interim_bytes};
+ghost use Rattle.http_answers.specs.Answers.{answer_bytes, body_put, interim_bytes};
 
-use crate::lines::{closing_line, interim, methods_line};
+use crate::lines::{ending, interim};
 use crate::pieces::put_parts;
 use crate::status::status_line;
 use http_words::{Allow, StatusCode};
@@ -23,23 +23,6 @@ pub struct Answer<'b> {
     pub withheld: bool,
     /// Its body in JSON.
     pub body: &'b [u8],
-}
-
-/// The line that names the methods allowed, if there is one.
-fn allow_line(allow: Option<Allow>) -> &'static [u8]
-    ensures { result.now ≡ allow_line allow }
-{
-    match allow {
-        None => b"",
-        Some(allow) => methods_line(allow),
-    }
-}
-
-/// The line that says that the connection closes, where it does.
-fn close_line(closes: bool) -> &'static [u8]
-    ensures { result.now ≡ close_line closes }
-{
-    if closes { closing_line() } else { b"" }
 }
 
 /// The body that is put.
@@ -63,17 +46,9 @@ pub fn put_answer<K: Sink>(output: &mut K, answer: &Answer) -> Result<(), PutFau
 {
     let mut digits = Buffer::new();
     let length = digits.format(answer.body.len()).as_bytes();
-    let allow = allow_line(answer.allow);
-    let close = close_line(answer.closes);
+    let ending = ending(answer.allow, answer.closes);
     let body = body_put(answer.withheld, answer.body);
-    put_parts(
-        output,
-        status_line(answer.status),
-        length,
-        allow,
-        close,
-        body,
-    )
+    put_parts(output, status_line(answer.status), length, ending, body)
 }
 
 /// Puts the interim answer, which says that the body may be sent.

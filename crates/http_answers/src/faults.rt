@@ -12,7 +12,7 @@ pub fn store_fault_text() -> &'static [u8]
     br#"{"refused":"StoreFault"}"#
 }
 
-/// The body of an answer for which memory was wanting.
+/// The body of an answer for which memory ran out.
 pub fn memory_text() -> &'static [u8]
     ensures { result.now ≡ memory_text }
 {

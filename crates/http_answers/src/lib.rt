@@ -2,9 +2,11 @@
 //! bodies of the faults of requests. An answer is put to a sink piece by piece, from texts that stand in
 //! the program and digits on the stack, so it takes no memory of its own.
 //!
-//! The crate stands on `http_words` for statuses, faults and methods, on `link_io` for sinks, and on `itoa` for digits. The
-//! layers above may use every name below. Which bytes an answer has is defined by `answer_bytes` and `interim_bytes` of
-//! `specs/Answers`.
+//! Where a put fails, what went out is a prefix of the answer's bytes.
+//!
+//! The crate stands on `http_words` for statuses, faults and methods, on `link_io` for sinks, and on `itoa` for digits.
+//! The layers above may use every name below. Which bytes an answer has is defined by `answer_bytes` and
+//! `interim_bytes` of `specs/Answers`.
 #![tactic(auto)]
 
 mod answer;

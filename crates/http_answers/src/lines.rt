@@ -1,47 +1,55 @@
-//! The lines that are the same in every answer that has them.
-ghost use Rattle.std.specs.Prelude.{◌≡◌};
-ghost use Rattle.httparse.specs.Ascii.{crlf_bytes};
-ghost use Rattle.http_answers.specs.Answers.{closing_line, interim_bytes, methods_line};
+//! The lines of answers behind the status line.
+ghost use Rattle.std.specs.Prelude.{◌≡◌, ◌++◌};
+ghost use Rattle.http_answers.specs.Answers.{allow_line, close_line, interim_bytes, methods_line};
 ghost use Rattle.http_answers.specs.Lines.{content_type, length_name};
+ghost use Rattle.http_answers.specs.Pieces.{ending_of};
 
 use http_words::Allow;
 
-/// What kind of content a body is.
-pub(crate) fn content_type<'p>() -> &'p [u8]
-    ensures { result.now ≡ content_type }
+/// What stands between the status line and the number of the body's length.
+pub(crate) fn middle<'p>() -> &'p [u8]
+    ensures { result.now ≡ content_type ++ length_name }
 {
-    b"Content-Type: application/json\r\n"
+    b"Content-Type: application/json\r\nContent-Length: "
 }
 
-/// The line of the body's length, up to the number.
-pub(crate) fn length_name<'p>() -> &'p [u8]
-    ensures { result.now ≡ length_name }
-{
-    b"Content-Length: "
-}
-
-/// The end of a line.
-pub(crate) fn line_end<'p>() -> &'p [u8]
-    ensures { result.now ≡ crlf_bytes }
-{
-    b"\r\n"
-}
-
-/// The line that names these methods.
-pub(crate) fn methods_line(allow: Allow) -> &'static [u8]
-    ensures { result.now ≡ methods_line allow }
+/// What stands between that number and the body: the end of its line, the methods that are named, that the connection
+/// closes, and the empty line.
+pub(crate) fn ending(allow: Option<Allow>, closes: bool) -> &'static [u8]
+    ensures { result.now ≡ ending_of (allow_line allow) (close_line closes) }
 {
     match allow {
-        Allow::Post => b"Allow: POST\r\n",
-        Allow::GetAndHead => b"Allow: GET, HEAD\r\n",
+        None => {
+            if closes {
+                b"\r\nConnection: close\r\n\r\n"
+            } else {
+                b"\r\n\r\n"
+            }
+        }
+        Some(methods) => naming_end(methods, closes),
     }
 }
 
-/// The line that says that the connection closes.
-pub(crate) fn closing_line() -> &'static [u8]
-    ensures { result.now ≡ closing_line }
+/// The same, where methods are named.
+fn naming_end(methods: Allow, closes: bool) -> &'static [u8]
+    ensures { result.now ≡ ending_of (methods_line methods) (close_line closes) }
 {
-    b"Connection: close\r\n"
+    match methods {
+        Allow::Post => {
+            if closes {
+                b"\r\nAllow: POST\r\nConnection: close\r\n\r\n"
+            } else {
+                b"\r\nAllow: POST\r\n\r\n"
+            }
+        }
+        Allow::GetAndHead => {
+            if closes {
+                b"\r\nAllow: GET, HEAD\r\nConnection: close\r\n\r\n"
+            } else {
+                b"\r\nAllow: GET, HEAD\r\n\r\n"
+            }
+        }
+    }
 }
 
 /// The interim answer.

@@ -5,8 +5,9 @@
 //! whole response came of is told apart by whether the connection failed or the other end is to blame (`specs/Responses`,
 //! `specs/Exchanges`). Where the network tells, a contract names each exchange by what it tells.
 //!
-//! The crate stands on `http_responses` for what a response is, on `net_io` and `link_io` for connections, on `fault_types`
-//! for want of memory and counts, and on `item_list` for a body as a list. The layers above may use every name below.
+//! The crate stands on `http_responses` for what a response is, on `net_io` and `link_io` for connections, on
+//! `fault_types` for running out of memory and counts, and on `item_list` for a body as a list. The layers above may
+//! use every name below.
 #![tactic(auto)]
 
 mod connection;

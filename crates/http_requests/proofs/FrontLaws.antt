@@ -1,9 +1,9 @@
 -- Items at the front of a connection's bytes.
-use Rattle.std.proofs.Common.{ℕ, ◌≡◌, ◌+◌, ◌-◌, ◌<◌, ◌≤◌, inl, inr, Bool, true, false, List, [], ◌∷◌, ◌++◌, length, drop, refl, sym, ap, ◌∙◌, subst, length-append, length-drop, arith}
+use Rattle.std.proofs.Common.{ℕ, ◌≡◌, ◌+◌, ◌≤◌, inl, inr, true, false, List, [], ◌∷◌, ◌++◌, length, drop, refl, sym, ap, ◌∙◌, subst, length-append, length-drop, arith}
 use Rattle.std.proofs.lemmas.Bool.{false≢true}
 use Rattle.std.proofs.lemmas.List.{drop-append-le}
 use Rattle.http_requests.specs.Fronts.{Fronts, Opens, behind}
-use Rattle.http_requests.specs.Items.{Item, Items, IsNext, End, ended, closed}
+use Rattle.http_requests.specs.Items.{Item, Items, IsNext, End, closed}
 use Rattle.http_requests.proofs.ItemLaws.{idle-alone, next-unique, open-append, open-some}
 
 none_before : (first others : List Item) → first ++ others ≡ [] → first ≡ []

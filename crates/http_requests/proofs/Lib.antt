@@ -1,3 +1,4 @@
+pub mod Counts
 pub mod FrontLaws
 pub mod Heads
 pub mod Inputs
@@ -6,3 +7,4 @@ pub mod Parts
 pub mod Places
 pub mod Read
 pub mod Says
+pub mod Strides

@@ -6,7 +6,7 @@ use Rattle.std.proofs.lemmas.Bool.{false≢true, cases_Bool, cases_lt, cond-true
 use Rattle.std.proofs.lemmas.List.{take-append-le, take-append-drop, take_more}
 use Rattle.std.proofs.lemmas.List.Elements.{All-head, All-tail}
 use Rattle.httparse.specs.Ascii.{carriage_return, line_feed}
-use Rattle.httparse.specs.Grammar.{LineEnd, crlf, lf, print_end, print_blank, print_version, Field, IsField, print_field, print_section, is_token_byte, is_uri_byte, is_value_byte, AllPass, RequestHead, IsRequestHead, ReadsRequest, print_request}
+use Rattle.httparse.specs.Grammar.{LineEnd, crlf, lf, print_end, print_blank, print_version, Field, IsField, print_field, is_token_byte, is_uri_byte, is_value_byte, AllPass, RequestHead, IsRequestHead, ReadsRequest, print_request}
 use Rattle.httparse.proofs.GrammarLemmas.{cons-append, print_request-append}
 use Rattle.http_requests.specs.Items.{head_size, is_line_end}
 use Rattle.http_requests.specs.Places.{place_behind, place_from, place_of, is_blank, is_end}

@@ -1,5 +1,5 @@
 -- What was read of the bytes held, and what that says of them.
-use Rattle.std.proofs.Common.{ℕ, ◌≡◌, ◌⊎◌, ◌+◌, ◌-◌, ◌*◌, ◌<◌, ◌≤◌, min, inl, inr, Bool, true, false, List, [], ◌∷◌, ◌++◌, length, take, drop, refl, sym, ap, subst, ◌∙◌, append_assoc, length-append, arith, ⊎_elim}
+use Rattle.std.proofs.Common.{ℕ, ◌≡◌, ◌+◌, ◌-◌, ◌*◌, ◌<◌, ◌≤◌, inl, inr, Bool, true, false, List, [], ◌∷◌, ◌++◌, length, take, drop, refl, sym, ap, subst, ◌∙◌, append_assoc, length-append, arith, ⊎_elim}
 use Rattle.std.specs.List.{list_all}
 use Rattle.std.proofs.Math.Seq.{take-append-add}
 use Rattle.std.proofs.lemmas.Bool.{false≢true, cases_Bool, and_parts}
@@ -12,20 +12,19 @@ use Rattle.httparse.specs.declared.spans.RequestSpans.{RequestSpans}
 use Rattle.httparse.proofs.GrammarLemmas.{ReadsRequest-append}
 use Rattle.http_requests.specs.Items.{HasHead, IsIdle, head_size, is_line_end}
 use Rattle.http_requests.specs.Looks.{IsLook, IsLookThrough, IsTried}
-use Rattle.http_requests.specs.Next.{AwaitsBody, AwaitsHead, HasNoHeadFor, IsNextFor, MayFollow, refusal}
+use Rattle.http_requests.specs.Next.{AwaitsBody, AwaitsHead, HasNoHeadFor, IsNextFor, refusal}
 use Rattle.http_requests.specs.Places.{is_blank, is_end, place_from, place_of}
 use Rattle.http_requests.specs.Readings.{IsBegun, IsBodyAwaited, IsReading, IsStage}
 use Rattle.http_requests.specs.declared.look.Look.{Look}
 use Rattle.http_requests.specs.declared.next.Awaited.{Awaited}
 use Rattle.http_requests.specs.declared.place.Place.{Place}
 use Rattle.http_requests.specs.declared.place.Place.TheVariants as place
-use Rattle.http_requests.specs.declared.reading.Begun.{Begun}
 use Rattle.http_requests.specs.declared.reading.Reading.{Reading}
 use Rattle.http_requests.specs.declared.reading.Stage.{Stage}
 use Rattle.http_requests.specs.declared.reading.Stage.TheVariants as stage
 use Rattle.http_requests.specs.declared.request.Request.{Request}
 use Rattle.http_words.specs.declared.fault.Fault.TheVariants as fault
-use Rattle.http_words.specs.declared.limits.TheConstants.{MAX_HEAD_BYTES, MAX_BODY_BYTES, MAX_FIELDS}
+use Rattle.http_words.specs.declared.limits.TheConstants.{MAX_HEAD_BYTES, MAX_FIELDS}
 use Rattle.http_requests.proofs.Heads.{HasHead-append, HasHead-size, busy-append, take-append-some}
 use Rattle.http_requests.proofs.Parts.{take-min}
 use Rattle.http_requests.proofs.Places.{head-ends, head-within, place_of-blank, blank-place_of}

@@ -1,14 +1,13 @@
 -- What the reader may say of the bytes held: each answer with what it rests on.
-use Rattle.std.proofs.Common.{ℕ, ◌≡◌, ◌+◌, ◌-◌, ◌<◌, ◌≤◌, inl, inr, Bool, true, false, List, [], ◌++◌, length, take, drop, refl, sym, ap, subst, ◌∙◌, Ok, Err, append-nil, length-append, length-drop, arith}
+use Rattle.std.proofs.Common.{ℕ, ◌≡◌, ◌+◌, ◌-◌, ◌<◌, ◌≤◌, inl, inr, Bool, true, false, List, ◌++◌, length, take, drop, refl, sym, ap, subst, ◌∙◌, Ok, Err, append-nil, length-append, length-drop, arith}
 use Rattle.std.specs.List.{slice_range}
 use Rattle.std.proofs.lemmas.List.Edits.{between_none}
 use Rattle.httparse.specs.Grammar.{RequestHead}
 use Rattle.http_requests.specs.Fields.{fields_of}
-use Rattle.http_requests.specs.Framing.{is_head_method, wants_interim, closes_after}
+use Rattle.http_requests.specs.Framing.{is_head_method, wants_interim}
 use Rattle.http_requests.specs.Items.{Item, IsIdle, HasHead, IsNext, head_size, body_of, refused}
 use Rattle.http_requests.specs.Next.{HasNoHeadFor, IsNextFor, MayFollow, item_in, refusal}
 use Rattle.http_requests.specs.Readings.{IsWholeOf}
-use Rattle.http_routes.specs.Routes.{endpoint_of}
 use Rattle.http_words.specs.declared.fault.Fault.{Fault}
 use Rattle.http_words.specs.declared.fault.Fault.TheVariants as fault
 use Rattle.http_words.specs.declared.limits.TheConstants.{MAX_HEAD_BYTES}

@@ -16,7 +16,8 @@ has_host minor fields = (minor == 0) || (length (named_values (codes "host") fie
 abbrev pub has_coding : List FieldText → Bool
 has_coding fields = nat_lt 0 (length (named_values (codes "transfer-encoding") fields))
 
--- the length of the body, by what the fields state of it: a POST has to state one, and no other request has a body without
+-- the length of the body, by what the fields state of it: a POST has to state one, and no other request has a body
+-- without
 abbrev pub length_by : List ℕ → StatedLength → Result ℕ Fault
 length_by method Absent = if bytes_eq method (codes "POST") then Err fault.LengthRequired else Ok 0
 length_by method (Bytes len) = Ok len

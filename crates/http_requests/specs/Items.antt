@@ -11,7 +11,7 @@ use Rattle.http_words.specs.declared.fault.Fault.{Fault}
 use Rattle.http_words.specs.declared.fault.Fault.TheVariants as fault
 use Rattle.http_words.specs.declared.limits.TheConstants.{MAX_HEAD_BYTES, MAX_FIELDS}
 
--- what is answered once: a request, or bytes that are none
+-- what is answered once: a request, or bytes that form none
 pub record Item : Type 0 where
   -- the interim answer is put before the answer
   pub interim : Bool

@@ -1,3 +1,4 @@
+pub mod Costs
 pub mod Fields
 pub mod Framing
 pub mod Fronts

@@ -1,4 +1,5 @@
--- Where in a head some bytes end (RFC 9112, sections 2.1 and 2.2): a head ends with the first empty line behind its start.
+-- Where in a head some bytes end (RFC 9112, sections 2.1 and 2.2): a head ends with the first empty line behind its
+-- start.
 use Rattle.std.specs.Prelude.{ℕ, ◌==◌, Bool, true, false, List, [], ◌∷◌, if◌then◌else◌}
 use Rattle.httparse.specs.Ascii.{carriage_return, line_feed}
 use Rattle.http_requests.specs.Items.{is_line_end}

@@ -36,7 +36,8 @@ abbrev pub Becomes : RequestHead → Result Request Fault → Type 0
 Becomes head (Ok request) = IsBecome head request
 Becomes head (Err fault) = body_of head ≡ Err fault
 
--- The bytes were looked at to some place, no head ends there or before, and what the parser was last given may become one.
+-- The bytes were looked at to some place, no head ends there or before, and what the parser was last given may become
+-- one.
 pub record IsBegun (begun : Begun) (bytes : List ℕ) : Type 0 where
   pub look : IsLook begun.look bytes
   pub few : begun.look.count < MAX_HEAD_BYTES

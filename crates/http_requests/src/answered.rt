@@ -56,8 +56,8 @@ impl<'b> Head<'b> {
         self.minor == 0 || self.fields.has_close()
     }
 
-    /// What the head becomes: the request, once its body is whole, or the fault for which no body is read. The target is a
-    /// text, as that of every head is.
+    /// What the head becomes: the request, once its body is whole, or the fault for which no body is read. The target
+    /// is a text, as that of every head is.
     pub(crate) fn becomes(&self, pages: &Pages) -> Result<Request, Fault>
         requires short { self.now.size ≤ MAX_HEAD_BYTES }
         requires text { IsUtf8 self.now.target.now }

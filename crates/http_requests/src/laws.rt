@@ -32,8 +32,8 @@ pub fn open_items_have_bytes()
         → Opens bytes items → length items + length (behind bytes items) ≤ length bytes }
 {}
 
-/// Items at the front are the first ones of all items, where there is a list of all, and the first ones of all items stand
-/// at the front.
+/// Items at the front are the first ones of all items, where there is a list of all, and the first ones of all items
+/// stand at the front.
 pub fn fronts_begin_the_items()
     ensures begin { (bytes : List ℕ) (items all : List Item) (end : End)
         → Fronts bytes items → Items bytes all end → (more : List Item) × (all ≡ items ++ more) }

@@ -1,20 +1,24 @@
 //! What comes next of the bytes held.
-ghost use Rattle.std.specs.Prelude.{◌≡◌, ◌≤◌, Bool, true, false, List, ℕ, length, take};
+ghost use Rattle.std.specs.Prelude.{◌≡◌, ◌≤◌, ◌<◌, ◌+◌, ◌*◌, Bool, true, false, List, ℕ, length, take};
 ghost use Rattle.httparse.specs.Grammar.{MayBecomeRequest, RequestHead};
+ghost use Rattle.http_requests.specs.Costs.{CanCount, cost, cost_of, head_room, most};
 ghost use Rattle.http_requests.specs.Items.{HasHead};
 ghost use Rattle.http_requests.specs.Looks.{IsLookThrough, IsTried};
 ghost use Rattle.http_requests.specs.Next.{AwaitsHead, HasNoHeadFor, IsFound, IsNextFor, Says, left_of, refusal};
 ghost use Rattle.http_requests.specs.Places.{is_blank, is_end, place_of};
-ghost use Rattle.http_requests.specs.Readings.{IsBegun, IsBodyAwaited, IsReading};
+ghost use Rattle.http_requests.specs.Readings.{IsBegun, IsBodyAwaited, IsReading, IsStage};
 
 use crate::front::{Front, front_of};
 use crate::head::Head;
 use crate::look::Look;
+use crate::looked::Looked;
 use crate::reading::{Begun, Reading, Stage};
 use crate::request::Request;
 use http_routes::Pages;
 use http_words::{Fault, MAX_FIELDS, MAX_HEAD_BYTES};
 use httparse::spans::EMPTY_HEADER_SPAN;
+use std::marker::Brand;
+use std::sync::ledger::{Blank, Ledger};
 
 /// A request whose head is held and whose body isn't whole yet.
 #[derive(Clone, Copy, Debug, PartialEq, Eq)]
@@ -32,7 +36,7 @@ pub enum Next {
     More,
     /// There is a head, and its body isn't whole yet: more bytes have to be taken.
     Body(Awaited),
-    /// A request, or bytes that are none.
+    /// A request, or bytes that form none.
     Request(Request),
     /// The connection has ended.
     End,
@@ -51,28 +55,78 @@ pub(crate) struct Found {
 /// What was read of the bytes in earlier calls is kept in `reading`: after `More` and `Body` the next call has the same
 /// bytes and those taken since, and after `Request` those that follow the request.
 ///
-/// A request is answered as soon as it is whole, so no bytes have to be taken while one stands in those that are held. Bytes
-/// that can't begin a head any more are answered at the latest when twice as many are held, when an empty line ends them,
-/// or when 8,192 are held. While one request is read, each of its bytes is looked at once, and those given to the parser
-/// are at most three times the bytes of its head: the head as a whole, and before that some of its front, each time twice
-/// as many as the last time. No byte of a body is looked at.
+/// A request is answered as soon as it is whole, so no bytes have to be taken while one stands in those that are held.
+/// Bytes that can't begin a head any more are answered at the latest when twice as many are held, when an empty line
+/// ends them, or when 8,192 are held. While one request is read, each of its bytes is looked at once, and those given
+/// to the parser are at most three times the bytes of its head: the head as a whole, and before that some of its
+/// front, each time twice as many as the last time. No byte of a body is looked at.
 pub fn next_of(pages: &Pages, reading: &mut Reading, held: &[u8], ended: bool) -> Next
     requires { IsReading reading.old held.now }
     ensures says { Says ended held.now result }
     ensures keeps { IsReading reading.new (left_of held.now result) }
 {
-    let found = match reading.stage {
-        Stage::Head(begun) => find_head(pages, begun, held, ended),
-        Stage::Body(request) => find_body(request, held, ended),
-    };
+    next_on::<Brand>(pages, reading, held, ended, Blank::new(1))
+}
+
+/// The same on a counter of its own, that nobody reads.
+fn next_on<L: Ledger>(
+    pages: &Pages,
+    reading: &mut Reading,
+    held: &[u8],
+    ended: bool,
+    blank: Blank,
+) -> Next
+    requires blank { CanCount blank L.name L.parts }
+    requires reading { IsReading reading.old held.now }
+    ensures says { Says ended held.now result }
+    ensures keeps { IsReading reading.new (left_of held.now result) }
+{
+    next_counted(pages, reading, held, ended, &mut Looked::<L>::new(blank))
+}
+
+/// What comes next of the bytes held, as [`next_of`] says it, where the bytes that are looked at are counted: those of
+/// all calls for one request are at most four times the bytes of its head, or, where there is none, four times those
+/// that were held and might have been one.
+pub fn next_counted<L: Ledger>(
+    pages: &Pages,
+    reading: &mut Reading,
+    held: &[u8],
+    ended: bool,
+    looked: &mut Looked<L>,
+) -> Next
+    requires { IsReading reading.old held.now }
+    ensures says { Says ended held.now result }
+    ensures keeps { IsReading reading.new (left_of held.now result) }
+    ensures few { looked.new + cost reading.old ≤ looked.old + most held.now reading.new result }
+{
+    let found = find(pages, reading.stage, held, ended, looked);
     *reading = found.reading;
     found.next
 }
 
+/// What comes of a request that was read so far.
+fn find<L: Ledger>(
+    pages: &Pages,
+    stage: Stage,
+    held: &[u8],
+    ended: bool,
+    looked: &mut Looked<L>,
+) -> Found
+    requires { IsStage stage held.now }
+    ensures found { IsFound ended held.now result }
+    ensures few { looked.new + cost_of stage ≤ looked.old + most held.now result.reading result.next }
+{
+    match stage {
+        Stage::Head(begun) => find_head(pages, begun, held, ended, looked),
+        Stage::Body(request) => find_body(request, held, ended),
+    }
+}
+
 /// A request that is answered by a fault and ends the connection.
 fn found_refused(interim: bool, withheld: bool, fault: Fault) -> Found
-    ensures { (ended : Bool) (bytes : List ℕ)
+    ensures found { (ended : Bool) (bytes : List ℕ)
         → IsNextFor ended bytes (refusal interim withheld fault) → IsFound ended bytes result }
+    ensures most { (bytes : List ℕ) → most bytes result.reading result.next ≡ 4 * head_room bytes }
 {
     Found {
         next: Next::Request(Request::refused(interim, withheld, fault)),
@@ -82,8 +136,9 @@ fn found_refused(interim: bool, withheld: bool, fault: Fault) -> Found
 
 /// No whole head yet.
 fn found_more(look: Look, tried: usize) -> Found
-    ensures { (ended : Bool) (bytes : List ℕ)
+    ensures found { (ended : Bool) (bytes : List ℕ)
         → AwaitsHead ended bytes → IsBegun (record { look = look; tried = tried }) bytes → IsFound ended bytes result }
+    ensures most { (bytes : List ℕ) → most bytes result.reading result.next ≡ look.count + 2 * tried }
 {
     Found {
         next: Next::More,
@@ -94,7 +149,8 @@ fn found_more(look: Look, tried: usize) -> Found
 /// What comes of a request whose head is read: it is whole, or cut off, or more of its body has to come.
 fn find_body(request: Request, held: &[u8], ended: bool) -> Found
     requires { IsBodyAwaited request held.now }
-    ensures { IsFound ended held.now result }
+    ensures found { IsFound ended held.now result }
+    ensures most { 4 * request.body ≤ most held.now result.reading result.next }
 {
     if request.size <= held.len() {
         return Found {
@@ -116,30 +172,45 @@ fn find_body(request: Request, held: &[u8], ended: bool) -> Found
 }
 
 /// What comes of bytes of which no whole head was seen yet.
-fn find_head(pages: &Pages, begun: Begun, held: &[u8], ended: bool) -> Found
+fn find_head<L: Ledger>(
+    pages: &Pages,
+    begun: Begun,
+    held: &[u8],
+    ended: bool,
+    looked: &mut Looked<L>,
+) -> Found
     requires { IsBegun begun held.now }
-    ensures { IsFound ended held.now result }
+    ensures found { IsFound ended held.now result }
+    ensures few { looked.new + (begun.look.count + 2 * begun.tried) ≤ looked.old + most held.now result.reading result.next }
 {
-    let look = begun.look.on(held);
+    let look = begun.look.on(held, looked);
     if look.place.is_end() {
-        return find_request(pages, look.count, held, ended);
+        return find_request(pages, look.count, held, ended, looked);
     }
     if look.place.is_blank() {
         return find_blank(look, begun.tried, held, ended);
     }
-    find_open(look, begun.tried, held, ended)
+    find_open(look, begun.tried, held, ended, looked)
 }
 
 /// What comes of so many bytes, which are a head if they begin with one.
-fn find_request(pages: &Pages, count: usize, held: &[u8], ended: bool) -> Found
+fn find_request<L: Ledger>(
+    pages: &Pages,
+    count: usize,
+    held: &[u8],
+    ended: bool,
+    looked: &mut Looked<L>,
+) -> Found
     requires within { count ≤ length held.now }
     requires few { count ≤ MAX_HEAD_BYTES }
     requires at_end { is_end (place_of (take count held.now)) ≡ true }
-    ensures { IsFound ended held.now result }
+    requires first { (n : ℕ) → n < count → is_end (place_of (take n held.now)) ≡ false }
+    ensures found { IsFound ended held.now result }
+    ensures few { looked.new + 3 * count ≤ looked.old + most held.now result.reading result.next }
 {
     let front = &held[..count];
     let mut spans = [EMPTY_HEADER_SPAN; MAX_FIELDS];
-    match front_of(front, &mut spans) {
+    match front_of(front, &mut spans, looked) {
         Front::Head(found) => {
             let head = Head::of(front, &spans, &found);
             match head.becomes(pages) {
@@ -157,7 +228,8 @@ fn find_blank(look: Look, tried: usize, held: &[u8], ended: bool) -> Found
     requires through { IsLookThrough look held.now }
     requires tried { IsTried tried look held.now }
     requires blank { is_blank look.place ≡ true }
-    ensures { IsFound ended held.now result }
+    ensures found { IsFound ended held.now result }
+    ensures most { look.count + 2 * tried ≤ most held.now result.reading result.next }
 {
     if MAX_HEAD_BYTES <= held.len() {
         return found_refused(false, false, Fault::BadRequest);
@@ -171,13 +243,20 @@ fn find_blank(look: Look, tried: usize, held: &[u8], ended: bool) -> Found
     found_more(look, tried)
 }
 
-/// What comes of bytes that begin a head and don't end it. They are given to the parser where they are at least twice as
-/// many as those that it was given last.
-fn find_open(look: Look, tried: usize, held: &[u8], ended: bool) -> Found
+/// What comes of bytes that begin a head and don't end it. They are given to the parser where they are at least twice
+/// as many as those that it was given last.
+fn find_open<L: Ledger>(
+    look: Look,
+    tried: usize,
+    held: &[u8],
+    ended: bool,
+    looked: &mut Looked<L>,
+) -> Found
     requires through { IsLookThrough look held.now }
     requires tried { IsTried tried look held.now }
     requires busy { is_blank look.place ≡ false }
-    ensures { IsFound ended held.now result }
+    ensures found { IsFound ended held.now result }
+    ensures few { looked.new + (look.count + 2 * tried) ≤ looked.old + most held.now result.reading result.next }
 {
     if ended {
         return found_refused(false, false, Fault::BadRequest);
@@ -188,21 +267,22 @@ fn find_open(look: Look, tried: usize, held: &[u8], ended: bool) -> Found
     if look.count < 2 * tried {
         return found_more(look, tried);
     }
-    if may_become_head(held) {
+    if may_become_head(held, looked) {
         return found_more(look, look.count);
     }
     found_refused(false, false, Fault::BadRequest)
 }
 
 /// Whether bytes that hold no head may become one.
-fn may_become_head(bytes: &[u8]) -> bool
+fn may_become_head<L: Ledger>(bytes: &[u8], looked: &mut Looked<L>) -> bool
     requires few { length bytes.now ≤ MAX_HEAD_BYTES }
     requires none { (head : RequestHead) → ¬ (HasHead bytes.now head) }
     ensures may { result ≡ true → MayBecomeRequest bytes.now }
     ensures never { result ≡ false → (ended : Bool) → HasNoHeadFor ended bytes.now }
+    ensures counted { looked.new ≡ looked.old + length bytes.now }
 {
     let mut spans = [EMPTY_HEADER_SPAN; MAX_FIELDS];
-    match front_of(bytes, &mut spans) {
+    match front_of(bytes, &mut spans, looked) {
         Front::Head(_) => unreachable!(),
         Front::Open => true,
         Front::Never => false,

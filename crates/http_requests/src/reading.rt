@@ -1,5 +1,6 @@
 //! What was read of the next request so far.
-ghost use Rattle.std.specs.Prelude.{List, ℕ};
+ghost use Rattle.std.specs.Prelude.{◌≡◌, ◌+◌, ◌*◌, List, ℕ};
+ghost use Rattle.http_requests.specs.Costs.{cost};
 ghost use Rattle.http_requests.specs.Readings.{IsBegun, IsBodyAwaited, IsReading};
 
 use crate::look::Look;
@@ -7,8 +8,8 @@ use crate::place::Place;
 use crate::request::Request;
 
 /// What was read of the next request of a connection, whose bytes come piece by piece. It is kept from one call of
-/// [`next_of`](crate::next_of) to the next, so that each byte of a head is looked at once, and each head is parsed once it
-/// is whole.
+/// [`next_of`](crate::next_of) to the next, so that each byte of a head is looked at once, and each head is parsed
+/// once it is whole.
 #[derive(Clone, Copy, Debug, PartialEq, Eq)]
 pub struct Reading {
     pub(crate) stage: Stage,
@@ -44,7 +45,8 @@ impl Reading {
     }
 
     pub(crate) fn of_head(look: Look, tried: usize) -> Reading
-        ensures { (bytes : List ℕ) → IsBegun (record { look = look; tried = tried }) bytes → IsReading result bytes }
+        ensures is { (bytes : List ℕ) → IsBegun (record { look = look; tried = tried }) bytes → IsReading result bytes }
+        ensures costs { cost result ≡ look.count + 2 * tried }
     {
         let begun = Begun { look, tried };
         Reading {
@@ -53,7 +55,8 @@ impl Reading {
     }
 
     pub(crate) fn of_body(request: Request) -> Reading
-        ensures { (bytes : List ℕ) → IsBodyAwaited request bytes → IsReading result bytes }
+        ensures is { (bytes : List ℕ) → IsBodyAwaited request bytes → IsReading result bytes }
+        ensures costs { cost result ≡ 4 * request.body }
     {
         Reading {
             stage: Stage::Body(request),

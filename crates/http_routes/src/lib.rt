@@ -3,13 +3,15 @@
 //!
 //! [`Pages`] is filled once and then shared. Which row a path stands in, which methods the row allows and which number
 //! the path has to hold is defined over the path's parts in `specs/Routes`, and `specs/Paths` says what of a target is
-//! its path. A new row is a line of `path_table`, one of `Pages::new` and one of `endpoint_at`.
+//! its path. A new row is a line of `path_table`, one of `Pages::new` and one of `endpoint_at`; where its path is
+//! fixed, it may be one of `fixed_page` too, which spares the router.
 //!
 //! The crate stands on `matchit` for the router, on `path_table` for what a router of a table finds, on `http_words`
 //! for what is asked for and refused, on `http_fields` for texts without regard to case, on `decimal_text` for numbers,
-//! and on `farm_types` for want of memory. The layers above may use every name below.
+//! and on `farm_types` for running out of memory. The layers above may use every name below.
 #![tactic(auto)]
 
+mod fixed;
 mod numbers;
 mod page;
 mod pages;

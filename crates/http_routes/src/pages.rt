@@ -6,9 +6,10 @@ ghost use Rattle.path_table.specs.Filled.{values_of};
 ghost use Rattle.path_table.specs.Walk.{rows_for};
 ghost use Rattle.http_routes.specs.Routes.{endpoint_at, endpoint_of, number_in, page_of, path_table};
 
+use crate::fixed::fixed_page;
 use crate::numbers::number_of;
 use crate::page::{Page, allows};
-use crate::path::path_of;
+use crate::path::{path_of, text_of};
 use farm_types::Memory;
 use http_words::{Endpoint, Fault, PathField, Route};
 use matchit::Router;
@@ -39,13 +40,24 @@ impl Pages {
         Ok(Pages { router })
     }
 
-    /// The row in which a path stands.
-    fn page_of(&self, path: &str) -> Option<Page>
+    /// The row that the router finds for a path.
+    fn routed_page(&self, path: &str) -> Option<Page>
         ensures { result ≡ page_of path.now }
     {
         match self.router.at(path) {
             Ok(found) => Some(*found.value),
             Err(_) => None,
+        }
+    }
+
+    /// The row in which a path stands.
+    fn page_of(&self, path: &[u8]) -> Option<Page>
+        requires { IsUtf8 path.now }
+        ensures { result ≡ page_of path.now }
+    {
+        match fixed_page(path) {
+            Some(page) => Some(page),
+            None => self.routed_page(text_of(path)),
         }
     }
 
@@ -68,7 +80,8 @@ impl Pages {
 }
 
 /// What a path asks for that stands in a row.
-fn endpoint_at(page: Page, path: &str) -> Result<Endpoint, Fault>
+fn endpoint_at(page: Page, path: &[u8]) -> Result<Endpoint, Fault>
+    requires { IsUtf8 path.now }
     ensures { result ≡ endpoint_at page (number_in path.now) }
 {
     match page {
@@ -78,19 +91,19 @@ fn endpoint_at(page: Page, path: &str) -> Result<Endpoint, Fault>
         Page::Farm => Ok(Endpoint::Command(Route::Farm)),
         Page::Orders => Ok(Endpoint::Command(Route::Orders)),
         Page::Totals => Ok(Endpoint::Totals),
-        Page::Report => match number_of(path) {
+        Page::Report => match number_of(text_of(path)) {
             Some(run) => Ok(Endpoint::Command(Route::Report(run))),
             None => Err(Fault::BadField(PathField::Run)),
         },
-        Page::Cancel => match number_of(path) {
+        Page::Cancel => match number_of(text_of(path)) {
             Some(search) => Ok(Endpoint::Command(Route::Cancel(search))),
             None => Err(Fault::BadField(PathField::Search)),
         },
-        Page::Search => match number_of(path) {
+        Page::Search => match number_of(text_of(path)) {
             Some(search) => Ok(Endpoint::Command(Route::Search(search))),
             None => Err(Fault::BadField(PathField::Search)),
         },
-        Page::Log => match number_of(path) {
+        Page::Log => match number_of(text_of(path)) {
             Some(from) => Ok(Endpoint::Log(from)),
             None => Err(Fault::BadField(PathField::From)),
         },

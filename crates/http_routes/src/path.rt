@@ -48,13 +48,22 @@ fn path_bytes(target: &[u8]) -> &[u8]
     path
 }
 
-/// The path of a target that is a text.
-pub(crate) fn path_of(target: &[u8]) -> &str
+/// The path of a target that is a text, which is one too.
+pub(crate) fn path_of(target: &[u8]) -> &[u8]
     requires { IsUtf8 target.now }
-    ensures { result.now ≡ path_of target.now }
+    ensures value { result.now ≡ path_of target.now }
+    ensures text { IsUtf8 result.now }
 {
-    match from_utf8(path_bytes(target)) {
-        Ok(path) => path,
+    path_bytes(target)
+}
+
+/// A path as a text.
+pub(crate) fn text_of(path: &[u8]) -> &str
+    requires { IsUtf8 path.now }
+    ensures { result.now ≡ path.now }
+{
+    match from_utf8(path) {
+        Ok(text) => text,
         Err(_) => unreachable!(),
     }
 }

@@ -9,9 +9,9 @@
 //! - `held`, `whole`, `prefixes` or `response` and bytes: what comes next of a connection of which these are held, or are
 //!   all, or of each of their prefixes, and what response stands at their front. `\r`, `\n` and `\t` stand for control
 //!   characters, and a part between bars that begins with a number, as `|63*x|`, for so many times the rest of it;
-//! - `faults` and `statuses`, for the answer to each fault and the line of each status; `bodies`, for those of a fault of
-//!   the store and of want of memory; `not_allowed` and `interim` with the number of the put that fails; `refusal` with
-//!   what is said of it, and its body;
+//! - `faults` and `statuses`, for the answer to each fault and the line of each status; `bodies`, for those of a fault
+//!   of the store and of running out of memory; `not_allowed` and `interim` with the number of the put that fails;
+//!   `refusal` with what is said of it, and its body;
 //! - `lease` or `no_run` and a body, as a worker reads it; `worker` with the number of leases, and what it is told;
 //! - `takes` with the number of the take that fails, the sizes of the pieces and the bytes, or `flaky_takes` of a reader
 //!   that is interrupted, gives 2 bytes, fails and ends; `puts` and `narrow_puts` with the number of the put that fails,

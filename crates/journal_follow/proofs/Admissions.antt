@@ -39,7 +39,7 @@ split-at xs i d below =
     ∙ ap (λ (l : List Entry). take i xs ++ l) (drop-cons xs i d below
     ∙ ap (λ (n : ℕ). get_or xs i d ∷ drop n xs) (sym (add-one i)))
 
--- one entry more was admitted
+-- one more entry was admitted
 pub grown-more : (H K xs : List Entry) (i : ℕ) (e : Entry) → i < length xs → e ≡ get_or xs i e → K ≡ H ++ take i xs
     → K ++ e ∷ [] ≡ H ++ take (i + 1) xs
 grown-more H K xs i e below is so_far =

@@ -304,7 +304,8 @@ follows-all rounds compared start now before told followed gone whole entries = 
 
 -- What the disk shows.
 
--- bytes stand for a history between what was held at first and what is held now, or for the former with what was pending
+-- bytes stand for a history between what was held at first and what is held now, or for the former with what was
+-- pending
 abbrev pub ShowsGone : (start now : Held) → List ℕ → Type 0
 ShowsGone start now bytes =
     (history : List Entry) × IsPrefix start.history history

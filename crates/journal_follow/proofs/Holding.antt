@@ -110,7 +110,7 @@ pub leaves-none : (held new : Held) (disk : DiskState) → IsKept held disk → 
 leaves-none held new disk kept =
     leaves_only-start disk (ShowsLeft held new) (λ c image. decided-left held new c (kept.images c image))
 
--- want of memory
+-- running out of memory
 pub on_memory : {T : Type 0} (r : Result T FollowFault) (P : Type 0) → P → OnMemory r P
 on_memory (Ok x) P held = tt
 on_memory (Err fault.Memory) P held = held

@@ -22,7 +22,7 @@ use Rattle.journal_follow.specs.declared.fault.FollowFault.TheVariants as fault
 same-begins : (put request : List ℕ) → put ≡ request → IsPrefix put request
 same-begins put request is = ([], sym is ∙ sym (append-nil put))
 
--- what was put where memory was wanting for the answer, and where it was wanting later
+-- what was put where memory ran out for the answer, and where it ran out later
 pub put-short : (request : List ℕ) (x : Exchange) (memory : Memory) → AnsweredBy request x (Err memory)
     → IsPut request (Some x)
 put-short request unconnected memory came = tt
@@ -110,7 +110,7 @@ ask-other from count before now later tried status so_far few comes is =
       (so_far.are, omega (arith, many, few), inl (subst (λ (s : Said). ComesTo from comes.0 s) is comes.2)),
     )
 
--- memory was wanting
+-- memory ran out
 pub ask-short : (from count : ℕ) (before now later : Option (List NetworkEvent)) (f : FollowFault)
     → HasLost from count before now → count < TRIES → TryComesTo from now later (Err f)
     → AskComesTo from before later (Err f)

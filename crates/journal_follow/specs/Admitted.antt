@@ -18,7 +18,7 @@ pub record IsStuckAt (H entries : List Entry) (i : ℕ) : Type 0 where
   pub fits : MayBeHeld (H ++ before)
   pub misfit : MayBeHeld (H ++ before ++ entry ∷ []) → ⊥
 
--- the same by what was answered; want of memory says nothing
+-- the same by what was answered; running out of memory says nothing
 abbrev pub IsStuck : (H entries : List Entry) → Stuck → Type 0
 IsStuck H entries (At i) = IsStuckAt H entries i
 IsStuck H entries Memory = ⊤

@@ -12,7 +12,7 @@ use Rattle.journal_follow.specs.declared.asking.Tried.{Tried}
 use Rattle.journal_follow.specs.declared.fault.FollowFault.{FollowFault}
 use Rattle.journal_follow.specs.declared.fault.FollowFault.TheVariants.{Memory, NetFault, Peer}
 
--- how an ask ends: a page came, or the ask was given up, or memory was wanting
+-- how an ask ends: a page came, or the ask was given up, or memory ran out
 abbrev pub AskEnds : (from : ℕ) → Last → Result (List Entry) FollowFault → Type 0
 AskEnds from (answered r) (Ok page) = IsRound from r × (r.page ≡ page)
 AskEnds from (unanswered lost t) (Err fault) = AreLost from lost × (length lost < TRIES) × GivesUp from lost t fault

@@ -44,8 +44,9 @@ AreTaken compared (r ∷ more) old new =
 abbrev pub entries_of : List Round → List Entry
 entries_of rounds = flat_map (λ (r : Round). r.page) rounds
 
--- What followed the rounds that were taken: nothing, as so many were made as were to be made; a round that was answered;
--- tries without an answer that says a page; or tries, of which for the last one or its answer memory was wanting.
+-- What followed the rounds that were taken: nothing, as so many were made as were to be made; a round that was
+-- answered; tries without an answer that says a page; or tries, of which for the last one or its answer memory ran
+-- out.
 pub data Last : Type 0 where
   nothing : Last
   answered : Round → Last
@@ -91,8 +92,8 @@ GivesUp from lost t (Peer status) =
 GivesUp from lost t NetFault = (length lost + 1 ≡ TRIES) × (t.answer ≡ Failed)
 GivesUp from lost t fault = ⊥
 
--- How following ends, where so many entries are compared, by what follows the rounds that were taken. The page of a last
--- round is empty, or it was not taken, as the follower's call answered.
+-- How following ends, where so many entries are compared, by what follows the rounds that were taken. The page of a
+-- last round is empty, or it was not taken, as the follower's call answered.
 abbrev pub Ends : (rounds made compared : ℕ) → Last → (held new : Held) → Result Followed FollowFault → Type 0
 Ends rounds made compared nothing held new (Ok followed) =
     (new ≡ held) × (made ≡ rounds) × (followed.whole ≡ false) × (followed.entries ≡ length new.history)

@@ -26,8 +26,8 @@ ShowsBetween old new bytes =
     (history : List Entry) × IsPrefix old.history history
     × (IsPrefix history (new.history ++ new.pending) ⊎ (history ≡ old.history ++ old.pending)) × Shows history bytes
 
--- A read gives what is held, with or without what is pending, and so does each crash. An unborn file stands for the empty
--- history.
+-- A read gives what is held, with or without what is pending, and so does each crash. An unborn file stands for the
+-- empty history.
 pub record IsKept (held : Held) (disk : DiskState) : Type 0 where
   pub reads : ShowsDecided held disk.bytes
   pub images : EachImage disk.steps (ShowsDecided held)

@@ -5,8 +5,8 @@ use Rattle.follow_law.specs.Taking.{Came, foreign, gap, stored, undecided, unrep
 use Rattle.journal_follow.specs.declared.fault.FollowFault.{FollowFault}
 use Rattle.journal_follow.specs.declared.fault.FollowFault.TheVariants.{Damaged, Foreign, Gap, Memory, StoreFault}
 
--- The answer, by what taking the page came to. A fault in the repair is that of the disk, or of the opening that stands for
--- it; a disk that turns out to hold something where nothing was created is damaged from its start on.
+-- The answer, by what taking the page came to. A fault in the repair is that of the disk, or of the opening that
+-- stands for it; a disk that turns out to hold something where nothing was created is damaged from its start on.
 abbrev pub Answers : Came → Result ℕ FollowFault → Type 0
 Answers (stored count) (Ok n) = n ≡ count
 Answers (gap from have) (Err (Gap first held)) = (first ≡ from) × (held ≡ have)
@@ -34,7 +34,7 @@ abbrev pub IsSoundly : {T : Type 0} → Result T FollowFault → Type 0
 IsSoundly (Err (Damaged o)) = ⊥
 IsSoundly answer = ⊤
 
--- what holds where memory was wanting
+-- what holds where memory ran out
 abbrev pub OnMemory : {T : Type 0} → Result T FollowFault → Type 0 → Type 0
 OnMemory (Err Memory) P = P
 OnMemory answer P = ⊤

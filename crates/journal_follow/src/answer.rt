@@ -18,7 +18,7 @@ use std::alloc::Global;
 
 /// The status of a page.
 pub(crate) const OK: u16 = 200;
-/// The status of an answer that the leader's journal could not be used for, and of one for which memory was wanting.
+/// The status of an answer that the leader's journal could not be used for, and of one for which memory ran out.
 pub(crate) const UNAVAILABLE: u16 = 503;
 
 pub(crate) const NO_STORAGE: u16 = 507;

@@ -22,8 +22,8 @@ pub enum FollowFault {
     /// come next, or more is held where the leader has no more.
     #[error("the journal differs from the leader's at entry {0}")]
     Foreign(u32),
-    /// The disk failed: its count of faults before the call, and after it. What the call stores may have been stored; the
-    /// next call finds out.
+    /// The disk failed: its count of faults before the call, and after it. What the call stores may have been stored;
+    /// the next call finds out.
     #[error("the journal could not be used")]
     StoreFault {
         /// The count before the call.
@@ -37,8 +37,8 @@ pub enum FollowFault {
     /// No connection was made for the last try of an ask, or that connection failed. The network's count rose.
     #[error("the network failed")]
     NetFault,
-    /// The leader answered otherwise than followers are answered, with this status; or the last try of an ask was lost with
-    /// it, or with 0, where no whole response came.
+    /// The leader answered otherwise than followers are answered, with this status; or the last try of an ask was lost
+    /// with it, or with 0, where no whole response came.
     #[error("the service answered {0}")]
     Peer(u16),
     /// Out of memory.

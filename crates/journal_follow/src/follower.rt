@@ -41,8 +41,9 @@ use std::mem;
 
 /// A follower: a history that is a beginning of another node's, and stands on a disk.
 ///
-/// After a fault of the disk the entries of the record that was being stored are pending: they are in the history or not,
-/// as the repair finds with which the next call begins. The history that the follower tells is the one without them.
+/// After a fault of the disk the entries of the record that was being stored are pending: they are in the history or
+/// not, as the repair finds with which the next call begins. The history that the follower tells is the one without
+/// them.
 #[derive(Drop)]
 pub struct Follower<D: Disk> {
     place: Option<Place<D>>,
@@ -60,8 +61,8 @@ impl<D: Disk> Model for Follower<D> {
 }
 
 impl<D: Disk> Follower<D> {
-    /// Opens the follower on a disk. An unborn one is a follower with an empty history. It changes nothing. An error hands
-    /// the disk back.
+    /// Opens the follower on a disk. An unborn one is a follower with an empty history. It changes nothing. An error
+    /// hands the disk back.
     ///
     /// # Errors
     ///
@@ -86,9 +87,9 @@ impl<D: Disk> Follower<D> {
         }
     }
 
-    /// Takes a page: entries of the leader's history from the one of this number on, counted from 1, at least one, and at
-    /// most so many as fit a record. They are compared with those held, and the entries past these are stored in one
-    /// record. Answers how many these are; where there are none, nothing is written.
+    /// Takes a page: entries of the leader's history from the one of this number on, counted from 1, at least one, and
+    /// at most so many as fit a record. They are compared with those held, and the entries past these are stored in
+    /// one record. Answers how many these are; where there are none, nothing is written.
     ///
     /// A call after a [`FollowFault::StoreFault`] begins by finding out whether what was pending was kept.
     ///
@@ -96,8 +97,8 @@ impl<D: Disk> Follower<D> {
     ///
     /// [`FollowFault::Gap`], exactly where the page begins past the entry behind those held; [`FollowFault::Foreign`],
     /// exactly where one of its entries isn't the one held, or can't come next, with the place of the first;
-    /// [`FollowFault::StoreFault`], where the disk failed in this call; [`FollowFault::Damaged`], of a disk that doesn't
-    /// tell what it holds; or [`FollowFault::Memory`].
+    /// [`FollowFault::StoreFault`], where the disk failed in this call; [`FollowFault::Damaged`], of a disk that
+    /// doesn't tell what it holds; or [`FollowFault::Memory`].
     pub fn take(&mut self, alloc: Global, from: u32, entries: &[Entry]) -> Result<u32, FollowFault>
         requires from { 1 ≤ from }
         requires some { 1 ≤ length entries.now }
@@ -109,8 +110,8 @@ impl<D: Disk> Follower<D> {
             × Takes came from entries.now self.old.held self.new.held }
         ensures legal { MayBeHeld (self.new.held.history ++ self.new.held.pending) }
 
-        // Each image of each moment of the call stands for the history from before, with or without what was pending, or
-        // for the one from now with what is pending now. An unborn one stands for the empty history.
+        // Each image of each moment of the call stands for the history from before, with or without what was pending,
+        // or for the one from now with what is pending now. An unborn one stands for the empty history.
         ensures any_moment { self.old.tells ≡ true
             → LeavesOnly self.old.disk self.new.disk (ShowsLeft self.old.held self.new.held) }
         ensures kept { self.old.tells ≡ true → IsKept self.new.held self.new.disk }

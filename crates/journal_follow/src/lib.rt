@@ -4,10 +4,10 @@
 //! page in one record, so that a crash leaves the history from before or the one from now. [`follow`] asks a leader for
 //! its pages over any network, from the first entry on, until all that the leader has is held.
 //!
-//! The crate stands on `follow_law` for what a follower does with a page, on `farm_core` for which entries may come next,
-//! on `farm_journal`, `farm_disk` and `farm_store` for records and what bytes stand for, on `entry_codec` for entries as
-//! bytes, and on `http_exchange` for asks and answers. The layers above may use every name below; clauses above cite
-//! `specs/` (`State`, `Shown`, `Opened`, `Taken`, `Asks`, `Following`).
+//! The crate stands on `follow_law` for what a follower does with a page, on `farm_core` for which entries may come
+//! next, on `farm_journal`, `farm_disk` and `farm_store` for records and what bytes stand for, on `entry_codec` for
+//! entries as bytes, and on `http_exchange` for asks and answers. The layers above may use every name below; clauses
+//! above cite `specs/` (`State`, `Shown`, `Opened`, `Taken`, `Asks`, `Following`).
 #![tactic(auto)]
 
 mod admitting;

@@ -280,8 +280,8 @@ fn create<D: Disk>(alloc: Global, disk: D, farm: Farm, payload: Vec<u8>, before:
     }
 }
 
-/// A disk that was asked for its size, whatever it answered: what a read gives is what a crash may leave. And how often it
-/// has failed then.
+/// A disk that was asked for its size, whatever it answered: what a read gives is what a crash may leave. And how
+/// often it has failed then.
 fn looked_at<D: Disk>(disk: D) -> (D, u64)
     ensures same { D.tells result.0 ≡ D.tells disk }
     ensures sound { D.tells disk ≡ true → IsSound (D.told disk) }

@@ -26,7 +26,7 @@ use std::alloc::Global;
 /// # Errors
 ///
 /// [`JudgeFault::BadInput`] with the number of the first line outside the form, exactly where there
-/// is one, and [`JudgeFault::Memory`] for want of memory alone.
+/// is one, and [`JudgeFault::Memory`] for running out of memory alone.
 pub fn judge(alloc: Global, input: &[u8]) -> Result<String, JudgeFault>
     ensures answer { IfOk result (λ text. judged input.now ≡ Ok (string_bytes text)) }
     ensures bad_input { (line : ℕ) → IsErrOf result (JudgeFault.BadInput line) →

@@ -10,7 +10,7 @@ use weight_exact::Memory;
 pub enum JudgeFault {
     /// The line with this number, counted from 1, is the first outside the form.
     BadInput(u64),
-    /// Want of memory.
+    /// Running out of memory.
     Memory,
 }
 

@@ -1,12 +1,14 @@
 //! What is shown of a search.
 
 ghost use Rattle.std.specs.Prelude.{◌≡◌, IfOk};
+ghost use Rattle.std.specs.Option.{option_map};
 ghost use Rattle.farm_entry.specs.Decision.{page_decision};
 ghost use Rattle.farm_entry.specs.History.{opening_numbered};
 ghost use Rattle.farm_entry.specs.Pages.{page_of};
+ghost use Rattle.farm_entry.specs.Standing.{standing};
 ghost use Rattle.state_laws.specs.Seen.{seen};
 
-use farm_entry::{Decision, Opening, Refusal, Reply, SearchPage};
+use farm_entry::{Decision, Opening, Refusal, Reply, SearchPage, Standing};
 use farm_types::Memory;
 use kept_farm::KeptFarm;
 use search_state::SearchState;
@@ -48,4 +50,12 @@ pub(crate) fn page_decision(alloc: Global, farm: &KeptFarm, search: u32) -> Resu
     };
     let page = page_of(alloc, farm, opening, state)?;
     Ok(Decision::Show(Reply::Search(page)))
+}
+
+/// Where a search stands, where it was opened.
+pub fn standing_of(farm: &KeptFarm, search: u32) -> Option<Standing>
+    ensures { result ≡ option_map (standing farm.now) (opening_numbered farm.now search) }
+{
+    let state = farm.search(search)?;
+    Some(state.standing())
 }

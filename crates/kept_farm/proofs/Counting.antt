@@ -1,4 +1,4 @@
--- What is counted with one entry more, by where its search stood and stands.
+-- What is counted with an entry appended, by where its search stood and stands.
 use Rattle.std.proofs.Common.{◌≡◌, ℕ, ◌+◌, ◌-◌, ◌≤◌, Bool, inr, is_some, List, [], ◌∷◌, ◌++◌, length, slice_get, count_by, Contains, Option, Some, None, refl, sym, ap, subst, ◌∙◌, arith, length-append}
 use Rattle.std.specs.List.{cons_option, filter_map}
 use Rattle.std.specs.Option.{option_and_then, option_map, unwrap_or}

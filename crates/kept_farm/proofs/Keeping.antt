@@ -50,7 +50,7 @@ beside-front gives H xs n all within =
           ∙ ap (λ (G : List Entry). Some (gives G)) (sym (take-of_take H n (k + 1) (omega arith) within));
     }
 
--- and with one entry more
+-- and with an entry appended
 pub beside-push : {X : Type 0} (gives : List Entry → X) (H : List Entry) (xs : List X) (e : Entry) (x : X) →
     AreBeside gives H xs → x ≡ gives (H ++ e ∷ []) → AreBeside gives (H ++ e ∷ []) (xs ++ x ∷ [])
 beside-push gives H xs e x all is =

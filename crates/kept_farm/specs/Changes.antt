@@ -49,7 +49,7 @@ abbrev pub counts_in : What → Bool
 counts_in (Reported run verdict fate) = is_counted fate
 counts_in what = false
 
--- what is counted with one entry more, where each search is still counted as it stood before
+-- what is counted with an entry appended, where each search is still counted as it stood before
 abbrev pub with_entry : Totals → What → Totals
 with_entry t what = record {
   entries = t.entries + 1;

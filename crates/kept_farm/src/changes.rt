@@ -1,4 +1,4 @@
-//! What one entry more changes: where one search stands, and by it what is counted.
+//! What appending an entry changes: where one search stands, and by it what is counted.
 
 ghost use Rattle.std.specs.Prelude.{◌≡◌, ◌≤◌};
 ghost use Rattle.std.specs.Option.{option_map};
@@ -58,7 +58,7 @@ fn counts_in(what: &What) -> bool
     }
 }
 
-/// What is counted with one entry more, where each search is still counted as it stood before.
+/// What is counted with an entry appended, where each search is still counted as it stood before.
 pub(crate) fn with_entry(totals: Totals, what: &What) -> Totals
     requires { AreFew totals }
     ensures { result ≡ with_entry totals what.now }

@@ -5,7 +5,7 @@
 //! answers. An entry more costs what it changes, and the last one can be taken away again, which takes no memory.
 //!
 //! It stands on `farm_ledger` for the history, its books, the states of the searches, the order of their turns and the orders
-//! that stand; on `search_laws` and `state_laws` for what one entry more changes, on `plain_history` for the list of the
+//! that stand; on `search_laws` and `state_laws` for what appending an entry changes, on `plain_history` for the list of the
 //! orders, and on `farm_entry` for the types and the definitions. The layer above may use every name below.
 #![tactic(auto)]
 

@@ -1,7 +1,8 @@
 //! The traits through which the program meets the outside. A `Source` gives bytes, a `Sink` takes them, a `Link` is both in
 //! one object, and a `Clock` says what moment it is. Their contracts say all that code above may rely on, whatever stands
 //! behind them: which bytes a call moved, that a call which failed moved none, that a call on one half of a link keeps
-//! what the other half has done, and that each failure is counted. Code above is generic over them and proved once.
+//! what the other half has done, whether the last take found the end, and that each failure is counted. Code above is
+//! generic over them and proved once.
 //!
 //! The crate stands on `farm_types` for moments and on `fault_types` for counts. The layers above may use
 //! - the traits with their answers, `take_piece`, which gives the bytes of one take, and `put_all`, which puts a whole

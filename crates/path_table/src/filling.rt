@@ -7,7 +7,7 @@ use matchit::{InsertError, Router};
 use std::alloc::AllocError;
 
 /// Adds a pattern with its value. It has to be read well by `matchit`, and no path that it fits may fit another one of
-/// the router, so that want of memory alone is answered. The router is dropped then.
+/// the router, so that running out of memory alone is answered. The router is dropped then.
 pub fn add_route<T: Drop>(router: &mut Router<T>, pattern: &str, value: T) -> Result<(), AllocError>
     requires { IsFree (parse_route pattern.now) router.old }
     ensures { OnOk result (router.new ≡ with_route (parse_route pattern.now) value router.old) }

@@ -1,4 +1,4 @@
--- What is kept of each search, after one entry more.
+-- What is kept of each search, after appending an entry.
 use Rattle.std.proofs.Common.{◌≡◌, ◌≢◌, ℕ, ◌+◌, ◌<◌, ◌≤◌, List, [], ◌∷◌, ◌++◌, length, set, get_or, Contains, Option, Some, None, sym, ap, subst, ◌∙◌, arith, append-nil, length-append, ⊎_elim}
 use Rattle.std.specs.List.{cons_option}
 use Rattle.std.proofs.lemmas.Bool.{cases_eq, cases_lt}

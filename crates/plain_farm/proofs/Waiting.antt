@@ -1,4 +1,4 @@
--- The leases of a search whose runs have no report, and its last lease, after one entry more.
+-- The leases of a search whose runs have no report, and its last lease, after appending an entry.
 use Rattle.std.proofs.Common.{◌≡◌, ◌≢◌, ℕ, ◌+◌, ◌≤◌, ◌==◌, Bool, true, false, not, ◌&&◌, ◌||◌, if◌then◌else◌, List, [], ◌∷◌, ◌++◌, length, filter, map, nat_lt, get_or, All, Contains, Option, Some, None, refl, sym, ap, ◌∙◌, arith, append-nil}
 use Rattle.std.specs.List.{cons_option, list_any}
 use Rattle.std.proofs.lemmas.Bool.{ne_eqb}

@@ -94,7 +94,7 @@ fn stand(
     Ok((standing, positions))
 }
 
-// A search that one entry more says something of.
+// A search that one more entry says something of.
 
 /// The leases of a search whose runs have no report, found anew.
 fn find_unreported(alloc: Global, history: &[Entry], search: u32) -> Result<Vec<LeasedRun>, Memory>
@@ -206,7 +206,7 @@ fn cancel_row(row: &mut Row)
     row.standing = Standing::Cancelled;
 }
 
-// The rows of all searches, after one entry more.
+// The rows of all searches, after appending an entry.
 
 /// Takes in the search that the last entry of a history opened.
 fn take_opened(

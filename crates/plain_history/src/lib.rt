@@ -2,10 +2,10 @@
 //! orders, the places of keys and reports; and what the farm was founded with.
 //!
 //! Each definition of `farm_entry` on the filters of a history is one function of the same name, whose contract is that
-//! definition, exactly, for any list of entries; want of memory is the only other answer. Nothing is kept from call to
-//! call. What one entry holds, `farm_entry` tells itself. The crate stands on it for the types and the definitions, and
-//! on the crates below it for values. The layer above may use every name below, and cites `specs/Held` and `specs/Tests`
-//! and the lemmas of `proofs/Holding`, `proofs/Items` and `proofs/Passes`.
+//! definition, exactly, for any list of entries; running out of memory is the only other answer. Nothing is kept from
+//! call to call. What one entry holds, `farm_entry` tells itself. The crate stands on it for the types and the
+//! definitions, and on the crates below it for values. The layer above may use every name below, and cites
+//! `specs/Held` and `specs/Tests` and the lemmas of `proofs/Holding`, `proofs/Items` and `proofs/Passes`.
 #![tactic(auto)]
 
 mod filters;

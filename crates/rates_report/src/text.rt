@@ -12,8 +12,8 @@ use flake_book::FlakeBook;
 use rate_line::rate_text;
 use std::alloc::Global;
 
-/// The lines of the tests that a history tells of, in the order of their bytes: how often each failed, in how many runs, at
-/// trees that turned out to be sound, and the flake rate that is offered for it.
+/// The lines of the tests that a history tells of, in the order of their bytes: how often each failed, in how many
+/// runs, at trees that turned out to be sound, and the flake rate that is offered for it.
 ///
 /// # Errors
 ///

@@ -1,4 +1,4 @@
--- The searches whose culprit is confirmed, after one entry more.
+-- The searches whose culprit is confirmed, after appending an entry.
 use Rattle.std.proofs.Common.{◌≡◌, ◌≢◌, ℕ, zero, suc, ◌+◌, ◌==◌, ◌<◌, ◌≤◌, ◌⊎◌, inl, inr, Bool, true, false, List, [], ◌∷◌, ◌++◌, length, map, count_by, Contains, All, Option, Some, None, refl, sym, ap, subst, ◌∙◌, append-nil, ⊎_elim, arith, true≢false}
 use Rattle.std.specs.List.{cons_option, filter_map, range_with_len}
 use Rattle.std.proofs.lemmas.Bool.{cases_Bool, cases_eq}

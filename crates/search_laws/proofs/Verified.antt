@@ -123,7 +123,7 @@ rerun-counts NoCulprit H o l v at_verify h = absurd (true≢false (sym h))
 rerun-counts Inconclusive H o l v at_verify h = absurd (true≢false (sym h))
 rerun-counts Cancelled H o l v at_verify h = absurd (true≢false (sym h))
 
--- With one entry more.
+-- With an entry appended.
 
 is_verify : (s : Stage) → same_stage s Verify ≡ true → s ≡ Verify
 is_verify Search h = absurd (true≢false (sym h))

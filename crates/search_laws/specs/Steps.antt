@@ -1,4 +1,4 @@
--- What one entry more changes.
+-- What appending an entry changes.
 use Rattle.std.specs.Prelude.{◌≡◌, ℕ, ◌==◌, Bool, ◌&&◌, not, List, [], ◌++◌, filter, Some}
 use Rattle.std.specs.List.{cons_option}
 use Rattle.farm_types.specs.declared.stage.Stage.{Stage}

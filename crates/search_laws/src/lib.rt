@@ -1,9 +1,15 @@
-//! Laws of the searches of a farm that say both ways: where a search stands so, and only there; and what its reruns, its
-//! leases and the farm's totals come to.
+//! Laws of the searches of a farm that say both ways: where a search stands so, and only there; and what its reruns,
+//! its leases and the farm's totals come to.
 //!
 //! A function here does nothing: its contract is the law. The crate stands on `farm_entry`, whose definitions the laws
 //! speak of, and on the lemmas of `farm_laws`. `specs/Stands` says of each standing what a history holds where a search
 //! stands so.
+//!
+//! Each standing holds exactly where the history says what it asks for (`beliefs_decide_standings`,
+//! `entries_end_searches`, `named_suspects_stand_by_their_reruns`); a lease is open until its deadline or its report,
+//! and a run is due by the open leases (`leases_are_open_until_their_deadline`, `due_runs_go_by_outstanding_leases`);
+//! reruns are those of a verification (`reruns_are_those_of_a_verification`); the standings add up to the searches
+//! (`standings_add_up_to_the_searches`).
 #![tactic(auto)]
 
 mod outstanding;

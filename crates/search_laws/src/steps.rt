@@ -1,4 +1,4 @@
-//! What one entry more changes, and what it leaves as it was.
+//! What appending an entry changes, and what it leaves as it was.
 ghost use Rattle.std.specs.Prelude.{◌≡◌, ℕ, ◌+◌, Bool, false, List, [], ◌∷◌, ◌++◌, length, count_by, Contains, cond, if◌then◌else◌};
 ghost use Rattle.std.specs.List.{cons_option};
 ghost use Rattle.farm_types.specs.declared.stage.Stage.{Stage};
@@ -27,7 +27,7 @@ pub fn an_entry_changes_one_search()
         → ¬ IsAbout H e.what o.search → standing (H ++ e ∷ []) o ≡ standing H o }
 {}
 
-/// The leases of a search after one entry more are those before and the one that it hands out. The open ones are those of
+/// The leases of a search after appending an entry are those before and the one that it hands out. The open ones are those of
 /// them that were open before or are now, without the one that it reports. The last lease is this entry's, or stays.
 pub fn leases_after_one_entry_more()
     ensures leases { (H : List Entry) (e : Entry) (search : ℕ)
@@ -39,7 +39,7 @@ pub fn leases_after_one_entry_more()
         → last_lease (H ++ e ∷ []) search ≡ (if is_lease_for search e then length H else last_lease H search) }
 {}
 
-/// The totals after one entry more: it is counted itself, with the search that it opens, the order that it gives and the
+/// The totals after appending an entry: it is counted itself, with the search that it opens, the order that it gives and the
 /// report that counts. By any test of a standing, at most one search of those before changes sides: the one that the entry
 /// is about.
 pub fn totals_after_one_entry_more()
@@ -61,7 +61,7 @@ pub fn totals_after_one_entry_more()
         ≡ searches_that test H + cond (test (standing (H ++ e ∷ []) o)) 1 0 }
 {}
 
-/// The searches with a confirmed culprit, by their numbers, after one entry more: the same where no search is
+/// The searches with a confirmed culprit, by their numbers, after appending an entry: the same where no search is
 /// confirmed by it, and else with that search put in at its place.
 pub fn confirmed_searches_after_one_entry_more()
     ensures same { (H : List Entry) (e : Entry) → IsLegal (H ++ e ∷ []) → IsLegal H

@@ -12,16 +12,25 @@ use Rattle.farm_board.proofs.board.Board.TheSendSync as Board
 use Rattle.farm_board.proofs.pass.BoardPass.TheSendSync as BoardPass
 use Rattle.shared_farm.specs.contracts.locked.Locked as Locked
 use Rattle.shared_farm.specs.contracts.farm.SharedFarm as SharedFarm
+use Rattle.shared_farm.specs.contracts.since.StoreSince as StoreSince
+use Rattle.shared_farm.specs.declared.beginning.Beginning as beginning
 
--- what the lock holds, and the shared farm, each over any disk that is `Send`
-pub locked-send : (D : RattleType) (ghosts : Ghosts D.Denot) → IsSend D → IsSend (Locked.the_row D ghosts)
-locked-send D ghosts disk =
-    let store = store-send D ghosts disk in
+-- the store, what the lock holds, and the shared farm, each over any disk that is `Send`
+since-send : (D B : RattleType) (ghosts : Ghosts D.Denot) (begun : beginning.Ghosts B.Denot) → IsSend D → IsSend B
+    → IsSend (StoreSince.the_row D B ghosts begun)
+since-send D B ghosts begun disk mark =
+    let store = store-send D ghosts disk in search (sendable, crosses) depth 20
+
+pub locked-send : (D B : RattleType) (ghosts : Ghosts D.Denot) (begun : beginning.Ghosts B.Denot) → IsSend D → IsSend B
+    → IsSend (Locked.the_row D B ghosts begun)
+locked-send D B ghosts begun disk mark =
+    let store = since-send D B ghosts begun disk mark in
     search (Board.the_send, Board.the_sync, BoardPass.the_send, sendable, crosses) depth 20
 
-pub shared_farm-sync : (D : RattleType) (ghosts : Ghosts D.Denot) → IsSend D → IsSync (SharedFarm.the_row D ghosts)
-shared_farm-sync D ghosts disk =
-    let locked = locked-send D ghosts disk in search (TurnLock.the_sync, sendable, crosses) depth 20
+pub shared_farm-sync : (D B : RattleType) (ghosts : Ghosts D.Denot) (begun : beginning.Ghosts B.Denot) → IsSend D → IsSend B
+    → IsSync (SharedFarm.the_row D B ghosts begun)
+shared_farm-sync D B ghosts begun disk mark =
+    let locked = locked-send D B ghosts begun disk mark in search (TurnLock.the_sync, sendable, crosses) depth 20
 
 -- what a closure takes along to a thread beside the farm
 pub ruleset along = (Pass.the_send, sendable, crosses)

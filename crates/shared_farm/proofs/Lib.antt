@@ -1,3 +1,4 @@
 pub mod Crossing
 pub mod Recorded
+pub mod Resting
 pub mod Turning

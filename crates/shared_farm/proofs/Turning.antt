@@ -7,6 +7,7 @@ use Rattle.farm_entry.specs.declared.entry.Entry.{Entry}
 use Rattle.farm_entry.specs.Legal.{IsLegal}
 use Rattle.farm_store.specs.Answering.{BatchSays}
 use Rattle.farm_store.specs.Faults.{HasCallCause}
+use Rattle.farm_disk.specs.declared.disk.Disk as disk
 use Rattle.farm_store.specs.State.{StoreState}
 use Rattle.farm_store.specs.declared.asking.Answer.{Answer}
 use Rattle.farm_store.specs.declared.asking.Ask.{Ask}
@@ -17,6 +18,7 @@ use Rattle.turn_lock.specs.Known.{Before, IsSettled, Known, MayRise}
 use Rattle.turn_lock.specs.Places.{ArePlaces}
 use Rattle.turn_lock.specs.declared.view.Taken.{Taken}
 use Rattle.turn_lock.proofs.PlaceLists.{ArePlaces-append, ArePlaces-widen}
+use Rattle.shared_farm.specs.Rests.{TurnKeeps, TurnLeaves, rest_of}
 use Rattle.shared_farm.specs.Turns.{AreOwn, IsTurn, StaysSettled, own_places}
 use Rattle.shared_farm.proofs.Recorded.{ArePlaces-own_places, IsOwnFrom}
 
@@ -127,6 +129,20 @@ module _ {D : Type 0} {count : D → ℕ} {old new : Known} {held : Before} {fou
       (IsPrefix-length found.history left.history s.longer)
       (ArePlaces-widen 0 (length old.seen) 0 (length found.history) old.mine (omega arith) le s.places)
       (ArePlaces-own_places found left s.room)))
+
+-- what a crash leaves in a turn of a caller
+pub served-keeps : {D : Type 0} (meant : disk.Ghosts D) {old new : Known} {held : Before} {found left : StoreState D}
+    {own : List ℕ} → IsServed meant.count old new held found left own
+    → (meant.tells found.disk ≡ true → TurnLeaves (rest_of meant found) (rest_of meant left)) → TurnKeeps meant new
+served-keeps meant {found = found} {left = left} s leaves = record {
+  found = found;
+  left = left;
+  took = ap (λ (k : Known). k.last) s.new_is ∙ s.took;
+  seen = ap (λ (k : Known). k.seen) s.new_is;
+  pending = ap (λ (k : Known). k.pending) s.new_is;
+  faults = ap (λ (k : Known). k.faults) s.new_is;
+  leaves = leaves;
+}
 
 length-run : (first count : ℕ) → length (range_with_len first count) ≡ count
 length-run first zero = refl

@@ -1,5 +1,5 @@
 //! The shared farm.
-ghost use Rattle.std.specs.Prelude.{◌≡◌, ◌≤◌, ◌<◌, ◌↔◌, ◌+◌, [], ◌∷◌, true, Some, IfOk, IfErr, length, max};
+ghost use Rattle.std.specs.Prelude.{◌≡◌, ◌≤◌, ◌<◌, ◌↔◌, ◌+◌, [], ◌∷◌, true, Some, IfOk, IfErr, IfSome, length, max};
 ghost use Rattle.entry_codec.specs.LogPage.{log_page};
 ghost use Rattle.farm_entry.specs.Legal.{IsLegal};
 ghost use Rattle.farm_store.specs.Answering.{as_batch};
@@ -7,28 +7,31 @@ ghost use Rattle.farm_store.specs.declared.asking.TheConstants.{MAX_BATCH};
 ghost use Rattle.list_prefix.specs.Prefix.{IsPrefix, longer};
 ghost use Rattle.turn_lock.specs.Known.{IsReady, both_pending, no_turn};
 ghost use Rattle.turn_lock.specs.Places.{ArePlaces, both_places};
+ghost use Rattle.shared_farm.specs.Rests.{CameBy, TurnKeeps};
 ghost use Rattle.shared_farm.specs.Turns.{AreOwn, IsLook, IsTurn, StaysSettled};
 
+use crate::beginning::Beginning;
 use crate::locked::Locked;
 use crate::reader::TotalsReader;
+use crate::since::StoreSince;
 use farm_board::Board;
 use farm_disk::Disk;
 use farm_entry::{Command, Reply};
 use farm_store::{Answers, Ask, CallFault, Store};
 use farm_types::{Memory, Moment};
 use std::alloc::Global;
-use std::marker::Model;
+use std::marker::{Brand, Model};
 use std::sync::{Arc, Wait};
 use turn_lock::{Pass, Places, TurnLock};
 
 /// A farm whose history stands on a disk, for callers in many threads. Contracts see it as the name of its lock, by
-/// which a pass is known to be its own.
+/// which a pass is known to be its own. `B` is what it began with.
 #[derive(Drop)]
-pub struct SharedFarm<D: Disk> {
-    lock: TurnLock<Locked<D>>,
+pub struct SharedFarm<D: Disk, B: Beginning = Brand> {
+    lock: TurnLock<Locked<D, B>>,
 }
 
-impl<D: Disk> Model for SharedFarm<D> {
+impl<D: Disk, B: Beginning> Model for SharedFarm<D, B> {
     ghost use Rattle.atomic_table.specs.Seated.{TableId};
 
     ghost Value = { TableId };
@@ -36,9 +39,10 @@ impl<D: Disk> Model for SharedFarm<D> {
     ghost view = { λ s. s.lock };
 }
 
-impl<D: Disk> SharedFarm<D> {
-    /// The farm of a store, and a pass that has seen just its history. Want of memory hands the store back.
-    pub fn of(alloc: Global, store: Store<D>) -> Result<(SharedFarm<D>, Pass), Store<D>>
+impl<D: Disk, B: Beginning> SharedFarm<D, B> {
+    /// The farm of a store, and a pass that has seen just its history. Running out of memory hands the store back.
+    pub fn of(alloc: Global, store: Store<D>) -> Result<(SharedFarm<D, B>, Pass), Store<D>>
+        requires came { IfSome B.begun (λ begun. CameBy D.Disk begun store) }
         ensures pass { IfOk result (λ made. made.1 ≡ record {
           lock = made.0;
           ready = true;
@@ -58,7 +62,7 @@ impl<D: Disk> SharedFarm<D> {
             return Err(store);
         };
         let locked = Locked {
-            store,
+            store: StoreSince::new(store),
             board,
             posting,
         };
@@ -70,7 +74,7 @@ impl<D: Disk> SharedFarm<D> {
                     board: _,
                     posting: _,
                 } = locked;
-                Err(store)
+                Err(store.into_store())
             }
         }
     }
@@ -131,6 +135,7 @@ impl<D: Disk> SharedFarm<D> {
         ensures ready { IsReady self.now pass.new }
         ensures turn { IsTurn D.count (record { command = command.now; at = at } ∷ []) (as_batch result) pass.old
             pass.new }
+        ensures keeps { TurnKeeps D.Disk pass.new }
         ensures own { AreOwn pass.old pass.new }
         ensures settled { StaysSettled pass.old pass.new }
         ensures longer { IsPrefix pass.old.seen pass.new.seen }
@@ -164,6 +169,7 @@ impl<D: Disk> SharedFarm<D> {
         requires few { length asks.now ≤ MAX_BATCH }
         ensures ready { IsReady self.now pass.new }
         ensures turn { IsTurn D.count asks.now result pass.old pass.new }
+        ensures keeps { TurnKeeps D.Disk pass.new }
         ensures own { AreOwn pass.old pass.new }
         ensures settled { StaysSettled pass.old pass.new }
         ensures longer { IsPrefix pass.old.seen pass.new.seen }
@@ -235,6 +241,7 @@ impl<D: Disk> SharedFarm<D> {
         requires ready { IsReady self pass }
         ensures seen { IsPrefix pass.seen result.history }
         ensures faults { pass.faults ≤ D.count result.disk }
+        ensures came { IfSome B.begun (λ begun. CameBy D.Disk begun result) }
     {
         let SharedFarm { lock } = self;
         let Locked {
@@ -242,6 +249,6 @@ impl<D: Disk> SharedFarm<D> {
             board: _,
             posting: _,
         } = lock.close(rt, pass);
-        store
+        store.into_store()
     }
 }

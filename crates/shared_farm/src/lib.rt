@@ -7,15 +7,22 @@
 //! stand, each once and in its order, and which begins with all that the caller has seen. A [`TotalsReader`] reads the
 //! totals and takes no turn.
 //!
+//! `SharedFarm::close` gives the store back: its history begins with all that the pass has seen, and its disk's count
+//! of faults is at least what the pass knew of it. Where the call that shares the farm picks its [`Beginning`], it is
+//! known too what became of the store turn by turn, and so what a crash leaves at each moment (`specs/Rests`).
+//!
 //! The crate stands on `farm_store` for the farm, on `turn_lock` for turns and passes, and on `farm_board` for the
 //! totals. Contracts see a shared farm as the name of its lock, and a reader as the history that it has seen; what a
 //! turn came to is `IsTurn` of `specs/Turns`. The layers above may use every name below.
 #![tactic(auto)]
 
+mod beginning;
 mod farm;
 mod locked;
 mod reader;
+mod since;
 
+pub use beginning::Beginning;
 pub use farm::SharedFarm;
 pub use reader::TotalsReader;
 pub use turn_lock::Pass;

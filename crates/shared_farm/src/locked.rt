@@ -9,13 +9,16 @@ ghost use Rattle.farm_store.specs.Faults.{HasCallCause};
 ghost use Rattle.farm_store.specs.declared.asking.TheConstants.{MAX_BATCH};
 ghost use Rattle.list_prefix.specs.Prefix.{IsPrefix};
 ghost use Rattle.turn_lock.specs.Known.{MayRise};
+ghost use Rattle.shared_farm.specs.Rests.{TurnLeaves, rest_of};
 
+use crate::beginning::Beginning;
 use crate::reader::TotalsReader;
+use crate::since::StoreSince;
 use entry_codec::write_log_page;
 use farm_board::{Board, BoardPass};
 use farm_disk::Disk;
 use farm_entry::{Command, Reply};
-use farm_store::{Answers, Ask, CallFault, Store};
+use farm_store::{Answers, Ask, CallFault};
 use farm_types::{Memory, Moment};
 use std::alloc::Global;
 use std::sync::Arc;
@@ -24,15 +27,15 @@ use turn_lock::Stands;
 /// A store and the board of its totals, with the pass that posts them. Between two turns the totals of the whole
 /// history are posted.
 #[derive(Drop)]
-pub struct Locked<D: Disk> {
-    pub store: Store<D>,
+pub struct Locked<D: Disk, B: Beginning> {
+    pub store: StoreSince<D, B>,
     pub board: Arc<Board, Global>,
     pub posting: BoardPass,
     pub ghost posts: { (posting.board ≡ arc_value board) × (posting.posts ≡ true) },
     pub ghost posted: { posting.seen ≡ store.history },
 }
 
-impl<D: Disk> Stands for Locked<D> {
+impl<D: Disk, B: Beginning> Stands for Locked<D, B> {
     ghost entries = { λ v. v.store.history };
 
     ghost count = { λ v. D.count v.store.disk };
@@ -40,7 +43,7 @@ impl<D: Disk> Stands for Locked<D> {
     ghost pending = { λ v. v.store.pending };
 }
 
-impl<D: Disk> Locked<D> {
+impl<D: Disk, B: Beginning> Locked<D, B> {
     /// Answers a command, and posts the totals.
     pub fn call(&mut self, alloc: Global, command: &Command, at: Moment) -> Result<Reply, CallFault>
         ensures found { IsLegal self.old.store.history }
@@ -48,6 +51,8 @@ impl<D: Disk> Locked<D> {
         ensures longer { IsPrefix self.old.store.history self.new.store.history }
         ensures recorded { length self.old.store.history + self.new.store.recorded ≤ length self.new.store.history }
         ensures legal { IsLegal self.new.store.history }
+        ensures leaves { D.tells self.old.store.disk ≡ true
+            → TurnLeaves (rest_of D.Disk self.old.store) (rest_of D.Disk self.new.store) }
         ensures cause { HasCallCause result (D.count self.old.store.disk) (D.count self.new.store.disk) }
         ensures settled { D.count self.old.store.disk ≡ D.count self.new.store.disk
             → MayRise (D.count self.new.store.disk) → self.new.store.pending ≡ [] }
@@ -70,6 +75,8 @@ impl<D: Disk> Locked<D> {
         ensures longer { IsPrefix self.old.store.history self.new.store.history }
         ensures recorded { length self.old.store.history + self.new.store.recorded ≤ length self.new.store.history }
         ensures legal { IsLegal self.new.store.history }
+        ensures leaves { D.tells self.old.store.disk ≡ true
+            → TurnLeaves (rest_of D.Disk self.old.store) (rest_of D.Disk self.new.store) }
         ensures cause { HasCallCause result (D.count self.old.store.disk) (D.count self.new.store.disk) }
         ensures settled { D.count self.old.store.disk ≡ D.count self.new.store.disk
             → MayRise (D.count self.new.store.disk) → self.new.store.pending ≡ [] }

@@ -1,4 +1,4 @@
--- What a history holds of all its searches after one entry more.
+-- What a history holds of all its searches after appending an entry.
 use Rattle.std.proofs.Common.{◌≡◌, ◌≢◌, ℕ, zero, suc, ◌+◌, ◌-◌, ◌<◌, ◌≤◌, List, [], ◌∷◌, ◌++◌, length, map, set, get_or, Contains, Option, Some, None, refl, sym, ap, ◌∙◌, append-nil, arith}
 use Rattle.std.specs.List.{cons_option, range_with_len}
 use Rattle.std.proofs.lemmas.List.{map-append}
@@ -89,7 +89,7 @@ about-none H (Opened o) s no_report no_end about = about
 about-none H (Leased k w n x t p d) s no_report no_end about = about
 about-none H (Ordered k a n c x d) s no_report no_end about = about
 
--- What one entry more makes of all searches.
+-- What appending an entry makes of all searches.
 
 same-openings : (H : List Entry) (e : Entry) → opening_in e.what ≡ None → openings (H ++ e ∷ []) ≡ openings H
 same-openings H e none =

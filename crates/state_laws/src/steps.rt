@@ -1,4 +1,4 @@
-//! How one entry more changes the state of a search.
+//! How appending an entry changes the state of a search.
 
 ghost use Rattle.std.specs.Prelude.{◌≡◌, List, [], ◌∷◌, ◌++◌, Contains, Some};
 ghost use Rattle.farm_entry.specs.Decision.{run_with};

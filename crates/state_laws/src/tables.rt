@@ -1,4 +1,4 @@
-//! How one entry more changes the states of all searches, by their numbers.
+//! How appending an entry changes the states of all searches, by their numbers.
 
 ghost use Rattle.std.specs.Prelude.{◌≡◌, ◌-◌, List, [], ◌∷◌, ◌++◌, set, Contains, None, Some};
 ghost use Rattle.farm_entry.specs.Decision.{run_with};

@@ -42,7 +42,7 @@ row_by (Err other) rest = Err fault.Commit
 abbrev pub row_of : (line : List ℕ) → Result TableRow RowFault
 row_of line = row_by (decode_sized (take ID_DIGITS line) ID_BYTES) (drop ID_DIGITS line)
 
--- what was read of a line, unless memory was wanting for it
+-- what was read of a line, unless memory ran out for it
 abbrev pub IsRead : Result TableRow RowFault → Result Row RowFault → Type 0
 IsRead written (Ok row) = written ≡ Ok (row_seen row)
 IsRead written (Err fault.Memory) = ⊤

@@ -41,7 +41,7 @@ impl Row {
     }
 }
 
-/// The row that a line writes. The first of its faults is answered, else want of memory.
+/// The row that a line writes. The first of its faults is answered, else out of memory.
 pub(crate) fn read_row(alloc: Global, line: &[u8]) -> Result<Row, RowFault>
     ensures { IsRead (row_of line.now) result }
 {

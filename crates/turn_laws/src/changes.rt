@@ -1,4 +1,4 @@
-//! How the order of turns goes on with one entry more.
+//! How the order of turns goes on with an entry appended.
 ghost use Rattle.std.specs.Prelude.{◌≡◌, ◌⊎◌, ℕ, true, false, List, [], ◌∷◌, ◌++◌, Contains, None, Some};
 ghost use Rattle.active_order.specs.Order.{has, strike};
 ghost use Rattle.farm_entry.specs.History.{lease_in, opening_in, openings};

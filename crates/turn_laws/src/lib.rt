@@ -1,6 +1,6 @@
 //! Laws of the order in which the active searches of a farm are asked for a run: the run that is handed out next is the
-//! first that is due along it, and so it is found by a walk from each search to the next; and one entry more changes
-//! the order by the search that it opens, leases a run of, or ends.
+//! first that is due along it, and so it is found by a walk from each search to the next; and appending an entry
+//! changes the order by the search that it opens, leases a run of, or ends.
 //!
 //! A function here does nothing: its contract is the law. The crate stands on `farm_entry`, whose definitions the laws
 //! speak of, on the lists of `active_order`, and on the lemmas of `farm_laws`, `decision_laws` and `search_laws`.

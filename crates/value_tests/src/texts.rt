@@ -23,7 +23,7 @@ pub(crate) fn bytes_of(alloc: Global, digits: &str) -> Vec<u8> {
     }
 }
 
-/// Prints how each refusal for want of memory reads.
+/// Prints how each refusal for running out of memory reads.
 pub(crate) fn print_refusals(rt: &impl Print) -> io::Result<()> {
     println!(rt;
         "{}, {}, {}",

@@ -6,6 +6,9 @@
 //! for (`specs/StandsFor.antt`): the plain list of the reruns that counted, by the rules of `farm_rules`, on which it
 //! stands with `weight_exact` for runs. It keeps counts and not reruns, and takes no memory. The layer above may cite
 //! `StandsFor`, `answer` and the fields of a `Verification`.
+//!
+//! After any list of reruns a verification has ended exactly as the rules say of those that counted, and a late rerun
+//! changes nothing. `Verify::counts` tells how many counted at the culprit and at its parent.
 #![tactic(auto)]
 
 pub mod laws;

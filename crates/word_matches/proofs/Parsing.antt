@@ -30,7 +30,7 @@ parsed-found app words m is faultless found = (
   subst (λ (a : App). subcommand_rows_of m ≡ subcommand_of a words) is (found (ap is_simple is ∙ line-simple)).1,
 )
 
--- where it refuses them for another cause than want of memory, one comes
+-- where it refuses them for another cause than running out of memory, one comes
 pub refused-faulty : (app : App) (words : List Text) (e : Error) → app ≡ command_line
     → (is_simple_and_free app ≡ true → HasKind (fault_of app words) e) → kind_of e ≢ kind.OutOfMemory
     → fault_of command_line words ≢ []

@@ -20,7 +20,7 @@ use Rattle.worker_agent.specs.declared.worked.WorkFault.{WorkFault}
 use Rattle.worker_agent.specs.declared.worked.WorkFault.TheVariants.{Memory, NetFault, Peer}
 
 -- What a worker did after its last step that came to an event: nothing, a step by which the work ended, or a request for whose
--- answer memory was wanting
+-- answer memory ran out
 pub data Last : Type 0 where
   nothing : Last
   ended_by : Step → Last
@@ -41,7 +41,7 @@ Tries worker (Some (AskLease key)) x = IsPut (lease_request key worker) x
 Tries worker (Some (SendReport run verdict)) x = IsPut (report_request run verdict) x
 Tries worker action x = ⊥
 
--- A fault that ends the work in its midst: memory is wanting, for a request or for its answer; or the answer is none that
+-- A fault that ends the work in its midst: memory runs out, for a request or for its answer; or the answer is none that
 -- continues the work, or the runner failed
 abbrev pub IsEndedBy : (worker : List ℕ) → AgentState → Last → WorkFault → Type 0
 IsEndedBy worker agent nothing Memory = ⊤

@@ -1,4 +1,4 @@
--- What a body says is never that memory was wanting.
+-- What a body says is never that memory ran out.
 use Rattle.std.proofs.Common.{◌≡◌, ◌≢◌, List, ℕ, Option, Some, None, option_and_then, codes, Result, Ok, Err}
 use Rattle.std.specs.Option.{ok_or}
 use Rattle.serde_json.specs.Data.{Data}

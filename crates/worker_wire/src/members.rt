@@ -27,7 +27,7 @@ pub(crate) fn commit_in(object: &Value, name: &str) -> Result<CommitId, AnswerFa
     object.get(name).and_then(commit).ok_or(AnswerFault::Shape)
 }
 
-/// A name. Want of memory is answered only where the member is one.
+/// A name. Running out of memory is answered only where the member is one.
 #[tactic(auto, unfolding(crate::specs::Answers::member_in))]
 pub(crate) fn name_in(alloc: Global, object: &Value, name: &str) -> Result<Name, AnswerFault>
     ensures read { IfOk result (λ found. member_in name.now form.name (view object.now) ≡ Ok found) }

@@ -4,7 +4,7 @@ ghost use Rattle.farm_disk.specs.Images.{overwritten};
 
 use std::alloc::AllocError;
 
-/// Writes bytes at an index, over what is there and past the end. Where memory is wanting nothing was done.
+/// Writes bytes at an index, over what is there and past the end. Where memory runs out nothing was done.
 pub(super) fn overwrite(held: &mut Vec<u8>, at: usize, bytes: &[u8]) -> Result<(), AllocError>
     requires { at ≤ vec_len held.old }
     ensures ok { OnOk result (held.new.items ≡ overwritten at bytes.now held.old.items) }

@@ -162,7 +162,7 @@ impl Sink for MemLink {
             (self.new ≡ record self.old { plan = plan_after_fault self.old.plan }) }
         ensures rises { OnPutFailed result (Rose self.old.plan.faults self.new.plan.faults) }
 
-        // Any other puts the whole piece, unless memory is wanting, and keeps what was taken.
+        // Any other puts the whole piece, unless memory runs out, and keeps what was taken.
         ensures size { IfPut result (λ n. n ≡ length bytes.now) }
         ensures put { IfPut result (λ _. self.new
             ≡ record self.old { put = self.old.put ++ bytes.now; plan = plan_after_success self.old.plan }) }

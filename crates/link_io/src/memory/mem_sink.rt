@@ -11,7 +11,7 @@ use std::alloc::Global;
 use std::marker::Model;
 
 /// A sink that keeps its bytes in memory, and tells them. It fails at the calls that are listed, and takes every piece
-/// whole otherwise, unless memory is wanting.
+/// whole otherwise, unless memory runs out.
 ///
 /// Contracts see it as the bytes put, and the plan of the calls that are to fail.
 #[derive(Drop)]
@@ -65,7 +65,7 @@ impl Sink for MemSink {
             (self.new ≡ record self.old { plan = plan_after_fault self.old.plan }) }
         ensures rises { OnPutFailed result (Rose self.old.plan.faults self.new.plan.faults) }
 
-        // Any other takes the whole piece, unless memory is wanting.
+        // Any other takes the whole piece, unless memory runs out.
         ensures size { IfPut result (λ n. n ≡ length bytes.now) }
         ensures put { IfPut result (λ _. self.new
             ≡ record { bytes = self.old.bytes ++ bytes.now; plan = plan_after_success self.old.plan }) }

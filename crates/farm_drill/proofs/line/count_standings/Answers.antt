@@ -1,14 +1,12 @@
-use Rattle.std.proofs.Common.{◌≡◌, ◌<◌, ◌≤◌, ◌+◌, ℕ, List, length, take, Some, sym, ap, subst, ◌∙◌, arith}
+use Rattle.std.proofs.Common.{◌≡◌, ◌+◌, ℕ, List, Some, sym, ap, subst, ◌∙◌, arith}
 use Rattle.farm_entry.specs.History.{opening_numbered, openings}
-use Rattle.farm_entry.specs.Legal.{IsLegal}
 use Rattle.farm_entry.specs.declared.entry.Entry.{Entry}
 use Rattle.farm_entry.specs.declared.limits.TheConstants.{MAX_SEARCHES}
-use Rattle.farm_entry.specs.declared.opening.Opening.{Opening}
 use Rattle.farm_entry.specs.Standing.{standing}
 use Rattle.farm_disk.specs.Images.{DiskState}
 use Rattle.farm_store.specs.State.{StoreState}
 use Rattle.farm_laws.proofs.Bounds.{openings-bounded}
-use Rattle.farm_drill.specs.Line.{IsBelow, tally_of, tally_with}
+use Rattle.farm_drill.specs.Line.{IsBelow, tally_with}
 use Rattle.farm_drill.specs.declared.line.Tally.{Tally}
 use Rattle.farm_drill.proofs.Counts.{opening-at, tally-all, tally-below, tally-more}
 use Rattle.farm_drill.proofs.line.count_standings.Goals as goal
@@ -38,9 +36,9 @@ loop-before-preserved c =
     record {
       kept = c.standing_of.ensures.kept ∙ c.loop-before.invariant.kept;
       tally = c.note.ensures
-          ∙ ap (λ (t : Tally). tally_with t c.in_ok-standing_of.field-0) c.loop-before.invariant.tally
-          ∙ tally-more H (openings H) i at.0 c.in_ok-standing_of.field-0 (omega arith) at.2
-          (c.in_ok-standing_of.ensures.standing at.0 numbered
+          ∙ ap (λ (t : Tally). tally_with t c.standing_of.result) c.loop-before.invariant.tally
+          ∙ tally-more H (openings H) i at.0 c.standing_of.result (omega arith) at.2
+          (c.standing_of.ensures.standing at.0 numbered
           ∙ ap (λ (s : StoreState DiskState). standing s.history at.0) c.loop-before.invariant.kept);
     }
 

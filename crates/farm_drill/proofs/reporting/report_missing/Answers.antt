@@ -1,4 +1,4 @@
-use Rattle.std.proofs.Common.{◌≡◌, ◌<◌, ℕ, Bool, true, List, MatchBool, length, get_or, subst, ap, ◌∙◌, arith}
+use Rattle.std.proofs.Common.{◌≡◌, ◌<◌, Bool, true, List, MatchBool, length, get_or, subst, ap, ◌∙◌, arith}
 use Rattle.farm_entry.specs.History.{all_leases, is_reported}
 use Rattle.farm_types.specs.declared.stage.Stage.TheVariants.{Search}
 use Rattle.farm_entry.specs.declared.entry.Entry.{Entry}

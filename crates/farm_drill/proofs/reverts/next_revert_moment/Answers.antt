@@ -1,4 +1,4 @@
-use Rattle.std.proofs.Common.{◌≡◌, ◌+◌, ◌/◌, ◌≤◌, length, false, true, ap, arith}
+use Rattle.std.proofs.Common.{◌≡◌, ◌≤◌, length, false, true, ap, arith}
 use Rattle.farm_entry.specs.History.{order_lines}
 use Rattle.farm_entry.specs.declared.limits.TheConstants.{MAX_ENTRIES}
 use Rattle.farm_entry.specs.declared.reply.Totals.{Totals}

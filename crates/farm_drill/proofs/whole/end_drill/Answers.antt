@@ -1,6 +1,5 @@
-use Rattle.std.proofs.Common.{◌∷◌, [], List, sym, subst, ap, ◌∙◌}
+use Rattle.std.proofs.Common.{◌∷◌, [], sym, subst, ap, ◌∙◌}
 use Rattle.farm_disk.specs.Images.{DiskState}
-use Rattle.farm_entry.specs.declared.entry.Entry.{Entry}
 use Rattle.farm_store.specs.State.{StoreState}
 use Rattle.drill_plan.specs.Start.{drill_founding}
 use Rattle.farm_drill.specs.Drilled.{IsDrilled}

@@ -11,6 +11,7 @@ use Rattle.farm_http.proofs.serve.serve_all.Goals as goal
 pub loop-ended-init : goal.loop-ended-init
 loop-ended-init g c = record {
   ready = c.requires.ready;
+  empty = c.requires.empty;
   legal = c.requires.legal;
   serving = serving-start _ _ _ _ c.args.received.now (front-start c.args.pass.now c.args.reader.now) refl c.requires.nothing;
   never_falls = le_refl _;

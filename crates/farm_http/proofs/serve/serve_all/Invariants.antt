@@ -1,4 +1,4 @@
-use Rattle.std.proofs.Common.{◌≤◌}
+use Rattle.std.proofs.Common.{◌≡◌, ◌≤◌, []}
 use Rattle.connection_laws.specs.Moments.{MayGive}
 use Rattle.connection_laws.specs.Progress.{progress_from}
 use Rattle.farm_entry.specs.Legal.{IsLegal}
@@ -11,6 +11,7 @@ use Rattle.farm_http.proofs.serve.serve_all.Given as goal
 abbrev pub invariant-loop-ended : goal.invariant-loop-ended
 invariant-loop-ended g l = record {
   ready : IsReady l.shared l.pass;
+  empty : l.out ≡ [];
   legal : IsLegal l.reader;
   serving : IsServing (progress_from l.fn.pass.seen l.fn.reader l.fn.pass.faults) (MayGive g.C.Clock l.clock)
       (caller l.fn.pass l.fn.reader) (caller l.pass l.reader) (link_state g.L.Source g.L.Sink l.fn.link)

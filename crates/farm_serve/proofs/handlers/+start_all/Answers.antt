@@ -55,25 +55,29 @@ global = search (sendable, crosses) depth 20
 disk-send : (g : _) (t : _) (c : goal.After-split_off-mine g t) → IsSend (param 1 g.row.D)
 disk-send g t c = search
 
-network-send : (g : _) (t : _) (c : goal.After-split_off-mine g t) → IsSend (param 2 g.row.N)
+beginning-send : (g : _) (t : _) (c : goal.After-split_off-mine g t) → IsSend (param 2 g.row.B)
+beginning-send g t c = search
+
+network-send : (g : _) (t : _) (c : goal.After-split_off-mine g t) → IsSend (param 3 g.row.N)
 network-send g t c = search
 
-clock-sync : (g : _) (t : _) (c : goal.After-split_off-mine g t) → IsSync (param 3 g.row.C)
+clock-sync : (g : _) (t : _) (c : goal.After-split_off-mine g t) → IsSync (param 4 g.row.C)
 clock-sync g t c = search
 
-runtime-sync : (g : _) (t : _) (c : goal.After-split_off-mine g t) → IsSync (param 5 g.row.R)
+runtime-sync : (g : _) (t : _) (c : goal.After-split_off-mine g t) → IsSync (param 6 g.row.R)
 runtime-sync g t c = search
 
 -- the farm may be lent to several threads
-farm-sync : (g : _) (t : _) (c : goal.After-split_off-mine g t) → IsSync (SharedFarm.the_row (param 1 g.row.D) g.D.Disk)
-farm-sync g t c = shared_farm-sync (param 1 g.row.D) g.D.Disk (disk-send g t c)
+farm-sync : (g : _) (t : _) (c : goal.After-split_off-mine g t) → IsSync (SharedFarm.the_row (param 1 g.row.D) (param 2 g.row.B) g.D.Disk g.B.Beginning)
+farm-sync g t c =
+    shared_farm-sync (param 1 g.row.D) (param 2 g.row.B) g.D.Disk g.B.Beginning (disk-send g t c) (beginning-send g t c)
 
 -- and so may the lock round the network
 lock-sync : (g : _) (t : _) (c : goal.After-split_off-mine g t)
-    → IsSync (Mutex.the_row (Gate.the_row (param 2 g.row.N) (param 4 g.row.J) (param 6 g.row.N-End) g.N.Network g.N.End.Source
+    → IsSync (Mutex.the_row (Gate.the_row (param 3 g.row.N) (param 5 g.row.J) (param 7 g.row.N-End) g.N.Network g.N.End.Source
     g.N.End.Sink g.J.Naming g.J.Ledger))
 lock-sync g t c =
-    let held = GateCrosses.the_send (param 2 g.row.N) (param 4 g.row.J) (param 6 g.row.N-End) g.N.Network g.N.End.Source
+    let held = GateCrosses.the_send (param 3 g.row.N) (param 5 g.row.J) (param 7 g.row.N-End) g.N.Network g.N.End.Source
     g.N.End.Sink g.J.Naming g.J.Ledger (network-send g t c) in
     search crosses depth 4
 
@@ -81,4 +85,4 @@ pub spawn_with-requires-send-F : goal.spawn_with-requires-send-F
 spawn_with-requires-send-F g t c κs within =
     handed _ _ _ _ _ _ (shr_send (named 6) κs.1.1.1.1.1.1.0 _ (runtime-sync g t c)) global
     (shr_send (named 7) κs.1.1.1.1.1.1.1.0 _ (lock-sync g t c)) (shr_send (named 8) κs.1.1.1.1.1.1.1.1.0 _ (farm-sync g t c))
-    (shr_send (named 9) κs.1.1.1.1.1.1.1.1.1.0 _ (clock-sync g t c)) (ShareCrosses.the_send (param 4 g.row.J) g.J.Ledger)
+    (shr_send (named 9) κs.1.1.1.1.1.1.1.1.1.0 _ (clock-sync g t c)) (ShareCrosses.the_send (param 5 g.row.J) g.J.Ledger)

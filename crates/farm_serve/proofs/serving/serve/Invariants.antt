@@ -1,5 +1,7 @@
+use Rattle.std.specs.Prelude.{Some}
+use Rattle.shared_farm.specs.Rests.{begun_of}
 use Rattle.farm_serve.proofs.serving.serve.Given as goal
 
--- whether the disk tells
-abbrev pub ghosts-serve_on : goal.ghosts-serve_on
-ghosts-serve_on g a = record { tells = g.D.Disk.tells a.disk }
+-- what the farm begins with
+abbrev pub ghosts-serve_store : goal.ghosts-serve_store
+ghosts-serve_store g a = record { begun = Some (begun_of g.D.Disk a.store) }

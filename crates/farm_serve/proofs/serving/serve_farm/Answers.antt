@@ -4,12 +4,15 @@ use Rattle.farm_serve.specs.Standings.{IsClosed}
 use Rattle.farm_serve.specs.declared.standing.Standing.{Standing}
 use Rattle.farm_serve.proofs.serving.serve_farm.Goals as goal
 
-pub returns : goal.returns
-returns g c = record {
-  comes =
-      comes g.J.Naming.entry _ g.J.Naming.gives _ _ _ _ _ _ c.requires.entry
-      (subst (λ (s : Standing). IsClosed s ⊎ (s.short ≡ true)) (sym c.finish-network.ensures.standing) c.serve_rest.ensures.closed)
-      c.finish-network.ensures.pass.begins
-      record { longer = c.close-store.ensures.seen; more = c.close-store.ensures.faults }
-      c.requires.gives.there c.finish-network.ensures.gained c.finish-network.ensures.rose c.finish-network.ensures.never_falls;
-}
+pub returns-clause-comes : goal.returns-clause-comes
+returns-clause-comes g c =
+    comes g.J.Naming.entry _ g.J.Naming.gives _ _ _ _ _ _ c.requires.entry
+    (subst (λ (s : Standing). IsClosed s ⊎ (s.short ≡ true)) (sym c.finish-network.ensures.standing)
+    c.serve_rest.ensures.closed)
+    c.finish-network.ensures.pass.begins
+    record { longer = c.close-store.ensures.seen; more = c.close-store.ensures.faults }
+    c.requires.gives.there c.finish-network.ensures.gained c.finish-network.ensures.rose
+    c.finish-network.ensures.never_falls
+
+pub returns-clause-came : goal.returns-clause-came
+returns-clause-came g c = c.close-store.ensures.came

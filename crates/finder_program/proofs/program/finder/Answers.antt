@@ -46,7 +46,7 @@ returns-in-Ok-Some-RunJournal-clause-run_journal_completes g c = λ is.
     (streams g.S.Source g.K.Sink ran.new.input ran.new.output) (disk_seen g.D.Disk c.args.disk)
     (disk_seen g.D.Disk ran.result.1) ran.ensures.ends ran.ensures.cause
 
--- where memory was wanting to read the words
+-- where memory ran out to read the words
 pub returns-in-Err-clause-run_completes : goal.returns-in-Err-clause-run_completes
 returns-in-Err-clause-run_completes g c = λ is. (script.Memory, refl, λ reads writes all told. inl refl)
 

@@ -18,6 +18,7 @@ returns-in-Ok-clause-ends g c =
         legal = opened.legal;
         stored = opened.stored;
         only = opened.only;
+        never_falls = opened.never_falls;
       }) ran.2,
     )
 

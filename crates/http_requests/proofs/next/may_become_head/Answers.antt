@@ -5,14 +5,14 @@ use Rattle.http_requests.proofs.Read.{never-whole, whole-HasHead}
 use Rattle.http_requests.proofs.next.may_become_head.Goals as goal
 
 pub unreachable-requires : goal.unreachable-requires
-unreachable-requires c =
+unreachable-requires g c =
     let spans = c.front_of.new.spans in
     let room : length spans ≡ MAX_FIELDS = search rules in
     let found = c.in-Head.ensures.says.1 in
     c.requires.none found.0 (whole-HasHead c.args.bytes.now spans c.in-Head.field-0 found.0 c.requires.few room found.1)
 
 pub returns-in-Never-clause-never : goal.returns-in-Never-clause-never
-returns-in-Never-clause-never c same ended =
+returns-in-Never-clause-never g c same ended =
     let bytes = c.args.bytes.now in
     let spans = c.front_of.new.spans in
     let room : length spans ≡ MAX_FIELDS = search rules in

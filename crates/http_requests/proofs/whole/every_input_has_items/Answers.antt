@@ -1,4 +1,4 @@
-use Rattle.std.proofs.Common.{◌≤◌, length, arith}
+use Rattle.std.proofs.Common.{arith}
 use Rattle.http_requests.proofs.Inputs.{read-closed, read-ended, read-on, read-some}
 use Rattle.http_requests.proofs.whole.every_input_has_items.Goals as goal
 

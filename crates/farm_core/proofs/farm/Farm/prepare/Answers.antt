@@ -1,4 +1,6 @@
-use Rattle.std.proofs.Common.{sym, ◌∙◌}
+use Rattle.std.proofs.Common.{◌++◌, ◌∷◌, [], sym, subst, ◌∙◌}
+use Rattle.farm_entry.specs.Legal.{IsLegal}
+use Rattle.farm_entry.specs.declared.entry.Entry.{Entry}
 use Rattle.farm_laws.proofs.Induct.{IsLegal-push}
 use Rattle.farm_laws.proofs.Recorded.{recorded}
 use Rattle.farm_core.proofs.farm.Farm.prepare.Goals as goal
@@ -8,4 +10,5 @@ prepare_new-requires-clause-next c =
     let H = c.forget_ready.new.self.history in
     let e = c.in-New.entry in
     let said = c.in_ok-refusal.ensures in
-    IsLegal-push H e said.legal (recorded H c.args.command.now c.args.at e (sym said.decided ∙ c.in-New.is))
+    subst (λ (x : Entry). IsLegal (H ++ x ∷ [])) (sym c.in_ok-copy-in-New.ensures)
+    (IsLegal-push H e said.legal (recorded H c.args.command.now c.args.at e (sym said.decided ∙ c.in-New.is)))

@@ -3,7 +3,7 @@ use Rattle.turn_lock.specs.Places.{ArePlaces}
 use Rattle.turn_lock.specs.declared.view.Taken.{Taken}
 use Rattle.shared_farm.specs.Turns.{own_places}
 use Rattle.shared_farm.proofs.Recorded.{ArePlaces-own_places, recorded-own}
-use Rattle.shared_farm.proofs.Turning.{IsServed, own_places-told, served-longer, served-own, served-places, served-settled, served-turn}
+use Rattle.shared_farm.proofs.Turning.{IsServed, own_places-told, served-keeps, served-longer, served-own, served-places, served-settled, served-turn}
 use Rattle.shared_farm.proofs.farm.SharedFarm.call_batch.Goals as goal
 
 pub back-requires-clause-places : goal.back-requires-clause-places
@@ -57,6 +57,9 @@ returns-clause-turn g c =
     let count = g.D.Disk.count in
     served-turn (served g c) c.args.asks.now answer.result answer.ensures.says
     answer.ensures.cause
+
+pub returns-clause-keeps : goal.returns-clause-keeps
+returns-clause-keeps g c = served-keeps g.D.Disk (served g c) c.call_batch-result.ensures.leaves
 
 pub returns-clause-own : goal.returns-clause-own
 returns-clause-own g c = served-own (served g c)

@@ -1,0 +1,265 @@
+-- Texts that are written piece by piece are those of the replies.
+use Rattle.std.proofs.Common.{◌≡◌, ℕ, ◌+◌, ◌<◌, ◌≤◌, List, [], ◌∷◌, ◌++◌, length, get_or, drop, map, codes, decimal, true, Option, Some, None, refl, sym, ap, ◌∙◌, add-one, append_assoc, append-nil, drop-cons}
+use Rattle.std.proofs.lemmas.List.{drop_all}
+use Rattle.json.specs.Print.{escape_byte, quoted}
+use Rattle.serde_json.specs.Data.{string}
+use Rattle.serde_json.specs.View.{items_of}
+use Rattle.serde_json.specs.Written.{compact_text, items_text}
+use Rattle.weight_exact.specs.declared.run.Verdict.{Verdict}
+use Rattle.farm_types.specs.CommitId.{id_digits}
+use Rattle.farm_types.specs.declared.commit_id.CommitId.{CommitId}
+use Rattle.farm_types.specs.declared.stage.Stage.{Stage}
+use Rattle.farm_entry.specs.declared.entry.Fate.{Fate}
+use Rattle.farm_entry.specs.declared.reply.Reply.TheVariants as reply
+use Rattle.farm_entry.specs.declared.reply.SearchPage.{SearchPage}
+use Rattle.farm_entry.specs.declared.reply.Totals.{Totals}
+use Rattle.farm_entry.specs.declared.standing.Standing.{Standing}
+use Rattle.farm_wire.specs.Dates.{day_text}
+use Rattle.farm_wire.specs.Members.{Named, commit_value, culprit_in, standing_word, where_some, whole, wholes, with_member}
+use Rattle.farm_wire.specs.Pieces.{commit_piece, fate_name, number_piece}
+use Rattle.farm_wire.specs.Replies.{fate_word, page_data, reply_data, reply_of, stage_word, totals_data, verdict_word}
+
+-- pieces put behind a text, one after the other
+abbrev pub put_behind : List ℕ → List (List ℕ) → List ℕ
+put_behind text [] = text
+put_behind text (piece ∷ more) = put_behind (text ++ piece) more
+
+-- pieces as one text
+abbrev pub joined : List (List ℕ) → List ℕ
+joined [] = []
+joined (piece ∷ more) = piece ++ joined more
+
+pub put_behind-joined : (text : List ℕ) (pieces : List (List ℕ)) → put_behind text pieces ≡ text ++ joined pieces
+put_behind-joined text [] = sym (append-nil text)
+put_behind-joined text (piece ∷ more) = put_behind-joined (text ++ piece) more ∙ append_assoc text piece (joined more)
+
+-- what a piece is put behind, in its place
+pub behind : {new old known : List ℕ} (piece : List ℕ) → new ≡ old ++ piece → old ≡ known → new ≡ known ++ piece
+behind piece put is = put ∙ ap (λ text. text ++ piece) is
+
+abbrev pub totals_pieces : List ℕ → Totals → List (List ℕ)
+totals_pieces kind t =
+    (codes "{\"confirmed\":" ++ decimal t.confirmed)
+    ∷ (codes ",\"counted\":" ++ decimal t.counted)
+    ∷ (codes ",\"ended\":" ++ decimal t.ended)
+    ∷ (codes ",\"entries\":" ++ decimal t.entries)
+    ∷ (codes ",\"orders\":" ++ decimal t.orders)
+    ∷ (codes ",\"reply\":" ++ quoted kind)
+    ∷ (codes ",\"searches\":" ++ decimal t.searches)
+    ∷ (codes ",\"searching\":" ++ decimal t.searching)
+    ∷ (codes ",\"verifying\":" ++ decimal t.verifying)
+    ∷ codes "}"
+    ∷ []
+
+pub joined-totals : (kind : List ℕ) (t : Totals) → joined (totals_pieces kind t) ≡ compact_text (totals_data kind t)
+unfolding totals_data with_member escape_byte
+joined-totals kind t = refl
+
+abbrev pub page_pieces : SearchPage → (shares word test : List ℕ) → List (List ℕ)
+page_pieces page shares word test =
+    (codes "{\"budget\":" ++ decimal page.budget)
+    ∷ commit_piece (codes ",\"commit\":") page.commit
+    ∷ (codes ",\"counted\":" ++ decimal page.counted)
+    ∷ number_piece (codes ",\"culprit\":") (culprit_in page.standing)
+    ∷ (codes ",\"leases\":" ++ decimal page.leases)
+    ∷ (codes ",\"reply\":\"search\",\"search\":" ++ decimal page.search)
+    ∷ codes ",\"shares\":"
+    ∷ compact_text (wholes shares)
+    ∷ (codes ",\"standing\":" ++ quoted word)
+    ∷ (codes ",\"test\":" ++ quoted test)
+    ∷ (codes ",\"verified\":" ++ decimal page.verified)
+    ∷ codes "}"
+    ∷ []
+
+-- where a search stands, as its word and the position that it names
+abbrev standing_at : List ℕ → Option ℕ → List Named
+standing_at word culprit = (codes "standing", string word) ∷ where_some (codes "culprit") whole culprit
+
+joined-page_at : (search budget leases counted verified : ℕ) (test word shares : List ℕ) (commit : Option CommitId)
+    (culprit : Option ℕ)
+    → joined
+    ((codes "{\"budget\":" ++ decimal budget)
+    ∷ commit_piece (codes ",\"commit\":") commit
+    ∷ (codes ",\"counted\":" ++ decimal counted)
+    ∷ number_piece (codes ",\"culprit\":") culprit
+    ∷ (codes ",\"leases\":" ++ decimal leases)
+    ∷ (codes ",\"reply\":\"search\",\"search\":" ++ decimal search)
+    ∷ codes ",\"shares\":"
+    ∷ compact_text (wholes shares)
+    ∷ (codes ",\"standing\":" ++ quoted word)
+    ∷ (codes ",\"test\":" ++ quoted test)
+    ∷ (codes ",\"verified\":" ++ decimal verified)
+    ∷ codes "}"
+    ∷ [])
+    ≡ compact_text
+    (reply_of (codes "search")
+    ((codes "search", whole search)
+    ∷ (codes "test", string test)
+    ∷ (codes "budget", whole budget)
+    ∷ (codes "leases", whole leases)
+    ∷ (codes "counted", whole counted)
+    ∷ (codes "verified", whole verified)
+    ∷ (codes "shares", wholes shares)
+    ∷ (where_some (codes "commit") commit_value commit ++ standing_at word culprit)))
+unfolding with_member escape_byte
+joined-page_at search budget leases counted verified test word shares None None = refl
+joined-page_at search budget leases counted verified test word shares None (Some culprit) = refl
+joined-page_at search budget leases counted verified test word shares (Some commit) None = refl
+joined-page_at search budget leases counted verified test word shares (Some commit) (Some culprit) = refl
+
+pub joined-page : (page : SearchPage)
+    → joined (page_pieces page page.shares (standing_word page.standing) page.test) ≡ compact_text (page_data page)
+unfolding page_data
+joined-page page =
+    joined-page_at page.search page.budget page.leases page.counted page.verified page.test
+    (standing_word page.standing) page.shares page.commit (culprit_in page.standing)
+
+abbrev pub opened_pieces : ℕ → ℕ → Standing → (word : List ℕ) → List (List ℕ)
+opened_pieces search budget standing word =
+    (codes "{\"budget\":" ++ decimal budget)
+    ∷ number_piece (codes ",\"culprit\":") (culprit_in standing)
+    ∷ (codes ",\"reply\":\"open\",\"search\":" ++ decimal search)
+    ∷ (codes ",\"standing\":" ++ quoted word)
+    ∷ codes "}"
+    ∷ []
+
+joined-opened_at : (search budget : ℕ) (word : List ℕ) (culprit : Option ℕ)
+    → joined
+    ((codes "{\"budget\":" ++ decimal budget)
+    ∷ number_piece (codes ",\"culprit\":") culprit
+    ∷ (codes ",\"reply\":\"open\",\"search\":" ++ decimal search)
+    ∷ (codes ",\"standing\":" ++ quoted word)
+    ∷ codes "}"
+    ∷ [])
+    ≡ compact_text
+    (reply_of (codes "open")
+    ((codes "search", whole search) ∷ (codes "budget", whole budget) ∷ standing_at word culprit))
+unfolding with_member escape_byte
+joined-opened_at search budget word None = refl
+joined-opened_at search budget word (Some culprit) = refl
+
+pub joined-opened : (search budget : ℕ) (standing : Standing)
+    → joined (opened_pieces search budget standing (standing_word standing))
+    ≡ compact_text (reply_data (reply.Opened search budget standing))
+unfolding reply_data
+joined-opened search budget standing = joined-opened_at search budget (standing_word standing) (culprit_in standing)
+
+abbrev pub leased_pieces : ℕ → ℕ → ℕ → CommitId → ℕ → (word test : List ℕ) → List (List ℕ)
+leased_pieces run search position commit deadline word test =
+    (codes "{\"commit\":" ++ quoted (id_digits commit))
+    ∷ (codes ",\"deadline\":" ++ decimal deadline)
+    ∷ (codes ",\"position\":" ++ decimal position)
+    ∷ (codes ",\"reply\":\"lease\",\"run\":" ++ decimal run)
+    ∷ (codes ",\"search\":" ++ decimal search)
+    ∷ (codes ",\"stage\":" ++ quoted word)
+    ∷ (codes ",\"test\":" ++ quoted test)
+    ∷ codes "}"
+    ∷ []
+
+pub joined-leased : (run search : ℕ) (stage : Stage) (position : ℕ) (commit : CommitId) (test : List ℕ) (deadline : ℕ)
+    → joined (leased_pieces run search position commit deadline (stage_word stage) test)
+    ≡ compact_text (reply_data (reply.Leased run search stage position commit test deadline))
+unfolding reply_data with_member escape_byte
+joined-leased run search stage position commit test deadline = refl
+
+abbrev pub reported_pieces : ℕ → ℕ → Standing → (name fate word verdict : List ℕ) → List (List ℕ)
+reported_pieces run search standing name fate word verdict =
+    number_piece (codes "{\"culprit\":") (culprit_in standing)
+    ∷ (name ++ quoted fate)
+    ∷ (codes ",\"reply\":\"report\",\"run\":" ++ decimal run)
+    ∷ (codes ",\"search\":" ++ decimal search)
+    ∷ (codes ",\"standing\":" ++ quoted word)
+    ∷ (codes ",\"verdict\":" ++ quoted verdict)
+    ∷ codes "}"
+    ∷ []
+
+joined-reported_at : (run search : ℕ) (verdict fate word : List ℕ) (culprit : Option ℕ)
+    → joined
+    (number_piece (codes "{\"culprit\":") culprit
+    ∷ (fate_name culprit ++ quoted fate)
+    ∷ (codes ",\"reply\":\"report\",\"run\":" ++ decimal run)
+    ∷ (codes ",\"search\":" ++ decimal search)
+    ∷ (codes ",\"standing\":" ++ quoted word)
+    ∷ (codes ",\"verdict\":" ++ quoted verdict)
+    ∷ codes "}"
+    ∷ [])
+    ≡ compact_text
+    (reply_of (codes "report")
+    ((codes "run", whole run)
+    ∷ (codes "search", whole search)
+    ∷ (codes "verdict", string verdict)
+    ∷ (codes "fate", string fate)
+    ∷ standing_at word culprit))
+unfolding with_member escape_byte
+joined-reported_at run search verdict fate word None = refl
+joined-reported_at run search verdict fate word (Some culprit) = refl
+
+pub joined-reported : (run search : ℕ) (verdict : Verdict) (fate : Fate) (standing : Standing)
+    → joined
+    (reported_pieces run search standing (fate_name (culprit_in standing)) (fate_word fate) (standing_word standing)
+    (verdict_word verdict))
+    ≡ compact_text (reply_data (reply.Reported run search verdict fate standing))
+unfolding reply_data
+joined-reported run search verdict fate standing =
+    joined-reported_at run search (verdict_word verdict) (fate_word fate) (standing_word standing) (culprit_in standing)
+
+abbrev pub cancelled_pieces : ℕ → List (List ℕ)
+cancelled_pieces search =
+    (codes "{\"reply\":\"cancel\",\"search\":" ++ decimal search) ∷ codes ",\"standing\":\"cancelled\"}" ∷ []
+
+pub joined-cancelled : (search : ℕ)
+    → joined (cancelled_pieces search) ≡ compact_text (reply_data (reply.Cancelled search))
+unfolding reply_data with_member escape_byte
+joined-cancelled search = refl
+
+abbrev pub ordered_pieces : ℕ → CommitId → ℕ → ℕ → (date : List ℕ) → List (List ℕ)
+ordered_pieces order commit search day date =
+    (codes "{\"commit\":" ++ quoted (id_digits commit))
+    ∷ (codes ",\"date\":" ++ quoted date)
+    ∷ (codes ",\"day\":" ++ decimal day)
+    ∷ (codes ",\"order\":" ++ decimal order)
+    ∷ (codes ",\"reply\":\"revert\",\"search\":" ++ decimal search)
+    ∷ codes "}"
+    ∷ []
+
+pub joined-ordered : (order : ℕ) (commit : CommitId) (search day : ℕ)
+    → joined (ordered_pieces order commit search day (day_text day))
+    ≡ compact_text (reply_data (reply.Ordered order commit search day))
+unfolding reply_data with_member escape_byte
+joined-ordered order commit search day = refl
+
+-- Arrays of numbers, of what stands before and what is left.
+
+-- what an array goes on with behind some of its numbers
+abbrev pub goes_on : List ℕ → List ℕ
+goes_on numbers = items_text true (items_of (map whole numbers))
+
+pub more-next : (old new numbers : List ℕ) (i : ℕ) → i < length numbers
+    → new ≡ old ++ (codes "," ++ decimal (get_or numbers i 0))
+    → new ++ goes_on (drop (i + 1) numbers) ≡ old ++ goes_on (drop i numbers)
+more-next old new numbers i within put =
+    let n = get_or numbers i 0 in
+    let cons : drop i numbers ≡ n ∷ drop (i + 1) numbers = rw (add-one, drop-cons numbers i 0) refl in
+    ap (λ text. text ++ goes_on (drop (i + 1) numbers)) put
+    ∙ append_assoc old (codes "," ++ decimal n) (goes_on (drop (i + 1) numbers))
+    ∙ ap (λ rest. old ++ goes_on rest) (sym cons)
+
+pub more-all : (start old new numbers : List ℕ) (i : ℕ) → length numbers ≤ i
+    → old ++ goes_on (drop i numbers) ≡ start ++ goes_on numbers → new ≡ old ++ codes "]"
+    → new ≡ start ++ goes_on numbers
+more-all start old new numbers i ended before put =
+    let none : drop i numbers ≡ [] = drop_all i numbers ended in
+    put ∙ ap (λ rest. old ++ goes_on rest) (sym none) ∙ before
+
+pub array-some : (old begun new numbers more : List ℕ) (first : ℕ) → numbers ≡ first ∷ more
+    → begun ≡ old ++ (codes "[" ++ decimal first) → new ≡ begun ++ goes_on more
+    → new ≡ old ++ compact_text (wholes numbers)
+array-some old begun new numbers more first is begin put =
+    put
+    ∙ ap (λ text. text ++ goes_on more) begin
+    ∙ append_assoc old (codes "[" ++ decimal first) (goes_on more)
+    ∙ ap (λ ns. old ++ compact_text (wholes ns)) (sym is)
+
+pub array-none : (old new numbers : List ℕ) → numbers ≡ [] → new ≡ old ++ codes "[]"
+    → new ≡ old ++ compact_text (wholes numbers)
+array-none old new numbers none put = put ∙ ap (λ ns. old ++ compact_text (wholes ns)) (sym none)

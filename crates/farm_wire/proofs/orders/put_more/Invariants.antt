@@ -1,0 +1,6 @@
+use Rattle.std.proofs.Common.{◌≡◌, ◌++◌, drop}
+use Rattle.farm_wire.proofs.WrittenOrders.{orders_on}
+use Rattle.farm_wire.proofs.orders.put_more.Given as goal
+
+abbrev pub invariant-loop-line : goal.invariant-loop-line
+invariant-loop-line l = l.out ++ orders_on (drop l.line-index l.lines) ≡ l.fn.out ++ orders_on l.lines

@@ -1,0 +1,20 @@
+-- Pieces that texts of replies are written of.
+use Rattle.std.specs.Prelude.{ℕ, List, [], ◌++◌, codes, decimal, Option, Some, None}
+use Rattle.json.specs.Print.{quoted}
+use Rattle.farm_types.specs.CommitId.{id_digits}
+use Rattle.farm_types.specs.declared.commit_id.CommitId.{CommitId}
+
+-- a number behind a piece, where there is one
+abbrev pub number_piece : List ℕ → Option ℕ → List ℕ
+number_piece piece None = []
+number_piece piece (Some n) = piece ++ decimal n
+
+-- the id of a commit between quotes behind a piece, where there is one
+abbrev pub commit_piece : List ℕ → Option CommitId → List ℕ
+commit_piece piece None = []
+commit_piece piece (Some commit) = piece ++ quoted (id_digits commit)
+
+-- what stands before what became of a run, behind a culprit, if there is one
+abbrev pub fate_name : Option ℕ → List ℕ
+fate_name None = codes "{\"fate\":"
+fate_name (Some culprit) = codes ",\"fate\":"

@@ -1,0 +1,176 @@
+//! A JSON text in the making, whose pieces are written one after the other.
+
+ghost use Rattle.std.specs.Prelude.{◌≡◌, ◌++◌, [], IfOk, IsTrue, OnOk, decimal, map, string_bytes, true};
+ghost use Rattle.std.specs.List.{list_all};
+ghost use Rattle.json.specs.Print.{escape, quoted};
+ghost use Rattle.json.specs.Run.{is_plain};
+ghost use Rattle.serde_json.specs.View.{items_of};
+ghost use Rattle.serde_json.specs.Written.{compact_text, items_text};
+ghost use Rattle.farm_types.specs.CommitId.{id_digits};
+ghost use Rattle.farm_wire.specs.Members.{culprit_in, whole, wholes};
+ghost use Rattle.farm_wire.specs.Pieces.{commit_piece, number_piece};
+
+use crate::standing::culprit_in;
+use farm_entry::Standing;
+use farm_types::{CommitId, ID_DIGITS, Memory};
+use itoa::Buffer;
+use serde_json::Value;
+use std::alloc::Global;
+use std::marker::Model;
+
+/// How many bytes a text has room for at first, which most answers stay below.
+const FIRST_ROOM: usize = 512;
+
+/// A text that is written from its first byte to its last. A contract sees it as its bytes.
+#[derive(Drop)]
+pub(crate) struct JsonText {
+    alloc: Global,
+    text: String,
+}
+
+impl Model for JsonText {
+    ghost use Rattle.std.specs.Prelude.{ℕ, List};
+    ghost use Rattle.std.specs.String.{string_bytes};
+
+    ghost Value = { List ℕ };
+
+    ghost view = { λ t. string_bytes t.text };
+}
+
+impl JsonText {
+    /// No byte yet.
+    pub(crate) fn new(alloc: Global) -> Result<JsonText, Memory>
+        ensures { IfOk result (λ made. made ≡ []) }
+    {
+        let text = String::with_capacity(alloc, FIRST_ROOM)?;
+        Ok(JsonText { alloc, text })
+    }
+
+    /// The text.
+    pub(crate) fn into_text(self) -> String
+        ensures { string_bytes result ≡ self }
+    {
+        let JsonText { alloc: _, text } = self;
+        text
+    }
+
+    /// Puts a piece behind what is written, as it is.
+    pub(crate) fn put(&mut self, piece: &str) -> Result<(), Memory>
+        ensures { OnOk result (self.new ≡ self.old ++ piece.now) }
+    {
+        Ok(self.text.push_str(piece)?)
+    }
+
+    /// Puts a whole number behind a piece.
+    pub(crate) fn put_number(&mut self, piece: &str, number: u64) -> Result<(), Memory>
+        ensures { OnOk result (self.new ≡ self.old ++ (piece.now ++ decimal number)) }
+    {
+        self.text.push_str(piece)?;
+        let mut digits = Buffer::new();
+        Ok(self.text.push_str(digits.format(number))?)
+    }
+
+    /// Puts a text between quotes behind a piece, with the escapes that it needs.
+    pub(crate) fn put_text(&mut self, piece: &str, text: &str) -> Result<(), Memory>
+        ensures { OnOk result (self.new ≡ self.old ++ (piece.now ++ quoted text.now)) }
+    {
+        self.text.push_str(piece)?;
+        if is_plain(text.as_bytes()) {
+            self.put_plain(text)
+        } else {
+            let escaped = Value::try_from_str(self.alloc, text)?.to_string(self.alloc)?;
+            Ok(self.text.push_str(escaped.as_str())?)
+        }
+    }
+
+    /// Puts a text that needs no escape between quotes.
+    fn put_plain(&mut self, text: &str) -> Result<(), Memory>
+        requires { escape text.now ≡ text.now }
+        ensures { OnOk result (self.new ≡ self.old ++ quoted text.now) }
+    {
+        self.text.push_str("\"")?;
+        self.text.push_str(text)?;
+        Ok(self.text.push_str("\"")?)
+    }
+
+    /// Puts the id of a commit between quotes behind a piece.
+    pub(crate) fn put_commit(&mut self, piece: &str, commit: &CommitId) -> Result<(), Memory>
+        ensures { OnOk result (self.new ≡ self.old ++ (piece.now ++ quoted (id_digits commit.now))) }
+    {
+        self.text.push_str(piece)?;
+        let mut out = [0; ID_DIGITS];
+        commit.digits(&mut out);
+        let Ok(digits) = std::str::from_utf8(&out) else {
+            unreachable!()
+        };
+        self.put_plain(digits)
+    }
+
+    /// Puts the id of a commit between quotes behind a piece, where there is one.
+    pub(crate) fn put_commit_if(
+        &mut self,
+        piece: &str,
+        commit: &Option<CommitId>,
+    ) -> Result<(), Memory>
+        ensures { OnOk result (self.new ≡ self.old ++ commit_piece piece.now commit.now) }
+    {
+        match commit {
+            Some(commit) => self.put_commit(piece, commit),
+            None => Ok(()),
+        }
+    }
+
+    /// Puts the position that a standing names behind a piece, where there is one.
+    pub(crate) fn put_culprit(&mut self, piece: &str, standing: Standing) -> Result<(), Memory>
+        ensures { OnOk result (self.new ≡ self.old ++ number_piece piece.now (culprit_in standing)) }
+    {
+        match culprit_in(standing) {
+            Some(culprit) => self.put_number(piece, culprit as u64),
+            None => Ok(()),
+        }
+    }
+
+    /// Puts an array of whole numbers.
+    pub(crate) fn put_numbers(&mut self, numbers: &[u32]) -> Result<(), Memory>
+        ensures { OnOk result (self.new ≡ self.old ++ compact_text (wholes numbers.now)) }
+    {
+        match numbers.split_first() {
+            Some((first, more)) => {
+                self.put_number("[", *first as u64)?;
+                self.put_more(more)
+            }
+            None => self.put("[]"),
+        }
+    }
+
+    /// Puts what an array of whole numbers goes on with, behind its first.
+    fn put_more(&mut self, numbers: &[u32]) -> Result<(), Memory>
+        ensures { OnOk result (self.new ≡ self.old ++ items_text true (items_of (map whole numbers.now))) }
+    {
+        for number in numbers {
+            self.put_number(",", *number as u64)?;
+        }
+        self.put("]")
+    }
+}
+
+/// Whether a text needs no escape between quotes.
+fn is_plain(text: &[u8]) -> bool
+    ensures { IsTrue result → escape text.now ≡ text.now }
+{
+    all_plain(text)
+}
+
+/// Whether each byte stands for itself between quotes.
+fn all_plain(text: &[u8]) -> bool
+    ensures { result ≡ list_all is_plain text.now }
+{
+    text.iter().all(|byte| is_plain_byte(*byte))
+}
+
+/// Whether a byte does.
+fn is_plain_byte(byte: u8) -> bool
+    ensures { result ≡ is_plain byte }
+{
+    !(byte == b'"' || byte == b'\\' || byte < 0x20)
+}

@@ -1,0 +1,53 @@
+//! Some bytes of a head at once.
+ghost use Rattle.std.specs.Prelude.{◌≡◌, ◌<◌, ◌≤◌, ℕ, false, length, take};
+ghost use Rattle.http_requests.specs.Places.{is_end, place_from};
+
+use crate::place::Place;
+use memchr::memchr;
+
+/// Some bytes at the front of others, and where they lead.
+#[derive(Clone, Copy)]
+pub(crate) struct Stride {
+    pub(crate) count: usize,
+    pub(crate) place: Place,
+}
+
+impl Stride {
+    /// From a place where no head ends: the rest of a line up to its end, or one byte.
+    pub(crate) fn of(place: Place, bytes: &[u8]) -> Stride
+        requires some { 0 < length bytes.now }
+        requires no_end { is_end place ≡ false }
+        ensures some { 0 < result.count }
+        ensures within { result.count ≤ length bytes.now }
+        ensures leads { result.place ≡ place_from place (take result.count bytes.now) }
+        ensures first { (n : ℕ) → n < result.count → is_end (place_from place (take n bytes.now)) ≡ false }
+    {
+        match place {
+            Place::Line => Stride::in_line(bytes),
+            _ => Stride {
+                count: 1,
+                place: place.behind(bytes[0]),
+            },
+        }
+    }
+
+    /// The rest of a line, with its line feed where that is there.
+    fn in_line(bytes: &[u8]) -> Stride
+        requires some { 0 < length bytes.now }
+        ensures some { 0 < result.count }
+        ensures within { result.count ≤ length bytes.now }
+        ensures leads { result.place ≡ place_from Place.Line (take result.count bytes.now) }
+        ensures first { (n : ℕ) → n < result.count → is_end (place_from Place.Line (take n bytes.now)) ≡ false }
+    {
+        match memchr(b'\n', bytes) {
+            Some(at) => Stride {
+                count: at + 1,
+                place: Place::Start,
+            },
+            None => Stride {
+                count: bytes.len(),
+                place: Place::Line,
+            },
+        }
+    }
+}

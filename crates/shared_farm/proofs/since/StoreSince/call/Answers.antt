@@ -1,0 +1,30 @@
+use Rattle.std.proofs.Common.{◌≡◌, ◌∷◌, [], true, subst}
+use Rattle.farm_store.specs.Answering.{as_batch}
+use Rattle.farm_store.specs.State.{StoreState}
+use Rattle.shared_farm.specs.Rests.{TurnLeaves, rest_of}
+use Rattle.shared_farm.proofs.Recorded.{cause-as_batch}
+use Rattle.shared_farm.proofs.Resting.{came-on, decided-or_rose, turn-leaves}
+use Rattle.shared_farm.proofs.since.StoreSince.call.Goals as goal
+
+-- what the turn leaves
+left_by : (g : _) (c : goal.After-call g) → g.D.Disk.tells c.self.inside.store.disk ≡ true
+    → TurnLeaves (rest_of g.D.Disk c.self.inside.store) (rest_of g.D.Disk c.call.new.self)
+left_by g c =
+    let e = c.call.ensures in
+    let count = g.D.Disk.count in
+    let old = c.self.inside.store in
+    let new = c.call.new.self in
+    turn-leaves g.D.Disk old new e.longer e.any_moment e.stored
+    (decided-or_rose (record { command = c.args.command.now; at = c.args.at } ∷ []) (as_batch c.call.result) old new
+    (count old.disk) (count new.disk) e.says (cause-as_batch c.call.result (count old.disk) (count new.disk) e.cause))
+    e.never_falls
+
+pub invariant_of-self : goal.invariant_of-self
+invariant_of-self g c =
+    came-on g.D.Disk g.B.Beginning.begun c.self.inside.store c.call.new.self c.self.invariant c.call.ensures.same
+    (left_by g c)
+
+pub returns-clause-leaves : goal.returns-clause-leaves
+returns-clause-leaves g c =
+    subst (λ (s : StoreState g.row.D.Denot). g.D.Disk.tells s.disk ≡ true
+    → TurnLeaves (rest_of g.D.Disk s) (rest_of g.D.Disk c.call.new.self)) c.self.view_is (left_by g c)
