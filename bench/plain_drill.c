@@ -328,9 +328,9 @@ static void *work(void *number) {
 }
 
 static void take_reverts(void) {
+    u128 key = 0;
     for (int s = 1; s <= farm.count; s++)
         if (farm.searches[s].standing == CONFIRMED) {
-            u128 key = 0;
             while (has_key(key))
                 key++;
             put_key(key);
