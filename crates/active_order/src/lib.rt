@@ -6,7 +6,7 @@
 //! without memory where room was made before, and each of these can be undone, so that an entry which was stored
 //! elsewhere can be added, taken back and added again.
 //!
-//! The crate stands on `farm_types` for running out of memory, and on nothing of the farm: what a search is and when
+//! The crate stands on `farm_types` for the out-of-memory error, and on nothing of the farm: what a search is and when
 //! it is active is its caller's. Contracts see an order as an `Active` of `specs/`: two lists of numbers, how many
 //! were opened, and the room for more. The layer above may use every name below.
 #![tactic(auto)]

@@ -1,12 +1,12 @@
-//! Plays workers that serve a real farm over a network that loses, repeats and delays what is sent by a plan, and prints what
-//! came of it. The file `stdout` has what is wanted, which was worked out by hand.
+//! Plays workers that serve a real farm over a network that loses, repeats and delays what is sent by a plan, and
+//! prints what came of it. The file `stdout` has what is wanted, which was worked out by hand.
 //!
-//! Standard input has a line for each step. A JSON line is a command at the farm, printed with its answer. `work NAME RUNS
-//! CULPRIT BROKEN PLAN` is one worker of up to so many leases, whose tests fail from the commit CULPRIT on, and whose runner
-//! fails from BROKEN on (`-`: nowhere); the letters of PLAN are in `network`. `soak RUNS CULPRIT PLAN NAME ..` has the workers of
-//! these names take turns, of so many leases each, until all of one round are idle. `history` tells whether the
-//! history is legal by the plain program and some run has two reports, `entries` how many entries it has. An empty line begins
-//! a new farm.
+//! Standard input has a line for each step. A JSON line is a command at the farm, printed with its answer. `work NAME
+//! RUNS CULPRIT BROKEN PLAN` is one worker of up to so many leases, whose tests fail from the commit CULPRIT on, and
+//! whose runner fails from BROKEN on (`-`: nowhere); the letters of PLAN are in `network`. `soak RUNS CULPRIT PLAN
+//! NAME ..` has the workers of these names take turns, of so many leases each, until all of one round are idle.
+//! `history` tells whether the history is legal by the plain program and some run has two reports, `entries` how many
+//! entries it has. An empty line begins a new farm.
 #![tactic(auto)]
 
 mod history;

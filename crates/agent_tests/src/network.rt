@@ -13,9 +13,10 @@ use std::alloc::Global;
 
 /// What becomes of a connection, by the letter of the plan.
 ///
-/// `.`: the request is answered. `a`: the farm takes it, and the answer is lost. `r`: the request is lost. `f`: the farm
-/// takes it, and the connection fails. `x`: no connection is made. `5`: the service has no storage. `d`: the request comes
-/// late, before the next one that is answered. `t`: the request comes twice. `4`: an answer that workers don't get.
+/// `.`: the request is answered. `a`: the farm takes it, and the answer is lost. `r`: the request is lost. `f`: the
+/// farm takes it, and the connection fails. `x`: no connection is made. `5`: the service has no storage. `d`: the
+/// request comes late, before the next one that is answered. `t`: the request comes twice. `4`: an answer that workers
+/// don't get.
 #[derive(Drop)]
 pub(crate) struct ServiceLink<'f> {
     alloc: Global,

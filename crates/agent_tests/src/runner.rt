@@ -8,7 +8,8 @@ use farm_types::{CommitId, Name};
 use weight_exact::Verdict;
 use worker_io::{Ran, Runner};
 
-/// A runner whose tests fail from a commit on, in the order of ids, and that fails itself at the commits from another one on.
+/// A runner whose tests fail from a commit on, in the order of ids, and that fails itself at the commits from another
+/// one on.
 #[derive(Drop)]
 pub(crate) struct CulpritRunner {
     pub culprit: CommitId,

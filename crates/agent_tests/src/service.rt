@@ -54,8 +54,8 @@ impl<'f> Service<'f> {
         Ok((answer_status(&answer), answer_text(self.alloc, &answer)?))
     }
 
-    /// The bytes of the answer to the request that some bytes begin with, or none, where they begin with no whole request
-    /// for a command that can be read.
+    /// The bytes of the answer to the request that some bytes begin with, or none, where they begin with no whole
+    /// request for a command that can be read.
     pub(crate) fn answer(&mut self, bytes: &[u8]) -> Result<Vec<u8>, Memory> {
         self.now = self.now.saturating_add(STEP_MS);
         let Next::Request(request) = next_of(self.pages, &mut Reading::new(), bytes, true) else {

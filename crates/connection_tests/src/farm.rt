@@ -27,8 +27,8 @@ pub(crate) struct Connection {
 }
 
 impl Connection {
-    /// A connection on which bytes come in pieces, the last of which repeats, and where the call of the link with a number
-    /// fails.
+    /// A connection on which bytes come in pieces, the last of which repeats, and where the call of the link with a
+    /// number fails.
     pub(crate) fn of(
         alloc: Global,
         bytes: &[u8],
@@ -124,8 +124,8 @@ fn opened(alloc: Global, journal: &[u8]) -> Option<Store<CalmDisk>> {
     Store::open_on(alloc, CalmDisk::of(bytes)).ok()
 }
 
-/// Serves connections one after the other to the farm of a journal, or to one that was founded just now where the journal has
-/// no bytes. Gives the farm's disk, unless out of memory.
+/// Serves connections one after the other to the farm of a journal, or to one that was founded just now where the
+/// journal has no bytes. Gives the farm's disk, unless out of memory.
 pub(crate) fn serve<R: Wait>(
     rt: &R,
     alloc: Global,

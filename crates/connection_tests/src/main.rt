@@ -1,25 +1,25 @@
-//! Plays the cases of standard input: connections served over links in memory, each to a farm in memory, at one moment. It
-//! prints what each comes to, behind the case. A case is a line with a word, and behind it the bytes that the other end sends.
-//! The words are
+//! Plays the cases of standard input: connections served over links in memory, each to a farm in memory, at one
+//! moment. It prints what each comes to, behind the case. A case is a line with a word, and behind it the bytes that
+//! the other end sends. The words are
 //!
 //! - `serve`: what the serving answered, all bytes that were put, and the records that the farm's disk then has;
 //! - `again`: the same of two connections to one farm, one after the other, on which the same bytes come;
 //! - `lost`: the same where the second call of the first link fails, which is its first put;
-//! - `pieces`: what a connection comes to, also in pieces of 1, 7 and 8,192 bytes, which change nothing; it says how many of
-//!   them were alike;
+//! - `pieces`: what a connection comes to, also in pieces of 1, 7 and 8,192 bytes, which change nothing; it says how
+//!   many of them were alike;
 //! - `cuts`: the same for the bytes cut in two at each place;
-//! - `faults`: each take and each put fails in turn, as long as there is one. It prints for each what was answered, and how many
-//!   bytes of the whole's answers were put, or that others were;
-//! - a number: the size of the pieces in which the bytes come. It prints what was answered and how many bytes were put, for
-//!   measuring.
+//! - `faults`: each take and each put fails in turn, as long as there is one. It prints for each what was answered,
+//!   and how many bytes of the whole's answers were put, or that others were;
+//! - a number: the size of the pieces in which the bytes come. It prints what was answered and how many bytes were
+//!   put, for measuring.
 //!
 //! In the bytes `\r`, `\n` and `\t` stand for control characters, and a part between bars that begins with a number, as
-//! `|63*x|`, for so many times the rest of it. After `0x` they are hexadecimal digits. A farm is founded for each case, unless
-//! the word has `@` and the digits of a journal behind it: the farm is then that of the journal.
+//! `|63*x|`, for so many times the rest of it. After `0x` they are hexadecimal digits. A farm is founded for each
+//! case, unless the word has `@` and the digits of a journal behind it: the farm is then that of the journal.
 //!
-//! A line that begins with `#` is printed as it is. The file `stdout` has what is wanted: the answers come from the formats'
-//! description and from a program of its own over the farm's definitions, and the numbers of calls from the rules of when a
-//! link is read and when answers go out.
+//! A line that begins with `#` is printed as it is. The file `stdout` has what is wanted: the answers come from the
+//! formats' description and from a program of its own over the farm's definitions, and the numbers of calls from the
+//! rules of when a link is read and when answers go out.
 #![tactic(auto)]
 
 mod farm;

@@ -7,8 +7,8 @@ use std::alloc::{AllocError, Global};
 use std::io;
 use std::sync::Wait;
 
-/// What a case is played with: the page table, the journal of its farm, which has no bytes where the farm is founded, and the
-/// bytes that the other end sends.
+/// What a case is played with: the page table, the journal of its farm, which has no bytes where the farm is founded,
+/// and the bytes that the other end sends.
 #[derive(Clone, Copy)]
 pub(crate) struct Case<'a> {
     pub(crate) alloc: Global,
@@ -23,8 +23,8 @@ const SIZES: [usize; 3] = [1, 7, 8_192];
 /// No link of a case has as many calls.
 const MANY_CALLS: u64 = 10_000;
 
-// A connection served to a farm of its own, on which bytes come in pieces, the last of which repeats, and where the call of the
-// link with a number fails.
+// A connection served to a farm of its own, on which bytes come in pieces, the last of which repeats, and where the
+// call of the link with a number fails.
 fn served<R: Wait>(
     rt: &R,
     case: Case,
@@ -134,8 +134,9 @@ fn print_all(rt: &impl Print, alloc: Global, connections: &[Connection]) -> io::
     Ok(())
 }
 
-/// Prints what connections to one farm come to, one after the other, on which the same bytes come, and the records that the
-/// farm's disk then has. There is one connection for each number of the call of its link that fails, 0 where none does.
+/// Prints what connections to one farm come to, one after the other, on which the same bytes come, and the records
+/// that the farm's disk then has. There is one connection for each number of the call of its link that fails, 0 where
+/// none does.
 pub(crate) fn play_each<R: Print + Wait>(rt: &R, case: Case, fails: &[u64]) -> io::Result<()> {
     let mut connections = Vec::new(case.alloc);
     add_connections(case, fails, &mut connections)?;

@@ -23,9 +23,9 @@ fn with_controls(alloc: Global, text: &str) -> Result<String, AllocError> {
     text.as_str().replace(alloc, "\\t", "\t")
 }
 
-/// The bytes of a text: those of the hexadecimal digits behind `0x`, or else its own, in which `\r`, `\n` and `\t` stand for
-/// control characters, and of whose parts between bars one that begins with a number, as `63*x`, stands for so many times what
-/// follows it.
+/// The bytes of a text: those of the hexadecimal digits behind `0x`, or else its own, in which `\r`, `\n` and `\t`
+/// stand for control characters, and of whose parts between bars one that begins with a number, as `63*x`, stands for
+/// so many times what follows it.
 pub(crate) fn bytes_of(alloc: Global, text: &str) -> Result<Vec<u8>, AllocError> {
     if let Some(digits) = text.strip_prefix("0x") {
         return Ok(digits_of(alloc, digits));

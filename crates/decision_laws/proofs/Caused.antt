@@ -11,7 +11,7 @@ use Rattle.farm_rules.specs.declared.orders.Draft.{Draft}
 use Rattle.farm_rules.specs.declared.orders.NoOrder.{NoOrder}
 use Rattle.farm_rules.specs.declared.orders.NoOrder.TheVariants as none
 use Rattle.farm_types.specs.Moment.{moment_ms}
-use Rattle.farm_entry.specs.Decision.{add_opening, asked_before, asks_for, decide, full_decision, is_show, key_of, cancel_decision, keyed_decision, known_decision, lease_decision, moment_used, own_decision, page_decision, refuse_opening, repeat_or_clash, report_decision, revert_decision, shape_decision}
+use Rattle.farm_entry.specs.Decision.{add_opening, asked_before, asks_for, decide, key_of, cancel_decision, keyed_decision, known_decision, lease_decision, moment_used, own_decision, page_decision, refuse_opening, repeat_or_clash, report_decision, revert_decision, shape_decision}
 use Rattle.farm_entry.specs.Due.{next_run}
 use Rattle.farm_entry.specs.History.{key_in, lease_of, opening_numbered, openings, place_of_key, place_of_report}
 use Rattle.farm_entry.specs.Legal.{IsLegal, ask_of, command_of}
@@ -35,7 +35,7 @@ use Rattle.farm_entry.specs.declared.refusal.Refusal.{Refusal}
 use Rattle.farm_entry.specs.declared.refusal.Refusal.TheVariants.{BadOpen, DailyLimit, Full, KeyClash, NoRevert, NoRun, SearchEnded, TooManySearches, UnknownRun, UnknownSearch}
 use Rattle.farm_laws.proofs.Made.{is_made}
 use Rattle.farm_laws.proofs.Repeats.{Placed, all-placed}
-use Rattle.decision_laws.specs.Causes.{AsksTheSame, CauseOf, IsClash, IsFull, IsOutside, IsWellFormed, IsWhat, IsWithinLimits}
+use Rattle.decision_laws.specs.Causes.{AsksTheSame, CauseOf, IsClash, IsFull, IsOutside, IsWhat, IsWithinLimits}
 use Rattle.decision_laws.proofs.Held.{at-key, at-report, asked-what, what-asked}
 use Rattle.decision_laws.proofs.Own.{caused, ended-refuses, many-refused, no_lease-refused, no_revert-refused, no_run-refused, no_search-refused, over_day-refused, own-refused}
 use Rattle.decision_laws.proofs.Parts.{FullSays, KnownSays, ShapeSays, Speaks, clashes, formed, full, full-decides, full-says, full-some, is_new, is_taken, known, known-decides, known-none, known-says, own, repeats, reported, shape, shape-decides, shape-none, shape-says, speaks, taken-decides}

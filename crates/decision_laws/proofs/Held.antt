@@ -1,14 +1,13 @@
 -- The entry at the place of a key or of a report, and whether it is what a command asks for.
-use Rattle.std.proofs.Common.{◌≡◌, ℕ, ◌<◌, ◌==◌, Bool, true, false, List, [], ◌∷◌, length, slice_get, position, get_or, Option, Some, None, Result, Ok, Err, refl, sym, ap, subst, ◌∙◌, arith, true≢false}
-use Rattle.std.specs.Str.{bytes_eq}
-use Rattle.std.proofs.lemmas.Bool.Decides.{nat_tests, Decides-eqb}
+use Rattle.std.proofs.Common.{◌≡◌, ℕ, Bool, true, false, List, [], ◌∷◌, slice_get, position, get_or, Option, Some, None, Result, Ok, Err, refl, sym, ap, subst, ◌∙◌, true≢false}
+use Rattle.std.proofs.lemmas.Bool.Decides.{Decides-eqb}
 use Rattle.std.proofs.lemmas.List.Quantifiers.{position-Some}
 use Rattle.std.proofs.lemmas.Option.{none-some, same_Some, slice_get-get_or}
 use Rattle.std.proofs.lemmas.Slice.Eq.{bytes_eq-Decides}
 use Rattle.weight_exact.specs.declared.run.Verdict.{Verdict}
 use Rattle.farm_types.specs.declared.key.Key.{Key}
 use Rattle.farm_entry.specs.Ask.{asked_bar, asked_miss, asked_range, asked_rate, asked_reruns, asked_width, opening_of}
-use Rattle.farm_entry.specs.Decision.{asked_before, asks_for, key_of, makes_opening}
+use Rattle.farm_entry.specs.Decision.{asks_for, key_of, makes_opening}
 use Rattle.farm_entry.specs.History.{has_key, is_key, is_of_run, is_report_of, key_in, place_of_key, place_of_report, report_in}
 use Rattle.farm_entry.specs.Legal.{IsLegal, ask_of, command_of}
 use Rattle.farm_entry.specs.declared.command.Command.{Command}
@@ -18,10 +17,9 @@ use Rattle.farm_entry.specs.declared.entry.Entry.{Entry}
 use Rattle.farm_entry.specs.declared.entry.Fate.{Fate}
 use Rattle.farm_entry.specs.declared.entry.What.{What}
 use Rattle.farm_entry.specs.declared.entry.What.TheVariants.{Founded, Opened, Leased, Reported, Cancelled, Ordered}
-use Rattle.farm_entry.specs.declared.lease.ReportedRun.{ReportedRun}
 use Rattle.farm_entry.specs.declared.opening.Opening.{Opening}
 use Rattle.farm_entry.specs.declared.refusal.OpenFault.{OpenFault}
-use Rattle.farm_laws.proofs.Again.{all_there, made_again, under}
+use Rattle.farm_laws.proofs.Again.{all_there, under}
 use Rattle.farm_laws.proofs.Made.{is_made}
 use Rattle.farm_laws.proofs.Repeats.{Placed, all-placed, same_text}
 use Rattle.farm_laws.proofs.SameEntries.{same_opening-Decides}

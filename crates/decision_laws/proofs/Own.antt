@@ -1,14 +1,9 @@
 -- What a command's own case refuses, and why.
-use Rattle.std.proofs.Common.{◌≡◌, ℕ, ◌+◌, ◌<◌, ◌≤◌, ◌⊎◌, Bool, true, false, not, nat_le, nat_lt, List, [], ◌∷◌, length, map, filter, Contains, if◌then◌else◌, Option, Some, None, Result, Ok, Err, refl, sym, ap, subst, ◌||◌, inl, inr, ◌∙◌, ⊎_elim, arith, true≢false}
-use Rattle.std.specs.List.{filter_map, list_any}
+use Rattle.std.proofs.Common.{◌≡◌, ℕ, ◌+◌, ◌≤◌, ◌⊎◌, Bool, true, false, not, nat_le, nat_lt, List, [], ◌∷◌, length, map, Contains, if◌then◌else◌, Option, Some, None, Result, Ok, Err, refl, sym, ap, subst, ◌||◌, inl, inr, ◌∙◌, ⊎_elim, arith, true≢false}
 use Rattle.std.proofs.lemmas.Bool.{false_from_ne_true, not-false, not-true}
 use Rattle.std.proofs.lemmas.Bool.Decides.{nat_tests}
 use Rattle.std.proofs.lemmas.Option.{none-some}
-use Rattle.flake_rate.specs.declared.bar.Bar.{Bar}
-use Rattle.flake_rate.specs.declared.miss.Miss.{Miss}
-use Rattle.flake_rate.specs.declared.rate.Rate.{Rate}
 use Rattle.weight_exact.specs.declared.run.Verdict.{Verdict}
-use Rattle.suspect_range.specs.Range.{RangeView}
 use Rattle.farm_rules.specs.Orders.{Ordered, candidates, draft_for, draft_of, earlier, earliest, has_order, orders_of}
 use Rattle.farm_rules.specs.declared.orders.Candidate.{Candidate}
 use Rattle.farm_rules.specs.declared.orders.Draft.{Draft}
@@ -21,10 +16,10 @@ use Rattle.farm_types.specs.declared.commit_id.CommitId.{CommitId}
 use Rattle.farm_types.specs.declared.key.Key.{Key}
 use Rattle.farm_types.specs.declared.moment.Moment.{Moment}
 use Rattle.farm_rules.proofs.Earliest.{earliest-contained, earliest-none}
-use Rattle.farm_entry.specs.Ask.{and_then, asked_bar, asked_miss, asked_range, asked_rate, asked_reruns, asked_width, opening_of}
-use Rattle.farm_entry.specs.Decision.{add_opening, cancel_decision, decide, lease_decision, moment_used, open_decision, own_decision, page_decision, report_decision, revert_decision}
-use Rattle.farm_entry.specs.Due.{due, due_runs, next_run, sooner, soonest}
-use Rattle.farm_entry.specs.History.{all_leases, daily_limit, lease_of, opening_numbered, openings, order_lines}
+use Rattle.farm_entry.specs.Ask.{asked_bar, asked_miss, asked_range, asked_rate, asked_reruns, asked_width, opening_of}
+use Rattle.farm_entry.specs.Decision.{add_opening, cancel_decision, lease_decision, moment_used, own_decision, page_decision, report_decision, revert_decision}
+use Rattle.farm_entry.specs.Due.{due, due_runs, next_run, soonest}
+use Rattle.farm_entry.specs.History.{daily_limit, lease_of, opening_numbered, openings, order_lines}
 use Rattle.farm_entry.specs.Orders.{confirmed_at, confirmed_searches, day_in, next_order_at, ordered, orders}
 use Rattle.farm_entry.specs.Setup.{commit_of}
 use Rattle.farm_entry.specs.Standing.{is_active, standing}
@@ -32,7 +27,7 @@ use Rattle.farm_entry.specs.declared.command.Command.{Command}
 use Rattle.farm_entry.specs.declared.command.Command.TheVariants as command
 use Rattle.farm_entry.specs.declared.command.OpenAsk.{OpenAsk}
 use Rattle.farm_entry.specs.declared.decision.Decision.{Decision}
-use Rattle.farm_entry.specs.declared.decision.Decision.TheVariants.{New, Refuse, Repeat, Show}
+use Rattle.farm_entry.specs.declared.decision.Decision.TheVariants.{New, Refuse}
 use Rattle.farm_entry.specs.declared.entry.Entry.{Entry}
 use Rattle.farm_entry.specs.declared.entry.What.TheVariants.{Cancelled as cancelled}
 use Rattle.farm_entry.specs.declared.lease.DueRun.{DueRun}
@@ -42,14 +37,14 @@ use Rattle.farm_entry.specs.declared.opening.Opening.{Opening}
 use Rattle.farm_entry.specs.declared.order_page.OrderLine.{OrderLine}
 use Rattle.farm_entry.specs.declared.refusal.OpenFault.{OpenFault}
 use Rattle.farm_entry.specs.declared.refusal.Refusal.{Refusal}
-use Rattle.farm_entry.specs.declared.refusal.Refusal.TheVariants.{BadOpen, DailyLimit, NoRevert, NoRun, SearchEnded, TooManySearches, UnknownRun, UnknownSearch}
+use Rattle.farm_entry.specs.declared.refusal.Refusal.TheVariants.{DailyLimit, NoRevert, NoRun, SearchEnded, TooManySearches, UnknownRun, UnknownSearch}
 use Rattle.farm_entry.specs.declared.standing.Standing.{Standing}
 use Rattle.farm_entry.specs.declared.standing.Standing.TheVariants as standings
 use Rattle.farm_laws.proofs.Again.{all_there}
-use Rattle.farm_laws.proofs.Known.{MadeFrom, made-from}
+use Rattle.farm_laws.proofs.Known.{made-from}
 use Rattle.farm_laws.proofs.Lists.{contains-head, contains-nil, contains-cons, contains-tail, filter-nil, filter-there, filter_map-nil, filter_map-there, nil-filter, nil-filter_map, there-filter}
 use Rattle.farm_laws.proofs.Made.{is_made}
-use Rattle.decision_laws.specs.Causes.{CauseOf, HasEnded, HasManySearches, HasNoRevert, HasNoRun, IsOfNoLease, IsOfNoSearch, IsOrdered, IsOverDay, IsTaken, IsWithinLimits}
+use Rattle.decision_laws.specs.Causes.{CauseOf, HasEnded, HasManySearches, HasNoRevert, HasNoRun, IsOfNoLease, IsOfNoSearch, IsOrdered, IsOverDay, IsTaken}
 
 -- a decision that refuses, and one that doesn't
 new-refuse : (e : Entry) (r : Refusal) → New e ≡ Refuse r → ⊥

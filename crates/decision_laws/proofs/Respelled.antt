@@ -1,5 +1,5 @@
 -- Commands that ask for the same as one that is repeated.
-use Rattle.std.proofs.Common.{◌≡◌, ℕ, true, false, List, slice_get, Option, Some, None, Result, Ok, Err, refl, sym, ap, subst, ◌∙◌, true≢false}
+use Rattle.std.proofs.Common.{◌≡◌, ℕ, true, false, List, Option, Some, None, Ok, refl, sym, ap, subst, ◌∙◌, true≢false}
 use Rattle.std.specs.Option.{ok_or, option_and_then}
 use Rattle.flake_rate.specs.declared.miss.Miss.{Miss}
 use Rattle.flake_rate.specs.declared.rate.Rate.{Rate}

@@ -1,5 +1,5 @@
 -- The soonest of the due runs comes before each other.
-use Rattle.std.proofs.Common.{◌≡◌, ℕ, ◌+◌, ◌<◌, ◌≤◌, ◌⊎◌, Bool, true, false, nat_le, if◌then◌else◌, List, [], ◌∷◌, ◌++◌, length, map, Contains, Option, Some, None, Result, Ok, Err, refl, sym, ap, subst, inl, inr, ◌∙◌, ⊎_elim, arith, get_or}
+use Rattle.std.proofs.Common.{◌≡◌, ℕ, ◌+◌, ◌<◌, ◌≤◌, ◌⊎◌, Bool, true, false, nat_le, if◌then◌else◌, List, [], ◌∷◌, length, map, Contains, Option, Some, None, Result, Ok, Err, refl, sym, ap, subst, inl, inr, ◌∙◌, ⊎_elim, arith}
 use Rattle.std.specs.List.{cons_option, filter_map, range_with_len}
 use Rattle.std.proofs.lemmas.Bool.{cases_lt}
 use Rattle.std.proofs.lemmas.Bool.Decides.{nat_tests}
@@ -32,9 +32,9 @@ use Rattle.farm_entry.specs.declared.refusal.OpenFault.{OpenFault}
 use Rattle.farm_entry.specs.declared.refusal.Refusal.{Refusal}
 use Rattle.farm_entry.specs.declared.refusal.Refusal.TheVariants.{SearchEnded, TooManySearches}
 use Rattle.farm_laws.proofs.EntryParts.{leased-facts}
-use Rattle.farm_laws.proofs.Known.{IsDueIn, MadeFrom, due_at-search, made-from, next_run-due}
+use Rattle.farm_laws.proofs.Known.{due_at-search, made-from, next_run-due}
 use Rattle.farm_laws.proofs.Lists.{contains-cons, contains-nil, filter_map-there}
-use Rattle.farm_laws.proofs.Numbered.{AreNumbered, number-at, number-at-least, openings-numbered, tail_of}
+use Rattle.farm_laws.proofs.Numbered.{number-at, number-at-least, openings-numbered, tail_of}
 use Rattle.farm_laws.proofs.Recorded.{recorded}
 use Rattle.farm_laws.proofs.Stepped.{passed, stepped}
 use Rattle.decision_laws.specs.Turns.{ComesBefore, HasTheTurn}

@@ -1,5 +1,5 @@
--- What a history holds where a command is refused, said without the order in which the farm looks at things: the cause of
--- each refusal.
+-- What a history holds where a command is refused, said without the order in which the farm looks at things: the cause
+-- of each refusal.
 use Rattle.std.specs.Prelude.{◌≡◌, ℕ, ◌<◌, ◌≤◌, ◌⊎◌, true, false, List, length, slice_get, Contains, Some, None, Ok, Err}
 use Rattle.farm_rules.specs.Orders.{orders_of}
 use Rattle.farm_types.specs.Moment.{moment_ms}
@@ -55,8 +55,8 @@ pub record IsOutside (q : Command) (fault : OpenFault) : Type 0 where
   pub opens : q ≡ Open ask
   pub outside : opening_of ask 0 ≡ Err fault
 
--- two commands ask for the same: two opens for the same search, however its rates are spelled; two reports for the same run,
--- whatever their verdicts; and else they are equal
+-- two commands ask for the same: two opens for the same search, however its rates are spelled; two reports for the
+-- same run, whatever their verdicts; and else they are equal
 abbrev pub AsksTheSame : Command → Command → Type 0
 AsksTheSame (Open ask) q =
     (other : OpenAsk) × (q ≡ Open other) × (o : Opening) × (opening_of ask 0 ≡ Ok o) × (opening_of other 0 ≡ Ok o)

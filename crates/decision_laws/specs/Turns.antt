@@ -7,8 +7,8 @@ use Rattle.farm_entry.specs.declared.lease.DueRun.{DueRun}
 use Rattle.farm_entry.specs.declared.lease.LeasedRun.{LeasedRun}
 use Rattle.farm_entry.specs.declared.opening.Opening.{Opening}
 
--- a search comes before another: its last lease stands earlier, or both stand alike and its number is not greater. A search
--- that was never leased stands at 0, where no lease can
+-- a search comes before another: its last lease stands earlier, or both stand alike and its number is not greater. A
+-- search that was never leased stands at 0, where no lease can
 abbrev pub ComesBefore : List Entry → (search other : ℕ) → Type 0
 ComesBefore H search other =
     (last_lease H search < last_lease H other) ⊎ ((last_lease H search ≡ last_lease H other) × (search ≤ other))

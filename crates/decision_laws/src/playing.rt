@@ -7,8 +7,8 @@ ghost use Rattle.farm_entry.specs.Playing.{after, played};
 use farm_entry::{Command, Entry};
 use farm_types::Moment;
 
-/// Whatever commands come, at whatever moments, the history stays legal, and only grows at its end: by at most one entry
-/// for each command.
+/// Whatever commands come, at whatever moments, the history stays legal, and only grows at its end: by at most one
+/// entry for each command.
 pub fn played_histories_are_legal()
     ensures one { (H : List Entry) (q : Command) (m : Moment) → IsLegal H → IsLegal (after H (decide H q m)) }
     ensures legal { (H : List Entry) (asked : List (Command × Moment)) → IsLegal H → IsLegal (played H asked) }

@@ -7,8 +7,8 @@ ghost use Rattle.decision_laws.specs.Causes.{CauseOf, HasEnded, HasManySearches,
 use farm_entry::{Command, Decision, Entry, Refusal};
 use farm_types::Moment;
 
-/// A command is refused exactly where the history holds the refusal's cause, whatever the refusal. So a farm that refused
-/// one entry, one search or one order early, or late, would break this law.
+/// A command is refused exactly where the history holds the refusal's cause, whatever the refusal. So a farm that
+/// refused one entry, one search or one order early, or late, would break this law.
 pub fn refusals_have_their_causes()
     ensures { (H : List Entry) (q : Command) (m : Moment) (r : Refusal) → IsLegal H
         → (decide H q m ≡ Decision.Refuse r) ↔ CauseOf r H q m }

@@ -1,5 +1,5 @@
 -- The commits of a search differ.
-use Rattle.std.proofs.Common.{◌≡◌, ◌≢◌, ℕ, zero, suc, ◌+◌, ◌*◌, ◌/◌, ◌%◌, ◌<◌, ◌≤◌, List, ◌∷◌, length, map, get_or, slice_index, AllPairs, refl, sym, ap, subst, ◌∙◌, arith}
+use Rattle.std.proofs.Common.{◌≡◌, ◌≢◌, ℕ, suc, ◌+◌, ◌*◌, ◌/◌, ◌%◌, ◌<◌, List, ◌∷◌, map, slice_index, AllPairs, sym, ap, subst, ◌∙◌, arith}
 use Rattle.std.specs.List.{range_with_len}
 use Rattle.std.proofs.Math.Facts.{leb_yes}
 use Rattle.std.proofs.lemmas.List.FromFn.{get_or-map-range_with_len, length-map-range_with_len}
@@ -10,7 +10,7 @@ use Rattle.farm_types.specs.declared.commit_id.CommitId.{CommitId}
 use Rattle.suspect_range.specs.Range.{commits_of}
 use Rattle.suspect_range.specs.declared.suspect.Suspect.{Suspect}
 use Rattle.drill_plan.specs.Digits.{number_bytes, two_digits}
-use Rattle.drill_plan.specs.Plan.{commit_numbered, planned_ask, planned_suspect, planned_suspects}
+use Rattle.drill_plan.specs.Plan.{commit_numbered, planned_suspect}
 use Rattle.drill_plan.specs.declared.limits.TheConstants.{SEARCH_SPAN}
 
 -- a byte tells its two digits

@@ -1,11 +1,11 @@
 -- The open of each search makes an opening.
-use Rattle.std.proofs.Common.{◌≡◌, ℕ, suc, ◌+◌, ◌*◌, ◌/◌, ◌%◌, ◌<◌, ◌≤◌, Bool, true, false, IsTrue, List, length, map, get_or, All, Option, Some, None, Result, Ok, Err, if◌then◌else◌, refl, sym, ap, subst, ◌∙◌, arith, true≢false}
+use Rattle.std.proofs.Common.{◌≡◌, ℕ, ◌+◌, ◌*◌, ◌/◌, ◌%◌, ◌<◌, Bool, true, false, length, get_or, Option, Result, Ok, Err, if◌then◌else◌, refl, sym, ap, ◌∙◌, arith, true≢false}
 use Rattle.std.specs.List.{range_with_len}
-use Rattle.std.specs.Option.{ok_or, option_and_then}
+use Rattle.std.specs.Option.{ok_or}
 use Rattle.std.proofs.Math.Facts.{leb_yes}
 use Rattle.std.proofs.lemmas.Bool.Decides.{nat_tests}
 use Rattle.std.proofs.lemmas.List.Elements.{All-map}
-use Rattle.std.proofs.lemmas.List.FromFn.{get_or-range_with_len, length-map-range_with_len, length-range_with_len}
+use Rattle.std.proofs.lemmas.List.FromFn.{length-map-range_with_len}
 use Rattle.std.proofs.lemmas.Nat.{mod_below}
 use Rattle.flake_rate.proofs.Limits.{bar-within, miss-lowest, miss-quotients, rate-lowest, rate-quotients, rate-tested}
 use Rattle.flake_rate.specs.Divisor.{gcd}
@@ -19,13 +19,11 @@ use Rattle.suspect_range.specs.declared.fault.RangeFault.{RangeFault}
 use Rattle.suspect_range.specs.declared.suspect.Suspect.{Suspect}
 use Rattle.weight_exact.specs.Limits.{IsWeight}
 use Rattle.farm_entry.proofs.Asked.{asked_miss-made, rate_of-made}
-use Rattle.farm_entry.specs.Ask.{and_then, asked_bar, asked_miss, asked_range, asked_rate, asked_reruns, asked_width, fitting, miss_of, opening_of, rate_of, unless_fault, when_passed}
-use Rattle.farm_entry.specs.declared.command.OpenAsk.{OpenAsk}
+use Rattle.farm_entry.specs.Ask.{and_then, asked_bar, asked_miss, asked_range, asked_rate, asked_reruns, asked_width, opening_of, unless_fault}
 use Rattle.farm_entry.specs.declared.opening.Opening.{Opening}
 use Rattle.farm_entry.specs.declared.refusal.OpenFault.{OpenFault}
 use Rattle.farm_entry.specs.declared.refusal.OpenFault.TheVariants as fault
 use Rattle.drill_plan.specs.Plan.{planned_ask, planned_suspect, planned_suspects}
-use Rattle.drill_plan.specs.declared.limits.TheConstants.{SEARCH_SPAN}
 use Rattle.drill_plan.proofs.Apart.{commits-differ}
 
 suspects-below : (s : ℕ) → planned_suspects s < 101

@@ -1,5 +1,5 @@
 -- The searches of a drill: all that each of them is follows from its number.
-use Rattle.std.specs.Prelude.{ℕ, ◌+◌, ◌*◌, ◌/◌, ◌%◌, ◌==◌, nat_le, pos, List, map, codes, if◌then◌else◌, Option, Some, None, refl}
+use Rattle.std.specs.Prelude.{ℕ, ◌+◌, ◌*◌, ◌/◌, ◌%◌, ◌==◌, nat_le, map, codes, if◌then◌else◌, Option, Some, None, refl}
 use Rattle.std.specs.List.{range_with_len}
 use Rattle.farm_types.specs.declared.commit_id.CommitId.{CommitId}
 use Rattle.suspect_range.specs.declared.suspect.Suspect.{Suspect}

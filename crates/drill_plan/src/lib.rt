@@ -1,9 +1,9 @@
 //! The plan of a drill: which searches it opens, where the true culprit of each stands, and what each run would say.
 //!
-//! A drill is a large farm that is played from two numbers. Everything in it follows from the number of a search, by the
-//! definitions of `specs/Plan`; `specs/Start` says which history a farm has once all searches of a drill are opened, and
-//! `laws` that none of these opens is refused. The crate stands on `farm_entry` for requests and histories, and on the
-//! values that they hold. The layers above may use every name below and cite `specs/`.
+//! A drill is a large farm that is played from two numbers. Everything in it follows from the number of a search, by
+//! the definitions of `specs/Plan`; `specs/Start` says which history a farm has once all searches of a drill are
+//! opened, and `laws` that none of these opens is refused. The crate stands on `farm_entry` for requests and
+//! histories, and on the values that they hold. The layers above may use every name below and cite `specs/`.
 #![tactic(auto)]
 
 mod ask;

@@ -1,5 +1,5 @@
 -- What a farm answers to a command, as the text of what the command comes to.
-use Rattle.std.proofs.Common.{◌≡◌, ◌++◌, ◌∷◌, List, [], length, refl, sym, ap, ◌∙◌, inl, inr, subst}
+use Rattle.std.proofs.Common.{◌≡◌, ◌++◌, ◌∷◌, List, [], length, refl, sym, ap, ◌∙◌, subst}
 use Rattle.std.proofs.lemmas.List.{append-nil}
 use Rattle.serde_json.specs.Written.{compact_text}
 use Rattle.farm_types.specs.declared.moment.Moment.{Moment}

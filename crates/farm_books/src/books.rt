@@ -102,8 +102,8 @@ impl Books {
         })
     }
 
-    /// The positions of the open leases of a search at a stage, by the numbers of the runs. They go to the front of `out`, and
-    /// how many there are is returned.
+    /// The positions of the open leases of a search at a stage, by the numbers of the runs. They go to the front of
+    /// `out`, and how many there are is returned.
     pub fn open_positions(
         &self,
         search: u32,

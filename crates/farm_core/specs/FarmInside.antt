@@ -1,5 +1,5 @@
 -- How a farm keeps its history: one list, of which the front is the history and the rest may be committed next.
-use Rattle.std.specs.Prelude.{ℕ, ◌<◌, ◌≤◌, length, take, drop}
+use Rattle.std.specs.Prelude.{◌<◌, ◌≤◌, length, take, drop}
 use Rattle.farm_entry.specs.Legal.{IsLegal}
 use Rattle.farm_core.specs.FarmView.{FarmView}
 use Rattle.farm_core.specs.declared.farm.Farm.TheInside.{Inside}

@@ -11,7 +11,7 @@
 //! was made ready and not committed is taken away again by the next `prepare`, `answer`, `admit` or `retract`.
 //!
 //! It stands on `kept_farm` for what is kept, on `kept_decisions` for what a command comes to, on `farm_entry` for the
-//! types and the definitions of the farm, and on `farm_types` for moments and running out of memory. The layer above
+//! types and the definitions of the farm, and on `farm_types` for moments and the out-of-memory error. The layer above
 //! may use every name below.
 #![tactic(auto)]
 

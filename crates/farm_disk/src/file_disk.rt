@@ -17,9 +17,9 @@ use std::rt::Files;
 /// file's advisory lock is held, and where another program holds it each call is a fault that reads and writes nothing.
 ///
 /// A call that a signal interrupts is made again, and one that moves a part of the bytes goes on. Each other error is
-/// counted as a fault, and so is a call outside the size, a folder in place of the file, and a missing folder. The size is
-/// kept between the calls, so that a write asks the system for nothing else: it is asked anew by [`Disk::size`], and
-/// by the first call after an error.
+/// counted as a fault, and so is a call outside the size, a folder in place of the file, and a missing folder. The
+/// size is kept between the calls, so that a write asks the system for nothing else: it is asked anew by
+/// [`Disk::size`], and by the first call after an error.
 #[derive(Drop)]
 pub struct FileDisk<R: Files<File = File> + Drop> {
     rt: R,
@@ -117,7 +117,8 @@ impl<R: Files<File = File> + Drop> FileDisk<R> {
         }
     }
 
-    // Makes the file that was missing. Where another program has made one meanwhile and written to it, that is an error.
+    // Makes the file that was missing. Where another program has made one meanwhile and written to it, that is an
+    // error.
     fn make(&mut self, size: u64) -> io::Result<()>
         ensures { self.new.faults ≡ self.old.faults }
     {

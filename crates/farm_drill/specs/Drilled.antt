@@ -6,8 +6,8 @@ use Rattle.farm_entry.specs.declared.entry.Entry.{Entry}
 use Rattle.drill_plan.specs.Start.{IsStart}
 use Rattle.farm_drill.specs.Ends.{RevertsEnded, RunsEnded}
 
--- A history is that of a drill of so many searches: legal, it begins with the founding and the opens of the plan, and it
--- is played until no run and no revert is left.
+-- A history is that of a drill of so many searches: legal, it begins with the founding and the opens of the plan, and
+-- it is played until no run and no revert is left.
 pub record IsDrilled (searches : ℕ) (H : List Entry) : Type 0 where
   pub legal : IsLegal H
   pub start : List Entry

@@ -21,8 +21,8 @@ use std::sync::Wait;
 use std::thread::Threads;
 
 /// Plays a drill of 1 to [`MAX_SEARCHES`](farm_entry::MAX_SEARCHES) searches by 1 to
-/// [`MAX_WORKERS`](drill_plan::MAX_WORKERS) workers, each in a thread of its own. Gives the line of its numbers, its line
-/// feed included, and the store.
+/// [`MAX_WORKERS`](drill_plan::MAX_WORKERS) workers, each in a thread of its own. Gives the line of its numbers, its
+/// line feed included, and the store.
 ///
 /// # Errors
 ///

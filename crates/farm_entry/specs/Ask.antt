@@ -84,8 +84,8 @@ abbrev pub asked_reruns : OpenAsk → Result ℕ OpenFault
 asked_reruns ask =
     if nat_le 1 ask.reruns && nat_le ask.reruns MAX_RERUNS then Ok ask.reruns else Err (fault.Reruns ask.reruns)
 
--- The search that is asked for, under its number; or the first cause for which it can't be opened. The rates are kept in
--- lowest terms, and the bar as given
+-- The search that is asked for, under its number; or the first cause for which it can't be opened. The rates are kept
+-- in lowest terms, and the bar as given
 abbrev pub opening_of : OpenAsk → (search : ℕ) → Result Opening OpenFault
 opening_of ask search =
     and_then (asked_range ask) (λ range.

@@ -93,8 +93,8 @@ abbrev pub asked_before : Option Entry → Command → Bool
 asked_before None q = false
 asked_before (Some e) q = asks_for e.what q
 
--- the decision on a command whose key stands at a place: its first reply again where that entry is the command's, and else a
--- refusal, since the key belongs to another command
+-- the decision on a command whose key stands at a place: its first reply again where that entry is the command's, and
+-- else a refusal, since the key belongs to another command
 abbrev pub repeat_or_clash : List Entry → Command → (place : ℕ) → Decision
 repeat_or_clash H q place = if asked_before (slice_get H place) q then Repeat place else Refuse (KeyClash place)
 

@@ -29,8 +29,8 @@ open_leases H search stage moment = filter (λ l. same_stage l.stage stage && is
 abbrev pub open_positions : List Entry → (search : ℕ) → Stage → (moment : ℕ) → List ℕ
 open_positions H search stage moment = map (λ l. l.position) (open_leases H search stage moment)
 
--- The leases of a search that are outstanding at a moment: those that are open, of the stage at which the search stands.
--- The rules below take their positions
+-- The leases of a search that are outstanding at a moment: those that are open, of the stage at which the search
+-- stands. The rules below take their positions
 abbrev pub outstanding_at : Standing → List Entry → (search : ℕ) → (moment : ℕ) → List LeasedRun
 outstanding_at Searching H search moment = open_leases H search Search moment
 outstanding_at (Verifying culprit) H search moment = open_leases H search Verify moment
@@ -75,7 +75,7 @@ abbrev pub soonest : List Entry → List DueRun → Option DueRun
 soonest H [] = None
 soonest H (d ∷ rest) = Some (sooner H d (soonest H rest))
 
--- The run that is handed out next, over all searches. A search that was never leased comes before all others, and of two
--- such searches the smaller number
+-- The run that is handed out next, over all searches. A search that was never leased comes before all others, and of
+-- two such searches the smaller number
 abbrev pub next_run : List Entry → (moment : ℕ) → Option DueRun
 next_run H moment = soonest H (due_runs H moment)

@@ -1,5 +1,5 @@
--- What a history holds: its searches, the runs that were handed out, their reports, the orders. Each list is in the order
--- of the entries.
+-- What a history holds: its searches, the runs that were handed out, their reports, the orders. Each list is in the
+-- order of the entries.
 use Rattle.std.specs.Prelude.{ℕ, ◌+◌, ◌==◌, ℤ, pos, Bool, true, false, ◌&&◌, List, [], ◌∷◌, filter, find, position, if◌then◌else◌, Option, Some, None}
 use Rattle.std.specs.List.{filter_map, list_any}
 use Rattle.std.specs.Option.{option_and_then, option_map, unwrap_or}
@@ -65,8 +65,8 @@ abbrev pub settings_of : List Entry → Option Settings
 settings_of [] = None
 settings_of (e ∷ H) = settings_in e.what
 
--- what it was founded with, in a legal history: how long a lease lasts, in milliseconds, how many orders a day may have, and
--- how far the zone of its days lies east of UTC, in minutes
+-- what it was founded with, in a legal history: how long a lease lasts, in milliseconds, how many orders a day may
+-- have, and how far the zone of its days lies east of UTC, in minutes
 abbrev pub lease_ms : List Entry → ℕ
 lease_ms H = unwrap_or (option_map settings_lease_ms (settings_of H)) 0
 

@@ -28,7 +28,8 @@ standing_of_reached o again (Some i) =
 abbrev pub at_bar : List Entry → Opening → Option ℕ
 at_bar H o = reached (setup_of o) (runs H o.search)
 
--- where a search stands, by the first case that fits: it was cancelled, it went over its budget, or what its belief says
+-- where a search stands, by the first case that fits: it was cancelled, it went over its budget, or what its belief
+-- says
 abbrev pub standing : List Entry → Opening → Standing
 standing H o =
     if was_cancelled H o.search then Cancelled

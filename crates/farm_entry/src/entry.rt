@@ -45,8 +45,8 @@ pub enum What {
         stage: Stage,
         /// The position to be tested: the base with suspects 1 to this one applied.
         position: u16,
-        /// From when on the run may be given to another worker, in milliseconds since 1970-01-01 in UTC. It is later than
-        /// the entry by the farm's lease time, and so may lie past the last moment.
+        /// From when on the run may be given to another worker, in milliseconds since 1970-01-01 in UTC. It is later
+        /// than the entry by the farm's lease time, and so may lie past the last moment.
         deadline: u64,
     },
     /// A run was reported, for the first time.

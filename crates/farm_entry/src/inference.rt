@@ -13,8 +13,8 @@ use suspect_range::Suspect;
 use weight_exact::{MAX_PRIOR_TOTAL, MAX_SUSPECTS, MIN_PRIOR_TOTAL, budget};
 
 impl Opening {
-    /// The prior weights of its suspects in commit order, as a list of their own. With the calm weight of its range they
-    /// are what a belief of the search starts from.
+    /// The prior weights of its suspects in commit order, as a list of their own. With the calm weight of its range
+    /// they are what a belief of the search starts from.
     pub fn weights(&self, alloc: Global) -> Result<Vec<u32>, Memory>
         ensures weights { IfOk result (λ weights. weights.items ≡ map (λ suspect. suspect.weight) self.now.range.suspects) }
         ensures priors { IfOk result (λ weights. ArePriors weights.items self.now.range.calm) }

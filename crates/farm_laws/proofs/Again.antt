@@ -1,5 +1,5 @@
 -- An opening asks for itself: the open that it names makes it again, under every number.
-use Rattle.std.proofs.Common.{◌≡◌, ℕ, ◌/◌, ◌&&◌, nat_le, Bool, true, false, if◌then◌else◌, List, Option, Some, None, Result, Ok, Err, IsTrue, refl, sym, ap, subst, ◌∙◌, true≢false}
+use Rattle.std.proofs.Common.{◌≡◌, ℕ, ◌/◌, ◌&&◌, nat_le, Bool, if◌then◌else◌, List, Option, Some, None, Result, Ok, Err, refl, ap, subst, ◌∙◌}
 use Rattle.std.specs.Option.{ok_or, option_and_then}
 use Rattle.std.proofs.Math.Nat.{div-one}
 use Rattle.flake_rate.specs.Divisor.{gcd}
@@ -17,7 +17,7 @@ use Rattle.suspect_range.specs.Range.{RangeView}
 use Rattle.suspect_range.specs.declared.fault.RangeFault.{RangeFault}
 use Rattle.farm_types.specs.declared.key.Key.{Key}
 use Rattle.farm_entry.proofs.Asked.{when_passed-same}
-use Rattle.farm_entry.specs.Ask.{and_then, asked_bar, asked_miss, asked_range, asked_rate, asked_reruns, asked_width, bar_of, fitting, miss_of, opening_of, rate_of, unless_fault, when_passed}
+use Rattle.farm_entry.specs.Ask.{and_then, asked_bar, asked_miss, asked_range, asked_rate, asked_reruns, asked_width, bar_of, fitting, miss_of, opening_of, rate_of, unless_fault}
 use Rattle.farm_entry.specs.Legal.{ask_of}
 use Rattle.farm_entry.specs.declared.command.OpenAsk.{OpenAsk}
 use Rattle.weight_exact.specs.declared.limits.TheConstants.{MAX_WIDTH}

@@ -1,4 +1,5 @@
--- A run is due only while fewer are out: fewer than the width of its search, or fewer at its position than the reruns asked for.
+-- A run is due only while fewer are out: fewer than the width of its search, or fewer at its position than the reruns
+-- asked for.
 use Rattle.std.proofs.Common.{◌≡◌, ℕ, ◌+◌, ◌-◌, ◌<◌, ◌==◌, Bool, true, false, nat_lt, List, length, Option, Some, None, if◌then◌else◌, refl, sym, ap, subst, ◌∙◌, arith, ltb-true, true≢false}
 use Rattle.std.specs.Option.{option_map}
 use Rattle.std.proofs.lemmas.Bool.{eqb-true}

@@ -72,8 +72,8 @@ All-optional : {X : Type 0} (P : X → Type 0) (o : Option X) → ((x : X) → o
 All-optional P None h = All-nil P
 All-optional P (Some x) h = All-cons P x [] (h x refl) (All-nil P)
 
--- A part of each entry that has it. What holds of the part of a new entry, where it holds of all parts before, and stays,
--- holds of all parts
+-- A part of each entry that has it. What holds of the part of a new entry, where it holds of all parts before, and
+-- stays, holds of all parts
 pub each_part_on : {X : Type 0} (part : What → Option X) (P : List Entry → X → Type 0) →
     ((w : What) → IsFounding w → part w ≡ None) →
     ((H : List Entry) (e : Entry) (x : X) → IsLegal H → All (P H) (filter_map (λ (y : Entry). part y.what) H) →

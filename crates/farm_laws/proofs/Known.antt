@@ -1,4 +1,5 @@
--- What a legal history knows: each reported run was handed out, and each run that is handed out is due in an open search.
+-- What a legal history knows: each reported run was handed out, and each run that is handed out is due in an open
+-- search.
 use Rattle.std.proofs.Common.{◌≡◌, ℕ, zero, suc, Bool, true, false, nat_le, if◌then◌else◌, List, [], ◌∷◌, Contains, All, Option, Some, None, refl, sym, ap, subst, ◌∙◌, arith}
 use Rattle.std.specs.List.{cons_option, filter_map}
 use Rattle.std.specs.Option.{option_map}

@@ -1,4 +1,5 @@
--- How many runs of a search are out: at most its width while it searches, and at most twice its reruns while it verifies.
+-- How many runs of a search are out: at most its width while it searches, and at most twice its reruns while it
+-- verifies.
 use Rattle.std.proofs.Common.{◌≡◌, ℕ, ◌+◌, ◌*◌, ◌-◌, ◌≤◌, ◌==◌, Bool, true, List, [], ◌∷◌, length, ◌&&◌, count_by, cond, All, Contains, Option, Some, None, ◌⊎◌, ⊎_elim, refl, ap, subst, arith, eq-eqb}
 use Rattle.std.proofs.lemmas.List.Elements.{All-contains_itself, All-filter, All-head, All-tail, All-weaker, filter_passes}
 use Rattle.std.proofs.lemmas.Option.{none-some}

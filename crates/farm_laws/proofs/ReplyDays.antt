@@ -1,6 +1,5 @@
 -- The days that a farm's replies show, and those that its refusals name, are at most the last one.
-use Rattle.std.proofs.Common.{◌≡◌, ◌+◌, ◌≤◌, ℕ, zero, suc, Bool, true, false, if◌then◌else◌, List, [], ◌∷◌, ◌++◌, Contains, All, length, slice_get, slice_index_or, take, Option, Some, None, Result, Ok, Err, refl, sym, ap, subst, ◌∙◌, arith}
-use Rattle.std.specs.List.{cons_option, filter_map}
+use Rattle.std.proofs.Common.{◌≡◌, ◌+◌, ◌≤◌, ℕ, Bool, true, false, if◌then◌else◌, List, slice_get, slice_index_or, take, Option, Some, None, Result, Ok, Err, refl, subst}
 use Rattle.std.specs.Option.{option_and_then, option_map}
 use Rattle.std.proofs.lemmas.List.Elements.{All-contains_itself}
 use Rattle.std.proofs.lemmas.Option.{none-some}
@@ -11,8 +10,8 @@ use Rattle.farm_types.specs.declared.key.Key.{Key}
 use Rattle.farm_types.specs.declared.moment.Moment.{Moment}
 use Rattle.farm_types.specs.declared.moment.TheConstants.{LAST_DAY}
 use Rattle.weight_exact.specs.declared.run.Verdict.{Verdict}
-use Rattle.farm_entry.specs.Decision.{add_at, add_opening, asked_before, cancel_decision, decide, full_decision, is_show, keyed_decision, known_decision, lease_decision, moment_used, open_decision, or_else, own_decision, page_decision, refuse_opening, repeat_or_clash, report_decision, revert_decision, shape_decision}
-use Rattle.farm_entry.specs.History.{lease_of, opening_numbered, openings, order_in, order_lines, place_of_key, place_of_report}
+use Rattle.farm_entry.specs.Decision.{add_at, add_opening, asked_before, cancel_decision, decide, full_decision, keyed_decision, known_decision, lease_decision, moment_used, or_else, own_decision, page_decision, refuse_opening, repeat_or_clash, report_decision, revert_decision, shape_decision}
+use Rattle.farm_entry.specs.History.{lease_of, opening_numbered, order_in, order_lines, place_of_key, place_of_report}
 use Rattle.farm_entry.specs.Legal.{IsLegal}
 use Rattle.farm_entry.specs.Reply.{reply_at, reply_to, reply_to_report}
 use Rattle.farm_entry.specs.Setup.{budget_of_search}
@@ -20,13 +19,12 @@ use Rattle.farm_entry.specs.Standing.{is_active, standing}
 use Rattle.farm_entry.specs.declared.command.Command.{Command}
 use Rattle.farm_entry.specs.declared.command.Command.TheVariants as command
 use Rattle.farm_entry.specs.declared.decision.Decision.{Decision}
-use Rattle.farm_entry.specs.declared.decision.Decision.TheVariants.{New, Refuse, Repeat, Show}
+use Rattle.farm_entry.specs.declared.decision.Decision.TheVariants.{Refuse, Repeat, Show}
 use Rattle.farm_entry.specs.declared.entry.Entry.{Entry}
 use Rattle.farm_entry.specs.declared.entry.What.{What}
 use Rattle.farm_entry.specs.declared.entry.What.TheVariants.{Founded, Opened, Leased, Reported, Cancelled, Ordered}
 use Rattle.farm_entry.specs.declared.lease.DueRun.{DueRun}
 use Rattle.farm_entry.specs.declared.lease.LeasedRun.{LeasedRun}
-use Rattle.farm_entry.specs.declared.limits.TheConstants.{MAX_SEARCHES}
 use Rattle.farm_entry.specs.declared.opening.Opening.{Opening}
 use Rattle.farm_entry.specs.declared.order_page.OrderLine.{OrderLine}
 use Rattle.farm_entry.specs.declared.refusal.OpenFault.{OpenFault}

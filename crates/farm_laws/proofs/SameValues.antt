@@ -1,8 +1,6 @@
 -- Values with the same numbers are equal, since a fact that a value keeps has one proof, and `==` tells.
 use Rattle.std.proofs.Common.{◌≡◌, Decides, ap}
-use Rattle.std.proofs.Props.{props}
 use Rattle.std.proofs.lemmas.Bool.Decides.{Decides-and, Decides-eqb, Decides-int_eq, Decides-like}
-use mathlib.Core.HLevel.{is_prop→PathP}
 use Rattle.farm_types.specs.Moment.{moment_ms}
 use Rattle.farm_types.specs.contracts.moment.MomentPartialEq.TheImpl as moment_eq
 use Rattle.farm_types.specs.declared.moment.Moment.{Moment}
@@ -17,7 +15,6 @@ use Rattle.flake_rate.specs.contracts.rate.RatePartialEq.TheImpl as rate_eq
 use Rattle.flake_rate.specs.declared.bar.Bar.{Bar}
 use Rattle.flake_rate.specs.declared.miss.Miss.{Miss}
 use Rattle.flake_rate.specs.declared.rate.Rate.{Rate}
-use Rattle.farm_entry.specs.Limits.{IsDailyLimit, IsLeaseTime, IsZone}
 use Rattle.farm_entry.proofs.SameSettings.{settings-from_numbers}
 use Rattle.farm_entry.specs.Settings.{settings_daily, settings_lease_ms, settings_zone_minutes}
 use Rattle.farm_entry.specs.contracts.settings.SettingsPartialEq.TheImpl as settings_eq

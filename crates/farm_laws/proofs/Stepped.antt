@@ -77,7 +77,8 @@ KindFacts H m (Reported run verdict fate) = ReportedNext H run verdict fate
 KindFacts H m (Cancelled key search) = CancelledNext H search
 KindFacts H m (Ordered key agent order commit search day) = OrderedNext H m order commit search day
 
--- an entry may come next: its moment is not before the last one, there is room, its key is unused, and the facts of its kind
+-- an entry may come next: its moment is not before the last one, there is room, its key is unused, and the facts of
+-- its kind
 pub record Stepped (H : List Entry) (m : Moment) (what : What) : Type 0 where
   pub at : moment_used H m ≡ m
   pub room : length H < MAX_ENTRIES

@@ -9,7 +9,8 @@ ghost use Rattle.farm_entry.specs.Reply.{reply_at};
 use farm_entry::{Command, Decision, Entry, Reply, Settings};
 use farm_types::Moment;
 
-/// The entry that a command makes may come next, whatever command it is: what the entry says is enough to make it again.
+/// The entry that a command makes may come next, whatever command it is: what the entry says is enough to make it
+/// again.
 pub fn decisions_can_be_recorded()
     ensures { (H : List Entry) (q : Command) (m : Moment) (e : Entry) → decide H q m ≡ Decision.New e → IsNext H e }
 {}

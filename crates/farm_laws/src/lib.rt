@@ -2,8 +2,8 @@
 //! that does nothing.
 //!
 //! Among the laws: a legal history grows entry by entry (`legal_histories_grow_by_entries`); the entry that a command
-//! makes may come next, whatever the command (`decisions_can_be_recorded`); a command that an entry names is answered
-//! by that entry's place from then on, at every moment (`repeats_are_known`); each entry after the founding has a
+//! makes may come next, whatever the command (`decisions_can_be_recorded`); a command that an entry names is decided
+//! as a repeat of that entry from then on, at every moment (`repeats_are_known`); each entry after the founding has a
 //! reply, which stays the same (`replies_stay`).
 //!
 //! The crate stands on `farm_entry` for the types and the definitions, and on the crates below it for their laws. The

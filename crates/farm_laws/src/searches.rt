@@ -60,7 +60,8 @@ pub fn runs_are_in_range()
         → (o : Opening) × (opening_numbered H l.search ≡ Some o) }
 {}
 
-/// Once a search isn't searching, the runs by which its belief is made stay as they are, and so does what they brought to the bar.
+/// Once a search isn't searching, the runs by which its belief is made stay as they are, and so does what they brought
+/// to the bar.
 pub fn runs_of_a_search_stop_growing()
     ensures { (H K : List Entry) (o : Opening) → IsLegal (H ++ K) → Contains (openings H) o
         → standing H o ≢ Searching

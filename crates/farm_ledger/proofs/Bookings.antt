@@ -13,7 +13,6 @@ use Rattle.farm_entry.specs.History.{daily_limit, order_in, order_lines}
 use Rattle.farm_entry.specs.Legal.{IsLegal}
 use Rattle.farm_entry.specs.Orders.{confirmed_searches, day_in, ordered, orders}
 use Rattle.farm_entry.specs.declared.entry.Entry.{Entry}
-use Rattle.farm_entry.specs.declared.entry.What.{What}
 use Rattle.farm_entry.specs.declared.order_page.OrderLine.{OrderLine}
 use Rattle.farm_entry.proofs.Growing.{order_lines-grow}
 use Rattle.farm_laws.proofs.Bounds.{openings-bounded}

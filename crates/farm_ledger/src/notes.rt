@@ -14,8 +14,8 @@ use farm_types::Moment;
 use plain_history::zone_minutes;
 use revert_orders::{Orders, day_of};
 
-/// What is kept of a search beside its state: the place of the entry that opened it, and how many of its runs were handed
-/// out.
+/// What is kept of a search beside its state: the place of the entry that opened it, and how many of its runs were
+/// handed out.
 #[derive(Clone, Copy, Debug)]
 pub(crate) struct Row {
     pub(crate) place: u32,

@@ -23,8 +23,8 @@ use revert_orders::Orders;
 use std::alloc::Global;
 use std::marker::Model;
 
-/// A farm's history with the state of each search and the order of their turns, what is kept of the searches beside it, and
-/// the orders that stand. Contracts see it as the history.
+/// A farm's history with the state of each search and the order of their turns, what is kept of the searches beside
+/// it, and the orders that stand. Contracts see it as the history.
 #[derive(Drop)]
 pub(crate) struct Register {
     turns: FarmTurns,
@@ -106,7 +106,8 @@ impl Register {
         }
     }
 
-    /// The search with a number, where it waits for an order: its culprit is confirmed, and no order is for that commit.
+    /// The search with a number, where it waits for an order: its culprit is confirmed, and no order is for that
+    /// commit.
     pub(crate) fn waiting(&self, number: u32) -> Option<Candidate>
         ensures { result ≡ waiting_numbered self.now number }
     {
@@ -125,8 +126,8 @@ impl Register {
         Some(candidate)
     }
 
-    /// What the next request for an order comes to at a moment, where this is the first search that waits for one, or none
-    /// does.
+    /// What the next request for an order comes to at a moment, where this is the first search that waits for one, or
+    /// none does.
     pub(crate) fn next_order(
         &self,
         first: Option<Candidate>,

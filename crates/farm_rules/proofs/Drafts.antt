@@ -1,15 +1,14 @@
 -- What it says of a request for the next order that it is answered so.
-use Rattle.std.proofs.Common.{◌≡◌, ℕ, ◌+◌, ◌<◌, ◌≤◌, Bool, true, false, not, nat_lt, List, [], length, Option, Some, None, Result, Ok, Err, if◌then◌else◌, All, refl, sym, ap, subst, ◌∙◌}
-use Rattle.std.proofs.lemmas.Bool.{cases_Bool, ltb-true, ltb-false, not-true}
+use Rattle.std.proofs.Common.{◌≡◌, ℕ, ◌+◌, ◌<◌, ◌≤◌, Bool, true, false, not, nat_lt, List, length, Option, Some, None, Ok, Err, if◌then◌else◌, refl, subst}
+use Rattle.std.proofs.lemmas.Bool.{ltb-true, ltb-false, not-true}
 use Rattle.std.proofs.lemmas.List.Elements.{All-contains_itself, All-filter, filter_passes}
 use Rattle.std.specs.List.{Contains}
 use Rattle.farm_rules.specs.Orders.{Ordered, candidates, draft_for, draft_of, earliest, has_order, next_draft, orders_of}
 use Rattle.farm_rules.specs.NextOrder.{IsNextOrder}
 use Rattle.farm_rules.specs.declared.orders.Candidate.{Candidate}
 use Rattle.farm_rules.specs.declared.orders.Draft.{Draft}
-use Rattle.farm_rules.specs.declared.orders.NoOrder.{NoOrder}
 use Rattle.farm_rules.specs.declared.orders.NoOrder.TheVariants.{DailyLimit, NoRevert}
-use Rattle.farm_rules.proofs.Earliest.{earliest-all, earliest-contained, earliest-least}
+use Rattle.farm_rules.proofs.Earliest.{earliest-all, earliest-least}
 
 -- what a draft says of the search that it is for
 pub record IsDraftOf (best : Option Candidate) (order day limit count : ℕ) (d : Draft) : Type 0 where
@@ -31,8 +30,8 @@ draft_of-ok (Some c) order day limit count d is = by (nat_lt count limit) refl i
         (record { is = refl; numbered = refl; dated = refl; room = ltb-true count limit test })
     by false test same = absurd (cc)
 
--- the search that gets an order is a confirmed one without an order, none of these has a smaller number, and its day has
--- room
+-- the search that gets an order is a confirmed one without an order, none of these has a smaller number, and its day
+-- has room
 pub next_draft-ok : (searches : List Candidate) (orders : List Ordered) (day limit : ℕ) (d : Draft) →
     next_draft searches orders day limit ≡ Ok d → IsNextOrder searches orders day limit d
 next_draft-ok searches orders day limit d is =

@@ -1,4 +1,5 @@
--- Where a search is to run next, given what runs already. Positions stand in lists, and one that runs twice stands twice.
+-- Where a search is to run next, given what runs already. Positions stand in lists, and one that runs twice stands
+-- twice.
 use Rattle.std.specs.Prelude.{ℕ, ◌+◌, ◌-◌, ◌==◌, nat_lt, List, [], ◌∷◌, length, count_by, if◌then◌else◌, Option, Some, None}
 
 -- a plan without its first entry at a position, where it has one
@@ -17,7 +18,8 @@ first_entry [] = None
 first_entry (entry ∷ plan) = Some entry
 
 -- The position that a searching search is to run next: the first entry of its plan that is left, while fewer runs are
--- outstanding than its plan has entries. A run at a position that the plan no longer has takes up room and strikes nothing
+-- outstanding than its plan has entries. A run at a position that the plan no longer has takes up room and strikes
+-- nothing
 abbrev pub due_search : (plan outstanding : List ℕ) → Option ℕ
 due_search plan outstanding =
     if nat_lt (length outstanding) (length plan) then first_entry (struck plan outstanding) else None

@@ -5,8 +5,8 @@ use Rattle.farm_rules.specs.Orders.{Ordered, candidates, has_order, orders_of}
 use Rattle.farm_rules.specs.declared.orders.Candidate.{Candidate}
 use Rattle.farm_rules.specs.declared.orders.Draft.{Draft}
 
--- The next order is for a confirmed search whose commit has no order, none of these searches has a smaller number, it has
--- the next number, and its day has room for it
+-- The next order is for a confirmed search whose commit has no order, none of these searches has a smaller number, it
+-- has the next number, and its day has room for it
 pub record IsNextOrder (searches : List Candidate) (orders : List Ordered) (day limit : ℕ) (d : Draft) : Type 0 where
   pub confirmed : Contains searches (record { search = d.search; commit = d.commit })
   pub free : has_order orders d.commit ≡ false

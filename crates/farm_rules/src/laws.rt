@@ -1,4 +1,5 @@
-//! Worked numbers, and laws that say what characterises the rules. A function here does nothing: its contract is the law.
+//! Worked numbers, and laws that say what characterises the rules. A function here does nothing: its contract is the
+//! law.
 
 ghost use Rattle.std.specs.Prelude.{◌≡◌, ◌≢◌, ◌↔◌, ℕ, ◌+◌, ◌<◌, ◌≤◌, ℤ, ◌*ℤ◌, ◌≤ℤ◌, ◌<ℤ◌, List, [], ◌∷◌, ◌++◌, All, IsPermutation, Some, None, Ok, Err, pos, negsuc};
 ghost use Rattle.std.specs.List.{Contains};
@@ -47,8 +48,8 @@ pub fn worked_numbers()
     ensures east_of_utc { day_at 122399999 (pos 840) ≡ 1 }
 {}
 
-/// What is due doesn't depend on the order in which the outstanding runs stand: each strikes an entry at its position, so
-/// only how many there are at a position matters.
+/// What is due doesn't depend on the order in which the outstanding runs stand: each strikes an entry at its position,
+/// so only how many there are at a position matters.
 pub fn outstanding_runs_in_any_order()
     ensures left { (plan outstanding other : List ℕ) → IsPermutation outstanding other →
         struck plan other ≡ struck plan outstanding }
@@ -60,8 +61,8 @@ pub fn outstanding_runs_in_any_order()
         ≡ due_verify culprit at_culprit at_parent outstanding reruns }
 {}
 
-/// The earliest of a list of searches is one of them, none of them has a smaller number, and of those with its number it
-/// is the first. There is one unless the list is empty.
+/// The earliest of a list of searches is one of them, none of them has a smaller number, and of those with its number
+/// it is the first. There is one unless the list is empty.
 pub fn earliest_is_the_first_with_the_least_number()
     ensures one_of_them { (searches : List Candidate) (c : Candidate) → earliest searches ≡ Some c → Contains searches c }
     ensures least { (searches : List Candidate) (c : Candidate) → earliest searches ≡ Some c →
@@ -72,9 +73,9 @@ pub fn earliest_is_the_first_with_the_least_number()
     ensures none { (searches : List Candidate) → (earliest searches ≡ None) ↔ (searches ≡ []) }
 {}
 
-/// A draft is the next order: for a confirmed search whose commit has none, with the smallest number among those, with the
-/// next number, on a day that has room for it. There is no draft where no confirmed search is left, and else none where
-/// the day has as many orders as its limit allows.
+/// A draft is the next order: for a confirmed search whose commit has none, with the smallest number among those, with
+/// the next number, on a day that has room for it. There is no draft where no confirmed search is left, and else none
+/// where the day has as many orders as its limit allows.
 pub fn drafts_are_next_orders()
     ensures next { (searches : List Candidate) (orders : List Ordered) (day limit : ℕ) (d : Draft) →
         next_draft searches orders day limit ≡ Ok d → IsNextOrder searches orders day limit d }
@@ -85,8 +86,8 @@ pub fn drafts_are_next_orders()
         (named ≡ day) × (count ≡ orders_of day orders) × (limit ≤ orders_of day orders) }
 {}
 
-/// The day of a moment, by its milliseconds: it begins at or before the local time, the next one begins after it, and it
-/// lies from day 0 to the last day.
+/// The day of a moment, by its milliseconds: it begins at or before the local time, the next one begins after it, and
+/// it lies from day 0 to the last day.
 pub fn days_have_their_milliseconds()
     ensures begins { (moment : ℕ) (zone : ℤ) → IsMoment moment → ZONE_MIN_MINUTES ≤ℤ zone →
         (pos (day_at moment zone) *ℤ MS_PER_DAY) ≤ℤ local_ms moment zone }

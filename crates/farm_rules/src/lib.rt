@@ -9,7 +9,7 @@
 //! `proofs/Striking` (what is left of a plan), `proofs/Earliest` and `proofs/Drafts` (the next order).
 //!
 //! The laws: what is due doesn't depend on the order of the outstanding runs (`outstanding_runs_in_any_order`); the
-//! search that gets an order is the first with the least number among the confirmed ones without one
+//! search that gets an order is the first with the least number among the confirmed ones whose commit has none
 //! (`drafts_are_next_orders`, `earliest_is_the_first_with_the_least_number`); a day begins at or before its moments and
 //! the next one after them (`days_have_their_milliseconds`).
 #![tactic(auto)]

@@ -21,8 +21,8 @@ IsServedLink start final clock link (Err ReadFault) = IsHeldOf start final clock
 IsServedLink start final clock link (Err WriteFault) = IsHeldOf start final clock link false × (0 < link.count)
 IsServedLink start final clock link (Err Memory) = IsHeldOf start final clock link false
 
--- What is held of a link that was taken back. It was read and answered whole; or a part is held, and then the link failed,
--- or memory ran out.
+-- What is held of a link that was taken back. It was read and answered whole; or a part is held, and then the link
+-- failed, or memory ran out.
 abbrev pub IsHeldBack : Mark → Mark → (Moment → Type 0) → (short : Bool) → LinkState → Type 0
 IsHeldBack start final clock short link =
     IsHeldOf start final clock link true

@@ -27,9 +27,10 @@ abbrev pub mark_at : List Entry → DiskSeen → Mark
 mark_at history disk = record { seen = history; faults = disk.faults }
 
 -- Of the events that the network gained, the newest first. Unless memory ran out they hold so many accepts, or fewer of
--- which the last one answered that no more will come. As many links were taken back as were given. Each of them was read
--- and answered whole; or a part is held of what was put to it, and then it failed, or memory ran out: from the mark at
--- entry to the one at exit, with the moments that the clock may give. And whether an accept failed is as the ending says.
+-- which the last one answered that no more will come. As many links were taken back as were given. Each of them was
+-- read and answered whole; or a part is held of what was put to it, and then it failed, or memory ran out: from the
+-- mark at entry to the one at exit, with the moments that the clock may give. And whether an accept failed is as the
+-- ending says.
 pub record LinksServed (start final : Mark) (clock : Moment → Type 0) (links : ℕ) (ending : Ending)
     (before : List NetworkEvent) (now : Option (List NetworkEvent)) : Type 0 where
   pub gained : List NetworkEvent
@@ -40,8 +41,8 @@ pub record LinksServed (start final : Mark) (clock : Moment → Type 0) (links :
   pub held : AreHeldBack start final clock (is_memory ending) gained
   pub fault : TellsFailure ending (has_failed gained)
 
--- The journal was not opened: no accept was made, nothing was put, and the disk was only read. Why is what its bytes are,
--- or the disk failed, or memory ran out.
+-- The journal was not opened: no accept was made, nothing was put, and the disk was only read. Why is what its bytes
+-- are, or the disk failed, or memory ran out.
 pub record JournalMissed (fault : OpeningFault) (old new : Outside) : Type 0 where
   pub untouched : (new.network ≡ old.network) × (new.output ≡ old.output)
   pub cause : old.disk.tells ≡ true → IsMissedBy old.disk.told.bytes fault
@@ -85,8 +86,8 @@ ServeEnds links clock end.NetFault old new = FarmServed links clock end.NetFault
 ServeEnds links clock end.WriteFault old new = FarmServed links clock end.WriteFault old new
 ServeEnds links clock end.Memory old new = FarmServed links clock end.Memory old new
 
--- Where neither the network nor the output nor the disk fails, and the journal holds a history, the service is done, but for
--- running out of memory.
+-- Where neither the network nor the output nor the disk fails, and the journal holds a history, the service is done,
+-- but for running out of memory.
 abbrev pub ServeCompletes : Ending → (old new : Outside) → Type 0
 ServeCompletes ending old new =
     ¬ Rose old.network.faults new.network.faults → ¬ Rose old.output.faults new.output.faults

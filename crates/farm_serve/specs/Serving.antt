@@ -16,9 +16,9 @@ use Rattle.farm_serve.specs.declared.standing.Standing.{Standing}
 abbrev pub store_mark : {D : Type 0} → (D → ℕ) → StoreState D → Mark
 store_mark count store = record { seen = store.history; faults = count store.disk }
 
--- The events that the network gained since entry: the accepts that were made, how the last one ended and whether one failed
--- are those of the standing, so many links are out, and each link taken back is held for the mark at entry and what was
--- seen since.
+-- The events that the network gained since entry: the accepts that were made, how the last one ended and whether one
+-- failed are those of the standing, so many links are out, and each link taken back is held for the mark at entry and
+-- what was seen since.
 pub record IsGained (a : AtEntry) (clock : Moment → Type 0) (seen : Mark) (out : ℕ) (s : Standing)
     (before : List NetworkEvent) (now : Option (List NetworkEvent)) : Type 0 where
   pub gained : List NetworkEvent
@@ -29,7 +29,8 @@ pub record IsGained (a : AtEntry) (clock : Moment → Type 0) (seen : Mark) (out
   pub links : links_of gained ≡ returns_of gained + out
   pub held : AreHeldBack a.start seen clock s.short gained
 
--- what the value in the lock keeps: its pass, how many links are out, the standing, and what the network told and its count
+-- what the value in the lock keeps: its pass, how many links are out, the standing, and what the network told and its
+-- count
 pub record IsServing (a : AtEntry) (clock : Moment → Type 0) (pass : Known) (out : ℕ) (s : Standing)
     (now : Option (List NetworkEvent)) (count : ℕ) : Type 0 where
   pub ready : IsReady a.lock pass
@@ -38,9 +39,9 @@ pub record IsServing (a : AtEntry) (clock : Moment → Type 0) (pass : Known) (o
   pub rose : s.failed ≡ true → Rose a.count count
   pub gained : IfSome a.told (λ before. IsGained a clock (mark_of pass) out s before now)
 
--- Of the events that a network gained in serving: they hold so many accepts, or fewer of which the last one answered that
--- no more will come, unless memory ran out; as many links were taken back as were given; each is held for the mark at
--- exit; and the standing says whether an accept failed.
+-- Of the events that a network gained in serving: they hold so many accepts, or fewer of which the last one answered
+-- that no more will come, unless memory ran out; as many links were taken back as were given; each is held for the
+-- mark at exit; and the standing says whether an accept failed.
 pub record AreServed (start final : Mark) (clock : Moment → Type 0) (links : ℕ) (s : Standing)
     (before : List NetworkEvent) (now : Option (List NetworkEvent)) : Type 0 where
   pub gained : List NetworkEvent

@@ -26,8 +26,8 @@ use std::marker::Model;
 use std::sync::Wait;
 use std::sync::ledger::{Book, Share};
 
-/// The network, with a pass of the farm that has seen all that the links taken back were answered at, and the book of the
-/// links that are out.
+/// The network, with a pass of the farm that has seen all that the links taken back were answered at, and the book of
+/// the links that are out.
 ///
 /// Its pass is split for each link and joined with the link's pass when that is taken back. Contracts see it as how the
 /// serving stands.

@@ -112,8 +112,8 @@ where
     }
 }
 
-/// Takes links and serves them, one after the other, until no accept is left or one answers that no more will come. It has
-/// one table of paths and one reader for all its links.
+/// Takes links and serves them, one after the other, until no accept is left or one answers that no more will come. It
+/// has one table of paths and one reader for all its links.
 fn handle<D: Disk, B: Beginning, N: Network + Drop, C: Clock, J: Naming, R: Wait>(
     rt: &R,
     alloc: Global,

@@ -4,9 +4,9 @@
 //! lock and serve each outside of it, until so many accepts were made or one answered that no more will come. Then it
 //! puts the farm's line, and gives disk and network back. What it promises is one clause, `ServeEnds` of `specs/`.
 //!
-//! The crate stands on `farm_http` for the serving of one connection, on `shared_farm` and `farm_store` for the farm, on
-//! `net_io` for networks, and on `farm_wire` for the line. It alone starts threads. The layers above may use `serve` and
-//! `Ending`.
+//! The crate stands on `farm_http` for the serving of one connection, on `shared_farm` and `farm_store` for the farm,
+//! on `net_io` for networks, and on `farm_wire` for the line. It alone starts threads. The layers above may use
+//! `serve` and `Ending`.
 #![tactic(auto)]
 
 mod ending;

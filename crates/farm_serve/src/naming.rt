@@ -3,8 +3,8 @@
 use std::marker::Brand;
 use std::sync::ledger::Ledger;
 
-/// What one call of serving began with, and the moments that its clock may give; and the ledger of the links that are out.
-/// Each call picks it.
+/// What one call of serving began with, and the moments that its clock may give; and the ledger of the links that are
+/// out. Each call picks it.
 pub trait Naming: Ledger {
     ghost use Rattle.farm_types.specs.declared.moment.Moment.{Moment};
     ghost use Rattle.farm_serve.specs.Entries.{AtEntry};

@@ -27,12 +27,12 @@ use std::sync::ledger::Blank;
 use std::sync::{Mutex, Wait};
 use std::thread::Threads;
 
-/// Serves the farm whose journal is on a disk: opens the journal, answers the requests of the network's links by so many
-/// handlers, until so many accepts were made or one answered that no more will come, and puts the farm's line. The disk and
-/// the network are given back.
+/// Serves the farm whose journal is on a disk: opens the journal, answers the requests of the network's links by so
+/// many handlers, until so many accepts were made or one answered that no more will come, and puts the farm's line.
+/// The disk and the network are given back.
 ///
-/// A link that fails, or for which memory runs out, ends alone, and a failed accept is one of those that are made. After
-/// a fault of the disk a command gets its answer that the store failed, and the next one tries again.
+/// A link that fails, or for which memory runs out, ends alone, and a failed accept is one of those that are made.
+/// After a fault of the disk a command gets its answer that the store failed, and the next one tries again.
 pub fn serve<
     D: Disk + Drop + Send,
     N: Network + Drop + Send,

@@ -83,8 +83,8 @@ impl FarmState {
         Some(&self.searches[number as usize - 1])
     }
 
-    /// The run that is due in the search with a number, at a moment that is not before the last entry; none, where no such
-    /// search was opened.
+    /// The run that is due in the search with a number, at a moment that is not before the last entry; none, where no
+    /// such search was opened.
     pub fn due(&self, number: u32, moment: Moment) -> Option<DueRun>
         requires { IsNotBefore self.now (moment_ms moment) }
         ensures { result ≡ option_and_then (λ o. due self.now o (moment_ms moment)) (opening_numbered self.now number) }

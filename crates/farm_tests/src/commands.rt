@@ -32,8 +32,8 @@ fn suspects(alloc: Global, first: u8, count: u8, weight: u32) -> Result<Suspects
     Ok(Suspects::of(suspects))
 }
 
-// Opens a search among suspects of one weight, above commit 0: with a calm weight of 1, a flake rate of 1/10, no misses, a
-// bar of 9/10, one run at a time and one rerun on each side.
+// Opens a search among suspects of one weight, above commit 0: with a calm weight of 1, a flake rate of 1/10, no
+// misses, a bar of 9/10, one run at a time and one rerun on each side.
 fn open(alloc: Global, key: Key, text: &str) -> Result<Command, Memory> {
     let (first, rest) = word(text);
     let (count, weight) = word(rest);

@@ -1,13 +1,13 @@
-//! Plays farms by the plain program, and prints what its calls tell of them. The cases of standard input are separated by an
-//! empty line. A case begins with the farm, as `found DAILY ZONE`: with so many orders a day, in a zone so many minutes
-//! east of UTC. Each line behind it is a command (`open FIRST COUNT WEIGHT`, `lease`, `report RUN VERDICT`, `revert
-//! MOMENT`) or a question about the farm as it stands, and is printed with what it comes to. Where no moment is asked for, it is
-//! that at which the farm was founded. A line that begins with `#` is printed as it is. The file `stdout` has what is
-//! wanted; it was worked out by hand.
+//! Plays farms by the plain program, and prints what its calls tell of them. The cases of standard input are separated
+//! by an empty line. A case begins with the farm, as `found DAILY ZONE`: with so many orders a day, in a zone so many
+//! minutes east of UTC. Each line behind it is a command (`open FIRST COUNT WEIGHT`, `lease`, `report RUN VERDICT`,
+//! `revert MOMENT`) or a question about the farm as it stands, and is printed with what it comes to. Where no moment
+//! is asked for, it is that at which the farm was founded. A line that begins with `#` is printed as it is. The file
+//! `stdout` has what is wanted; it was worked out by hand.
 //!
-//! The cases are what no other test shows: each call that takes memory with ample memory, a daily limit in a zone of its
-//! own, and lists that are no histories. Whole farms are played through the program in `finder_tests`, and by evaluating
-//! the definitions in `farm_worked`.
+//! The cases are what no other test shows: each call that takes memory with ample memory, a daily limit in a zone of
+//! its own, and lists that are no histories. Whole farms are played through the program in `finder_tests`, and by
+//! evaluating the definitions in `farm_worked`.
 #![tactic(auto)]
 
 mod answers;

@@ -1,8 +1,8 @@
 //! The small values of the farm, each of which holds exactly what was read: ids of commits, names, moments in time,
 //! keys of requests, the stage of a run. The limits of time zones and of days stand here too, for the layers above that
-//! share them, and running out of memory is handed on.
+//! share them, and the out-of-memory error is handed on.
 //!
-//! The crate stands on `fault_types` for running out of memory, on `hex` for digits and on `thiserror` for the texts
+//! The crate stands on `fault_types` for the out-of-memory error, on `hex` for digits and on `thiserror` for the texts
 //! of its refusals, and on nothing of the farm. A value is made by the one call that tests its limits, so the layers
 //! above take it as legal and test nothing again. They may use every name below. What a value holds is seen through
 //! `id_bytes` and `moment_ms` of `specs/`, and a name is seen as the list of its bytes; why a text is refused is said

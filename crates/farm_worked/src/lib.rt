@@ -1,5 +1,5 @@
-//! Farms that are played by evaluating the definitions of `farm_entry`: numbers that were worked out by hand, and that the
-//! definitions compute. Each law is the contract of a call that does nothing.
+//! Farms that are played by evaluating the definitions of `farm_entry`: numbers that were worked out by hand, and that
+//! the definitions compute. Each law is the contract of a call that does nothing.
 //!
 //! `specs/Example` has the farms, `proofs/LargeFarm` and `proofs/Thousand` what is shown of the one with a thousand
 //! suspects, which is too large to be played whole. Nothing stands on this crate.

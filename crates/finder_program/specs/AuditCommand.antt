@@ -8,10 +8,10 @@ use Rattle.link_io.specs.declared.source.TheConstants.{INPUT_LIMIT}
 use Rattle.finder_program.specs.declared.status.Status.{Status}
 use Rattle.finder_program.specs.declared.status.Status.TheVariants.{Done, ReadFault, WriteFault, Memory, InputLimit}
 
--- What each status says of an input that tells all its bytes. Done: it was read to its end, and the line of its finding was
--- written. InputLimit: so many bytes were taken and no more, and nothing was written. A fault of the input or the output
--- comes only where it failed in this call. What was written by then is a
--- prefix of the line. No other status comes
+-- What each status says of an input that tells all its bytes. Done: it was read to its end, and the line of its
+-- finding was written. InputLimit: so many bytes were taken and no more, and nothing was written. A fault of the input
+-- or the output comes only where it failed in this call. What was written by then is a prefix of the line. No other
+-- status comes
 abbrev pub AuditEnds : Status → Streams → Streams → Type 0
 AuditEnds Done before after =
     (all : List ℕ) → before.left ≡ Some all →

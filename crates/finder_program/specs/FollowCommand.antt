@@ -36,8 +36,8 @@ EndsBy fault.NetFault status = status ≡ NetFault
 EndsBy (fault.Peer answer) status = status ≡ Peer answer
 EndsBy fault.Memory status = status ≡ Memory
 
--- What is said of what following came to. Where it came to an end, its line is put; else the status says why, and nothing
--- is written.
+-- What is said of what following came to. Where it came to an end, its line is put; else the status says why, and
+-- nothing is written.
 abbrev pub SaysFollow : Result Followed FollowFault → Status → OutputSeen → OutputSeen → Type 0
 SaysFollow (Ok followed) status before after = TextPut (follow_line followed) status before after
 SaysFollow (Err fault) status before after = EndsBy fault status × (after ≡ before)
@@ -80,8 +80,8 @@ FollowEnds rounds status old new =
     ⊎ JournalFollowed rounds status old new
 
 -- Where neither the network nor the output nor the disk fails and memory is there, a leader is followed to an end by a
--- journal that holds a history, or where nothing was created; or the journal is none of the leader's, or what the leader
--- answers is none that followers are answered.
+-- journal that holds a history, or where nothing was created; or the journal is none of the leader's, or what the
+-- leader answers is none that followers are answered.
 abbrev pub FollowCompletes : Status → (old new : Outside) → Type 0
 FollowCompletes status old new =
     ¬ Rose old.network.faults new.network.faults → ¬ Rose old.output.faults new.output.faults

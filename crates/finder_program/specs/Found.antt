@@ -52,9 +52,9 @@ FoundEnds settings at status before after old new =
     ((fault : CreateFault) × (status ≡ status_of_creating fault) × NotFounded fault before after old)
     ⊎ JournalFounded settings at status before after old new
 
--- What a crash may leave, whatever the status. A disk that was born keeps its bytes. On one that was unborn a crash since
--- the first sync that was done leaves an unborn file or the founding, and so it does from the start where each image was
--- unborn then.
+-- What a crash may leave, whatever the status. A disk that was born keeps its bytes. On one that was unborn a crash
+-- since the first sync that was done leaves an unborn file or the founding, and so it does from the start where each
+-- image was unborn then.
 pub record FoundLeaves (settings : Settings) (at : Moment) (old new : DiskSeen) : Type 0 where
   pub born : old.tells ≡ true → is_unborn old.told.bytes ≡ false → new.told.bytes ≡ old.told.bytes
   pub since_sync : old.tells ≡ true → is_unborn old.told.bytes ≡ true

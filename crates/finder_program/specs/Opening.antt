@@ -15,8 +15,8 @@ status_of_opening (fault.Damaged offset) = status.Damaged offset
 status_of_opening (fault.StoreFault before after) = status.StoreFault before after
 status_of_opening fault.Memory = status.Memory
 
--- What is seen of the input and the output is as before: nothing was taken and nothing put. Why the journal was not opened is what its bytes are,
--- and its disk was only read.
+-- What is seen of the input and the output is as before: nothing was taken and nothing put. Why the journal was not
+-- opened is what its bytes are, and its disk was only read.
 pub record NotOpened {V : Type 0} (fault : OpeningFault) (before after : V) (old new : DiskSeen) : Type 0 where
   pub untouched : after ≡ before
   pub cause : old.tells ≡ true → IsMissedBy old.told.bytes fault

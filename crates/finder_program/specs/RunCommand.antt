@@ -29,8 +29,8 @@ script_end Memory = Some script.Memory
 script_end InputLimit = Some script.InputLimit
 script_end _ = None
 
--- What a status says of the run of a script over a farm in memory: it stands for an end of which this is said, where the
--- farm is founded so
+-- What a status says of the run of a script over a farm in memory: it stands for an end of which this is said, where
+-- the farm is founded so
 abbrev pub MemoryRunEnds : Status → Streams → Streams → Type 0
 MemoryRunEnds status before after =
     (settings : Settings) × (at : Moment) × FoundsMemoryFarm settings at

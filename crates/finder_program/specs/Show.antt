@@ -12,8 +12,8 @@ use Rattle.finder_program.specs.TextPut.{TextPut}
 use Rattle.finder_program.specs.declared.status.Status.{Status}
 use Rattle.finder_program.specs.declared.status.Status.TheVariants.{Done, Memory}
 
--- The journal held a history, of which a text was put, and its disk was only read. The history is legal, whether the disk
--- tells what it holds or not
+-- The journal held a history, of which a text was put, and its disk was only read. The history is legal, whether the
+-- disk tells what it holds or not
 pub record JournalShown (text_of : List Entry → List ℕ) (status : Status) (before after : OutputSeen) (old new : DiskSeen) : Type 0 where
   pub history : List Entry
   pub held : old.tells ≡ true → StandsFor history old.told.bytes

@@ -14,7 +14,8 @@ use Rattle.finder_program.specs.TextPut.{TextPut}
 use Rattle.finder_program.specs.declared.status.Status.{Status}
 use Rattle.finder_program.specs.declared.status.Status.TheVariants.{Done, NetFault, RunnerFault, Memory, Peer}
 
--- what is seen of the network, the runner and the source of keys: what they have told, and how often the first two failed
+-- what is seen of the network, the runner and the source of keys: what they have told, and how often the first two
+-- failed
 pub record OutsideSeen : Type 0 where
   pub told : Told
   pub network_faults : ℕ
@@ -38,14 +39,14 @@ work_line worked =
     codes "leased " ++ decimal worked.leased ++ codes " reported " ++ decimal worked.reported ++ codes " "
     ++ end_word worked.idle ++ 10 ∷ []
 
--- What is said of what the work came to. Where it came to its end, its line is put; else the status is that of its fault, and
--- nothing is written
+-- What is said of what the work came to. Where it came to its end, its line is put; else the status is that of its
+-- fault, and nothing is written
 abbrev pub SaysWork : Result Worked WorkFault → Status → OutputSeen → OutputSeen → Type 0
 SaysWork (Ok worked) status before after = TextPut (work_line worked) status before after
 SaysWork (Err fault) status before after = (status ≡ status_of_work fault) × (after ≡ before)
 
--- The work of a worker of this name that is to take so many leases, and what was written of it. A fault of the network or the
--- runner is answered only where it failed in this call
+-- The work of a worker of this name that is to take so many leases, and what was written of it. A fault of the network
+-- or the runner is answered only where it failed in this call
 pub record WorkEnds (worker : List ℕ) (runs : ℕ) (status : Status) (before after : OutsideSeen) (written now : OutputSeen) : Type 0 where
   pub result : Result Worked WorkFault
   pub works : Works worker runs before.told after.told result
@@ -53,7 +54,8 @@ pub record WorkEnds (worker : List ℕ) (runs : ℕ) (status : Status) (before a
   pub net_fault : status ≡ NetFault → Rose before.network_faults after.network_faults
   pub runner_fault : status ≡ RunnerFault → Rose before.runner_faults after.runner_faults
 
--- where nothing fails and memory is there, the work comes to its end, or the service's answers are none that it goes on with
+-- where nothing fails and memory is there, the work comes to its end, or the service's answers are none that it goes
+-- on with
 abbrev pub WorkCompletes : Status → (before after : OutsideSeen) → (written now : OutputSeen) → Type 0
 WorkCompletes status before after written now =
     ¬ Rose before.network_faults after.network_faults → ¬ Rose before.runner_faults after.runner_faults →

@@ -26,8 +26,8 @@ use link_io::Sink;
 use net_io::Network;
 use std::alloc::Global;
 
-/// Opens the journal, or takes an empty file for one without an entry, and follows the leader at the network's address from
-/// what it holds, for so many rounds or until the leader has no more. Then it writes the line of how far it came.
+/// Opens the journal, or takes an empty file for one without an entry, and follows the leader at the network's address
+/// from what it holds, for so many rounds or until the leader has no more. Then it writes the line of how far it came.
 pub fn follow_command<K: Sink, D: Disk, N: Network>(
     alloc: Global,
     output: &mut K,

@@ -22,10 +22,10 @@ const CONNECTION_TIMEOUT_MS: u64 = 30_000;
 /// Where the subcommand did not do its work, the status's text is the one line on standard error; what can't be written
 /// there is lost.
 ///
-/// The adapters over standard input and output, over the journal's file, over TCP, over the machine's clock and over its
-/// random bytes are the trusted edge: no contract says which bytes the system or a peer gives, takes or keeps, what its
-/// clock shows, or that a key was never drawn before. What the program does with them is the contract of [`finder`], and
-/// what it writes to standard error is that of [`Status::write_line`].
+/// The adapters over standard input and output, over the journal's file, over TCP, over the machine's clock and over
+/// its random bytes are the trusted edge: no contract says which bytes the system or a peer gives, takes or keeps,
+/// what its clock shows, or that a key was never drawn before. What the program does with them is the contract of
+/// [`finder`], and what it writes to standard error is that of [`Status::write_line`].
 pub fn run_process<H: Threads + Wait + Sync>(rt: HostRuntime, threads: &H) -> ExitCode {
     let status = run_own_words(rt, threads);
     let _ = status.write_line(&mut rt.stderr());

@@ -224,8 +224,8 @@ where
         let after = output_seen K.Sink output.new in
         DrillCompletes result.0 before after }
 
-    // What each status of `follow` says: the journal was not opened, and nobody was asked; or a leader was followed from the
-    // history that it held, of which no entry was taken back; and that the following comes to an end.
+    // What each status of `follow` says: the journal was not opened, and nobody was asked; or a leader was followed
+    // from the history that it held, of which no entry was taken back; and that the following comes to an end.
     ensures follow { (rounds : ℕ) → asked (map string_bytes words.now) ≡ Some (follow rounds) →
         let before = outside (network_seen (N.told network) (N.count network)) (output_seen K.Sink output.old)
         (disk_seen D.Disk disk) in

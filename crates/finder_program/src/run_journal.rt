@@ -16,8 +16,8 @@ use farm_store::Store;
 use link_io::{Sink, Source};
 use std::alloc::Global;
 
-/// Opens the journal, and answers the script's lines from its farm, each as soon as it is whole. A reply line is put after
-/// its entry was stored.
+/// Opens the journal, and answers the script's lines from its farm, each as soon as it is whole. A reply line is put
+/// after its entry was stored.
 pub fn run_journal<S: Source, K: Sink, D: Disk>(
     alloc: Global,
     input: &mut S,

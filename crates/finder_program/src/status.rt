@@ -48,8 +48,8 @@ pub enum Status {
     InputLimit,
     /// The service gave an answer that a worker has no use for: its HTTP status, or 0 where no whole answer came.
     Peer(u16),
-    /// The journal differs from the leader's at this place, from 0: the entry there isn't the leader's, or can't come next,
-    /// or the leader has no more.
+    /// The journal differs from the leader's at this place, from 0: the entry there isn't the leader's, or can't come
+    /// next, or the leader has no more.
     Foreign(u64),
 }
 
@@ -79,8 +79,8 @@ impl Status {
         }
     }
 
-    /// Writes the line that stands for it on standard error, its line feed included, and nothing where the subcommand did
-    /// its work.
+    /// Writes the line that stands for it on standard error, its line feed included, and nothing where the subcommand
+    /// did its work.
     ///
     /// # Errors
     ///

@@ -11,8 +11,8 @@ use std::thread::Threads;
 /// How many calls the disk has in a run of the whole script: three to open it, and four for each entry.
 const CALLS: u64 = 51;
 
-/// The images of a crash that are looked at: the size asked for, the byte wherever any may stand, and whether the script
-/// is run again over it.
+/// The images of a crash that are looked at: the size asked for, the byte wherever any may stand, and whether the
+/// script is run again over it.
 const IMAGES: [(u64, u8, bool); 4] = [
     (0, 0, true),
     (0, 7, false),

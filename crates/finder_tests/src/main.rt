@@ -3,25 +3,26 @@
 //!
 //! - `judge`, `run` or `audit`: the text is the input; it is given whole, and again in pieces of each of a few sizes;
 //! - behind one of them `hex`, where the text has the input's hexadecimal digits; `letters N` or `suspects N WEIGHT`,
-//!   where a `%` of the text stands for so many of them; `fails SIZE K`, where the input comes in pieces of this size and
-//!   the Kth take fails; `stops K failed` or `stops K memory`, where the output takes a byte at a time and stops at the
-//!   Kth;
+//!   where a `%` of the text stands for so many of them; `fails SIZE K`, where the input comes in pieces of this size
+//!   and the Kth take fails; `stops K failed` or `stops K memory`, where the output takes a byte at a time and stops
+//!   at the Kth;
 //! - `words`, where each line of the text has the words of a call, over a disk with a byte that is no journal;
 //! - `journal DIGITS`, where each has those of a call over the journal with these bytes;
-//! - `faults`, where the text is a script, which is run over a journal in memory once for each call of the disk and each
-//!   number of bytes that goes through in it, where that call fails. It prints how many replies were put by then, and for
-//!   four images of a crash at that moment, the shortest and the longest with bytes of 0 and of 7 wherever any may stand,
-//!   how many entries they hold. Over the first and the last of them the script is run again: every reply has to be as
-//!   ever;
+//! - `faults`, where the text is a script, which is run over a journal in memory once for each call of the disk and
+//!   each number of bytes that goes through in it, where that call fails. It prints how many replies were put by then,
+//!   and for four images of a crash at that moment, the shortest and the longest with bytes of 0 and of 7 wherever any
+//!   may stand, how many entries they hold. Over the first and the last of them the script is run again: every reply
+//!   has to be as ever;
 //! - `statuses`.
 //!
-//! Then it makes the calls of workers whose tables of verdicts lie in the files beside it, of which all but one are refused.
-//! And it ends as the process of the program itself does, with the words that it was called with, over what is left of
-//! standard input: nothing. `judge` refuses that, so the gate sees the exit status of an input outside the form.
+//! Then it makes the calls of workers whose tables of verdicts lie in the files beside it, of which all but one are
+//! refused. And it ends as the process of the program itself does, with the words that it was called with, over what
+//! is left of standard input: nothing. `judge` refuses that, so the gate sees the exit status of an input outside the
+//! form.
 //!
 //! The file `stdout` has the answers that are wanted: they come from worked numbers, from a program of its own over the
-//! definitions, and for `faults` from the order in which the journal writes and syncs, by which an entry whose reply was
-//! put is in every image; not from this one.
+//! definitions, and for `faults` from the order in which the journal writes and syncs, by which an entry whose reply
+//! was put is in every image; not from this one.
 #![tactic(auto)]
 
 mod faults;

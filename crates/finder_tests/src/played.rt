@@ -11,8 +11,8 @@ use std::sync::Wait;
 use std::thread::Threads;
 use worker_io::{ListKeys, ListRunner};
 
-/// What a call is given beside a disk: its words, with a space between two of them; the input, in pieces of a size, where
-/// 0 is no bound, of which the take with a number fails, where 0 is none; and where the output stops.
+/// What a call is given beside a disk: its words, with a space between two of them; the input, in pieces of a size,
+/// where 0 is no bound, of which the take with a number fails, where 0 is none; and where the output stops.
 #[derive(Clone, Copy)]
 pub(crate) struct Call<'a> {
     pub(crate) words: &'a str,

@@ -16,8 +16,8 @@ use Rattle.finder_words.specs.declared.subcommand.Subcommand.TheVariants as sub
 -- What is asked for: a search judged; a script run over a farm in memory; a journal founded, with how long a lease
 -- lasts in milliseconds, how many orders a day may have, and how far its zone lies east of UTC in minutes; a journal
 -- shown; a script run over a journal; the bytes of a journal audited; a journal served by so many handlers, until so
--- many accepts were made; work done under a name, for so many runs; the rates that a journal tells of; a drill of so many
--- searches and workers; a service followed in so many rounds.
+-- many accepts were made; work done under a name, for so many runs; the rates that a journal tells of; a drill of so
+-- many searches and workers; a service followed in so many rounds.
 pub data Asked : Type 0 where
   judge : Asked
   run : Asked
@@ -121,8 +121,8 @@ asked_of (word ∷ journal ∷ address ∷ rounds ∷ []) =
 asked_of (word ∷ first ∷ second ∷ third ∷ fourth ∷ []) = asked_of_four word first second third fourth
 asked_of _ = None
 
--- what a list of words asks for, if it asks for anything: none of them is empty or begins with a dash, they are the name
--- of a command and as many words as it takes, and their numbers are in range
+-- what a list of words asks for, if it asks for anything: none of them is empty or begins with a dash, they are the
+-- name of a command and as many words as it takes, and their numbers are in range
 abbrev pub asked : List (List ℕ) → Option Asked
 asked words = if fits words then asked_of words else None
 

@@ -5,9 +5,9 @@
 //! that, and [`read_places`] gives what they name outside. A word that is empty or begins with a dash asks for nothing,
 //! and neither do words of which one is missing or one too many, or in which a number is out of its range.
 //!
-//! The crate stands on `word_matches`, by which `clap` says which words fit a command, on `decimal_text` for numbers, on
-//! `farm_entry` for the settings of a farm and their limits, on `drill_plan` for the most workers of a drill, and on
-//! `farm_types`. The layer above may use every name below.
+//! The crate stands on `word_matches`, by which `clap` says which words fit a command, on `decimal_text` for numbers,
+//! on `farm_entry` for the settings of a farm and their limits, on `drill_plan` for the most workers of a drill, and
+//! on `farm_types`. The layer above may use every name below.
 #![tactic(auto)]
 
 mod counts;

@@ -10,7 +10,8 @@ use Rattle.flake_book.specs.Listed.{is_among, tells_of}
 use Rattle.flake_book.specs.Noted.{Noted, all_noted}
 use Rattle.flake_book.specs.declared.book.FlakeBook.TheInside.{Inside}
 
--- a history is empty or legal, leases and searches are what it holds, and a test is among some where a search tells of it
+-- a history is empty or legal, leases and searches are what it holds, and a test is among some where a search tells of
+-- it
 pub record AreKept (H : List Entry) (leases : List LeasedRun) (searches : List Noted) (tests : List (List ℕ)) : Type 0 where
   pub legal : (H ≡ []) ⊎ IsLegal H
   pub leases_are : leases ≡ all_leases H

@@ -35,8 +35,8 @@ failed r = is_fail r.verdict
 abbrev pub failed_below : (position : ℕ) → Run → Bool
 failed_below position r = is_below position r && failed r
 
--- the runs that were made at sound trees: all of them where there is no culprit; those below the culprit, reruns among them,
--- where one is confirmed; else it isn't known of any
+-- the runs that were made at sound trees: all of them where there is no culprit; those below the culprit, reruns among
+-- them, where one is confirmed; else it isn't known of any
 abbrev pub sound_runs : Standing → (rs again : List Run) → List Run
 sound_runs NoCulprit rs again = rs
 sound_runs (Confirmed culprit) rs again = filter (is_below culprit) rs ++ filter (is_below culprit) again
@@ -57,8 +57,8 @@ tally H test = (
   sum_by (λ o. length (sound_runs_of H o)) (searches_of H test),
 )
 
--- the rate that is offered for a tally: one fail and one pass more, as Laplace's rule of succession supposes; in thousandths,
--- rounded down but to no less than one, where the number of runs is too great for a rate
+-- the rate that is offered for a tally: one fail and one pass more, as Laplace's rule of succession supposes; in
+-- thousandths, rounded down but to no less than one, where the number of runs is too great for a rate
 abbrev pub offered : (fails runs : ℕ) → ℕ × ℕ
 offered fails runs =
     if nat_le (runs + 2) Rate.MAX_DENOMINATOR then (fails + 1, runs + 2)

@@ -69,8 +69,8 @@ impl FlakeBook {
         }
     }
 
-    /// Notes the next entry of a history, with the standing of the search that it opens, reports a run of or cancels, after
-    /// the entry. For other entries the standing isn't looked at.
+    /// Notes the next entry of a history, with the standing of the search that it opens, reports a run of or cancels,
+    /// after the entry. For other entries the standing isn't looked at.
     ///
     /// # Errors
     ///

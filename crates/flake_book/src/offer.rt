@@ -7,8 +7,8 @@ ghost use Rattle.flake_book.specs.Tally.{lowest, offered};
 use flake_rate::Rate;
 
 /// The flake rate that is offered for a test that failed so often in so many runs at sound trees: Laplace's rule of
-/// succession (1814), by which one fail and one pass more are supposed, so that it lies strictly between 0 and 1. Where its
-/// denominator is too great for a rate, it is rounded down to thousandths, and is at least one.
+/// succession (1814), by which one fail and one pass more are supposed, so that it lies strictly between 0 and 1.
+/// Where its denominator is too great for a rate, it is rounded down to thousandths, and is at least one.
 pub(crate) fn offered_rate(fails: u64, runs: u64) -> Rate
     requires fewer { fails ≤ runs }
     requires small { runs < 2 ^ 48 }

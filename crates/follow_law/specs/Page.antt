@@ -12,12 +12,14 @@ MayBeHeld (e ∷ more) = IsLegal (e ∷ more)
 abbrev pub entries_past : (held : List Entry) → (place : ℕ) → (page : List Entry) → List Entry
 entries_past held place page = drop (length held - place) page
 
--- each entry of a page that has the place of one held is that one, and those past them may come next, one after the other
+-- each entry of a page that has the place of one held is that one, and those past them may come next, one after the
+-- other
 pub record GoesWith (held : List Entry) (place : ℕ) (page : List Entry) : Type 0 where
   pub same : take (length held - place) page ≡ take (length page) (drop place held)
   pub legal : MayBeHeld (held ++ entries_past held place page)
 
--- the entry at this place is the first of a page that differs from the one held, or that makes the longer history illegal
+-- the entry at this place is the first of a page that differs from the one held, or that makes the longer history
+-- illegal
 pub record IsForeignAt (held : List Entry) (place : ℕ) (page : List Entry) (first : ℕ) : Type 0 where
   pub before : List Entry
   pub entry : Entry

@@ -40,7 +40,7 @@ Takes undecided from page old new =
     × (new.pending ≡ entries_past new.history (from - 1) page) × (new.pending ≢ [])
 Takes unstored from page old new = IsDecided old new.history × (new.pending ≡ [])
 
--- What a crash may leave while a page is taken: the history from before, with or without what was pending then, or the one
--- from now with all that is pending now.
+-- What a crash may leave while a page is taken: the history from before, with or without what was pending then, or the
+-- one from now with all that is pending now.
 abbrev pub IsLeft : (old new : Held) → List Entry → Type 0
 IsLeft old new history = IsDecided old history ⊎ (history ≡ new.history ++ new.pending)

@@ -12,8 +12,8 @@ pub record Page : Type 0 where
   pub entries : List Entry
 
 -- The leader's history; what the follower holds, and how many entries of it are compared; and everything that was ever
--- sent, the asks each by the number of the first entry that it asks for. The network may hand it over never, late, often
--- and in any order
+-- sent, the asks each by the number of the first entry that it asks for. The network may hand it over never, late,
+-- often and in any order
 pub record World : Type 0 where
   pub leader : List Entry
   pub follower : Held

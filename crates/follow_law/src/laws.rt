@@ -8,8 +8,8 @@ use farm_entry::Settings;
 use farm_types::Moment;
 
 /// Whatever the network loses, repeats and reorders, whenever leader and follower stop and start anew, and wherever the
-/// follower's disk fails: its history, with what is pending or without, is a beginning of the leader's. It never shrinks
-/// but by what is pending.
+/// follower's disk fails: its history, with what is pending or without, is a beginning of the leader's. It never
+/// shrinks but by what is pending.
 pub fn followers_hold_a_beginning()
     ensures history { (settings : Settings) (at : Moment) (all : List Happening) (w : World)
         → AllHappen (founded settings at) all w → IsPrefix w.follower.history w.leader }

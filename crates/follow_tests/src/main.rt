@@ -1,8 +1,8 @@
-//! Plays the cases of standard input over followers in memory, and prints what each comes to. A line that begins with `{`
-//! is a command of a script, whose entry the leader holds from then on, as a journal that was founded at the first moment.
-//! Any other line is a case: a word, how many of the leader's entries the follower holds at first, with `daily` for a
-//! journal that was founded with another limit, and the words of what follows. `F:N` is a page of the leader's N entries
-//! from its entry F on.
+//! Plays the cases of standard input over followers in memory, and prints what each comes to. A line that begins with
+//! `{` is a command of a script, whose entry the leader holds from then on, as a journal that was founded at the first
+//! moment. Any other line is a case: a word, how many of the leader's entries the follower holds at first, with
+//! `daily` for a journal that was founded with another limit, and the words of what follows. `F:N` is a page of the
+//! leader's N entries from its entry F on.
 //!
 //! - `follow HELD ROUNDS`, and the answers to its asks: pages, `F:N@G` for a page that says it begins with entry G,
 //!   statuses as `503`, `cut` for an answer that isn't whole, and `bad` for a page whose digits spell no entries;

@@ -11,8 +11,8 @@ use journal_follow::Follower;
 use std::alloc::{AllocError, Global};
 use std::io;
 
-/// Prints what each page comes to, and how many entries are held then, and what a read and the smallest image hold at the
-/// end.
+/// Prints what each page comes to, and how many entries are held then, and what a read and the smallest image hold at
+/// the end.
 pub(crate) fn play_take(
     rt: &impl Print,
     alloc: Global,

@@ -11,8 +11,8 @@ use std::marker::Model;
 /// How many bytes a [`Gathered`] has room for.
 pub const GATHERED_BYTES: usize = 8_192;
 
-/// A sink in memory that holds what is put to it, until it goes on to another one. It has room for [`GATHERED_BYTES`], and
-/// never fails: where there is no room for a piece, it answers that memory runs out.
+/// A sink in memory that holds what is put to it, until it goes on to another one. It has room for [`GATHERED_BYTES`],
+/// and never fails: where there is no room for a piece, it answers that memory runs out.
 ///
 /// Contracts see it as the bytes that it holds.
 #[derive(Drop)]
@@ -64,8 +64,8 @@ impl Gathered {
         self.count = self.count.min(len);
     }
 
-    /// Puts all that is held to another sink, in as many puts as it takes, and then holds nothing. It stops at the first put
-    /// that moves nothing: what went on by then is a prefix of the bytes held, and never all of them.
+    /// Puts all that is held to another sink, in as many puts as it takes, and then holds nothing. It stops at the
+    /// first put that moves nothing: what went on by then is a prefix of the bytes held, and never all of them.
     pub fn put_on<K: Sink>(&mut self, output: &mut K) -> Result<(), PutFault>
         ensures done { OnOk result
             (K.written output.new ≡ append_known (K.written output.old) self.old) }

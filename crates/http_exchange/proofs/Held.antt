@@ -1,12 +1,11 @@
 -- What is held of the bytes that were taken, and what they come to.
-use Rattle.std.proofs.Common.{◌≡◌, ◌+◌, ◌<◌, ◌≤◌, ◌↔◌, ◌⊎◌, ℕ, Bool, true, false, List, [], ◌++◌, length, drop, slice_range, Result, IfOk, IfErr, Ok, Err, refl, sym, ap, subst, ◌∙◌, inl, inr, append_assoc, append-nil, length-append, length-drop, arith}
+use Rattle.std.proofs.Common.{◌≡◌, ◌+◌, ◌<◌, ◌≤◌, ◌↔◌, ℕ, Bool, true, false, List, [], ◌++◌, length, drop, slice_range, Result, IfOk, IfErr, Ok, Err, refl, sym, ap, subst, ◌∙◌, inl, inr, append_assoc, append-nil, length-append, length-drop, arith}
 use Rattle.http_responses.specs.Reading.{IsBefore, IsUnfinished, Says}
 use Rattle.http_responses.specs.Whole.{IsWhole}
 use Rattle.http_responses.specs.declared.progress.Progress.TheVariants as progress
 use Rattle.http_responses.specs.declared.progress.Response.{Response}
-use Rattle.link_io.specs.declared.source.TheConstants.{INPUT_LIMIT}
 use Rattle.http_exchange.specs.Received.{IsHeld, IsOver, IsTaken, ReceivedBytes, TakesUntil, nothing_received}
-use Rattle.http_exchange.specs.Responses.{ComesTo, HasNone, IsBroken, NeverHasOne}
+use Rattle.http_exchange.specs.Responses.{ComesTo, HasNone, IsBroken}
 use Rattle.http_exchange.specs.declared.response.NoResponse.{NoResponse}
 use Rattle.http_exchange.specs.declared.response.NoResponse.TheVariants.{Broken, Failed, Memory}
 use Rattle.http_exchange.specs.declared.response.Response as made

@@ -1,11 +1,10 @@
 -- What an exchange tells, and what it is answered by.
-use Rattle.std.proofs.Common.{◌≡◌, ◌≤◌, ℕ, Bool, List, [], ◌∷◌, ◌++◌, take, drop, Option, Some, None, Result, Ok, Err, IfSome, IsErrOf, refl, sym, ap, subst, ◌∙◌, append-nil, arith}
+use Rattle.std.proofs.Common.{◌≡◌, ℕ, Bool, List, [], ◌∷◌, take, drop, Option, Some, None, Result, Ok, Err, IfSome, IsErrOf, refl, sym, ap, subst, ◌∙◌, append-nil, arith}
 use Rattle.std.proofs.lemmas.List.{take-append-drop}
 use Rattle.std.specs.Io.KnownBytes.{append_known}
 use Rattle.fault_types.specs.Counts.{Rose}
 use Rattle.fault_types.specs.declared.memory.Memory.{Memory}
 use Rattle.http_responses.specs.Whole.{IsWhole}
-use Rattle.link_io.specs.Intake.{Intake}
 use Rattle.link_io.specs.Links.{LinkState, fresh_link}
 use Rattle.link_io.specs.Telling.{add_told}
 use Rattle.link_io.specs.declared.sink.PutFault.{PutFault}

@@ -1,8 +1,8 @@
 -- Takes one after the other.
-use Rattle.std.proofs.Common.{◌≡◌, ◌+◌, ℕ, List, [], ◌++◌, length, Bool, true, false, Option, Ok, Err, ◌<◌, inl, subst, refl, sym, ap, ◌∙◌, append_assoc, append-nil, length-append, arith}
+use Rattle.std.proofs.Common.{◌≡◌, ◌+◌, ℕ, List, [], ◌++◌, length, Bool, false, Option, Ok, Err, ◌<◌, inl, sym, ap, ◌∙◌, append_assoc, append-nil, length-append, arith}
 use Rattle.std.specs.Io.KnownBytes.{append_known}
 use Rattle.link_io.proofs.Told.{append_known-append, append_known-nil}
-use Rattle.http_exchange.specs.Received.{IsOver, IsTaken, ReceivedBytes, Takes, TakesUntil}
+use Rattle.http_exchange.specs.Received.{IsTaken, ReceivedBytes, Takes, TakesUntil}
 use Rattle.http_exchange.specs.declared.response.NoResponse.{NoResponse}
 use Rattle.http_exchange.specs.declared.response.NoResponse.TheVariants.{Broken, Failed, Memory}
 

@@ -39,9 +39,9 @@ abbrev pub tell_all : {A : Type 0} → List A → Option (List A) → Option (Li
 tell_all [] told = told
 tell_all (thing ∷ things) told = tell_all things (add_told thing told)
 
--- What an exchange is answered by. A response is whole, of a connection that never failed. Else the connection failed, or was
--- never made; or the whole request was put, and the other end sent no whole response. Unless a connection failed, or
--- memory ran out, the whole request was put
+-- What an exchange is answered by. A response is whole, of a connection that never failed. Else the connection failed,
+-- or was never made; or the whole request was put, and the other end sent no whole response. Unless a connection
+-- failed, or memory ran out, the whole request was put
 abbrev pub AnsweredBy : (request : List ℕ) → Exchange → Result Exchanged Memory → Type 0
 AnsweredBy request unconnected (Ok Failed) = ⊤
 AnsweredBy request unconnected answer = ⊥

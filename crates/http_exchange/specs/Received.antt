@@ -39,8 +39,8 @@ TakesUntil size before after piece ended (Err Failed) = IsTaken before after pie
 TakesUntil size before after piece ended (Err Broken) = ⊥
 TakesUntil size before after piece ended (Err Memory) = ⊤
 
--- these bytes were taken, and those held are the ones behind the interim responses: whatever follows, a response that one of the
--- two lists begins with is the other's
+-- these bytes were taken, and those held are the ones behind the interim responses: whatever follows, a response that
+-- one of the two lists begins with is the other's
 pub record IsHeld (bytes : List ℕ) (received : ReceivedBytes) : Type 0 where
   pub taken : received.taken ≡ length bytes
   pub same : (more : List ℕ) (status : ℕ) (body : List ℕ) →

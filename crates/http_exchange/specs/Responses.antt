@@ -1,5 +1,5 @@
 -- What the bytes that were taken of a source come to.
-use Rattle.std.specs.Prelude.{◌≡◌, ◌≤◌, ◌⊎◌, ℕ, Bool, true, List, ◌++◌, length, Result, Ok, Err, ⊤}
+use Rattle.std.specs.Prelude.{◌⊎◌, ℕ, Bool, List, ◌++◌, length, Result, Ok, Err, ⊤}
 use Rattle.http_responses.specs.Whole.{IsWhole}
 use Rattle.http_exchange.specs.Received.{IsOver}
 use Rattle.link_io.specs.declared.sink.PutFault.{PutFault}
@@ -16,8 +16,8 @@ HasNone bytes = (status : ℕ) (body : List ℕ) → ¬ IsWhole bytes status bod
 abbrev pub NeverHasOne : List ℕ → Type 0
 NeverHasOne bytes = (more : List ℕ) → HasNone (bytes ++ more)
 
--- The other end sent no whole response: these bytes are none, and they can't be continued to one, or the input has ended, or as
--- many were taken as are taken at most
+-- The other end sent no whole response: these bytes are none, and they can't be continued to one, or the input has
+-- ended, or as many were taken as are taken at most
 pub record IsBroken (bytes : List ℕ) (ended : Bool) : Type 0 where
   pub none : HasNone bytes
   pub over : IsOver ended (length bytes) ⊎ NeverHasOne bytes

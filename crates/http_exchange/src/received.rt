@@ -98,8 +98,8 @@ impl Received {
         Ok(!piece.is_empty())
     }
 
-    /// Takes more until so many bytes are held. Answers whether they are: fewer are where the input ended first, or as many
-    /// were taken as are taken at most.
+    /// Takes more until so many bytes are held. Answers whether they are: fewer are where the input ended first, or as
+    /// many were taken as are taken at most.
     pub(crate) fn take_until<S: Source>(
         &mut self,
         link: &mut S,

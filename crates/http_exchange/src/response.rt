@@ -25,8 +25,8 @@ pub struct Response {
 /// Why no whole response came.
 #[derive(Clone, Copy, Debug, PartialEq, Eq)]
 pub enum NoResponse {
-    /// The bytes that came are none, whatever follows them; or the input ended first, or as many bytes were taken as are
-    /// taken at most.
+    /// The bytes that came are none, whatever follows them; or the input ended first, or as many bytes were taken as
+    /// are taken at most.
     Broken,
     /// A call of the connection failed, and its count of faults rose.
     Failed,

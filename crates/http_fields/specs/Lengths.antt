@@ -1,4 +1,5 @@
--- What the fields of a head state of the length of the body behind it (RFC 9110, section 8.6, and RFC 9112, section 6.2).
+-- What the fields of a head state of the length of the body behind it (RFC 9110, section 8.6, and RFC 9112, section
+-- 6.2).
 use Rattle.std.specs.Prelude.{ℕ, not, List, [], ◌∷◌, codes, nat_lt, if◌then◌else◌, ◌≤◌, ⊤}
 use Rattle.std.specs.Str.Parse.{digits_value}
 use Rattle.decimal_text.specs.Decimals.{are_digits}

@@ -8,7 +8,7 @@
 //!
 //! The crate stands on `matchit` for the router, on `path_table` for what a router of a table finds, on `http_words`
 //! for what is asked for and refused, on `http_fields` for texts without regard to case, on `decimal_text` for numbers,
-//! and on `farm_types` for running out of memory. The layers above may use every name below.
+//! and on `farm_types` for the out-of-memory error. The layers above may use every name below.
 #![tactic(auto)]
 
 mod fixed;

@@ -1,21 +1,21 @@
-//! Plays the cases of standard input over the crates of links, of HTTP, of the wire and of workers, and prints what each
-//! comes to, behind the case. A case is a line with a word and what it asks for:
+//! Plays the cases of standard input over the crates of links, of HTTP, of the wire and of workers, and prints what
+//! each comes to, behind the case. A case is a line with a word and what it asks for:
 //!
 //! - `line` and the line of a script, `spelled` and one in which parts are repeated, as below, or `bytes` and a line's
 //!   bytes as hexadecimal digits; `body ROUTE NUMBER` and the body of a request, in which parts may be repeated;
-//! - a word for a reply, and its fields in order, a culprit behind a slash, as `opened 1 31 verifying/1`; `log`, the number
-//!   of an entry and bytes as below; `refusals` and
-//!   `wire_faults`, whose texts are printed each on a line;
-//! - `held`, `whole`, `prefixes` or `response` and bytes: what comes next of a connection of which these are held, or are
-//!   all, or of each of their prefixes, and what response stands at their front. `\r`, `\n` and `\t` stand for control
-//!   characters, and a part between bars that begins with a number, as `|63*x|`, for so many times the rest of it;
+//! - a word for a reply, and its fields in order, a culprit behind a slash, as `opened 1 31 verifying/1`; `log`, the
+//!   number of an entry and bytes as below; `refusals` and `wire_faults`, whose texts are printed each on a line;
+//! - `held`, `whole`, `prefixes` or `response` and bytes: what comes next of a connection of which these are held, or
+//!   are all, or of each of their prefixes, and what response stands at their front. `\r`, `\n` and `\t` stand for
+//!   control characters, and a part between bars that begins with a number, as `|63*x|`, for so many times the rest of
+//!   it;
 //! - `faults` and `statuses`, for the answer to each fault and the line of each status; `bodies`, for those of a fault
 //!   of the store and of running out of memory; `not_allowed` and `interim` with the number of the put that fails;
 //!   `refusal` with what is said of it, and its body;
 //! - `lease` or `no_run` and a body, as a worker reads it; `worker` with the number of leases, and what it is told;
-//! - `takes` with the number of the take that fails, the sizes of the pieces and the bytes, or `flaky_takes` of a reader
-//!   that is interrupted, gives 2 bytes, fails and ends; `puts` and `narrow_puts` with the number of the put that fails,
-//!   and texts, or `flaky_puts` to such a writer; `clock` with a moment, and `machine_clock`.
+//! - `takes` with the number of the take that fails, the sizes of the pieces and the bytes, or `flaky_takes` of a
+//!   reader that is interrupted, gives 2 bytes, fails and ends; `puts` and `narrow_puts` with the number of the put
+//!   that fails, and texts, or `flaky_puts` to such a writer; `clock` with a moment, and `machine_clock`.
 //!
 //! A line that begins with `#` is printed as it is. The file `stdout` has what is wanted; it was worked out by hand.
 #![tactic(auto)]

@@ -8,7 +8,8 @@ use http_routes::Pages;
 use std::alloc::Global;
 use std::io;
 
-// What comes next of bytes of which some were read before. What comes next of longer ones is read anew behind a request.
+// What comes next of bytes of which some were read before. What comes next of longer ones is read anew behind a
+// request.
 fn read_on(pages: &Pages, reading: &mut Reading, held: &[u8]) -> Next
     requires { IsReading reading.old held.now }
     ensures { IsReading reading.new held.now }
@@ -20,8 +21,8 @@ fn read_on(pages: &Pages, reading: &mut Reading, held: &[u8]) -> Next
     next
 }
 
-// Prints what comes next of each prefix but the whole, wherever it differs from what comes of the one before it. The prefixes
-// are read one after the other, as bytes that come one by one.
+// Prints what comes next of each prefix but the whole, wherever it differs from what comes of the one before it. The
+// prefixes are read one after the other, as bytes that come one by one.
 fn print_prefixes(rt: &impl Print, pages: &Pages, bytes: &[u8]) -> io::Result<()> {
     let mut last = Next::End;
     let mut reading = Reading::new();

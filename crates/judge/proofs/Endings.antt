@@ -1,5 +1,5 @@
 -- How a search ends.
-use Rattle.std.proofs.Common.{◌≡◌, ◌≤◌, Bool, true, false, not, cond, List, [], ◌∷◌, ◌++◌, length, refl, ap, ◌∙◌, arith}
+use Rattle.std.proofs.Common.{◌≡◌, ◌≤◌, Bool, true, false, not, cond, List, [], ◌∷◌, ◌++◌, refl, ap, ◌∙◌, arith}
 use Rattle.std.proofs.lemmas.Bool.{ltb-false}
 use Rattle.std.specs.Prelude.{nat_le, nat_lt}
 use Rattle.judge.specs.Fates.{Progress, at_start, standing, standing_by, is_searching, after_fate, after, after_all}
@@ -12,8 +12,6 @@ use Rattle.weight_exact.specs.Load.{load}
 use Rattle.weight_exact.proofs.Floors.{load-none}
 use Rattle.weight_exact.specs.Share.{reached}
 use Rattle.weight_exact.specs.Weights.{Setup, hypotheses}
-use Rattle.weight_exact.specs.declared.factors.Factors.{Factors}
-use Rattle.weight_exact.specs.declared.run.Run.{Run}
 
 -- the same runs are counted, and the same is said of the budget
 record IsSettled (p q : Progress) : Type 0 where

@@ -4,8 +4,9 @@
 //! `specs/` says it whole, from bytes to bytes: lines and words (`Text`), the form of an input (`Form`), the
 //! fate of each run line (`Fates`) and the text of the answer (`Answer`), over the definitions of the inference in
 //! `weight_exact`. The code reads the input once and keeps a `posterior::Belief` in place of the runs; limits are those
-//! of `flake_rate` and `weight_exact`, numbers in text are read by `decimal_text`, and line feeds are found by `memchr`. The
-//! layer above may use [`judge`], whose contract is that definition, and cite the laws over the definition ([`laws`]).
+//! of `flake_rate` and `weight_exact`, numbers in text are read by `decimal_text`, and line feeds are found by
+//! `memchr`. The layer above may use [`judge`], whose contract is that definition, and cite the laws over the
+//! definition ([`laws`]).
 #![tactic(auto)]
 
 mod answer;

@@ -69,8 +69,8 @@ pub record AreFew (t : Totals) : Type 0 where
   pub counted : t.counted ≤ MAX_ENTRIES
   pub orders : t.orders ≤ MAX_ENTRIES
 
--- a count of the searches that stand so has room for one more, and a search that stood so before is counted, unless it stands
--- so now as well
+-- a count of the searches that stand so has room for one more, and a search that stood so before is counted, unless it
+-- stands so now as well
 pub record MayMove (test : Standing → Bool) (count : ℕ) (before after : Option Standing) : Type 0 where
   pub few : count ≤ MAX_ENTRIES
   pub counted : one_that test before ≤ count + one_that test after

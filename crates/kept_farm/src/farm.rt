@@ -155,7 +155,8 @@ impl KeptFarm {
         self.state().search(number)
     }
 
-    /// How many runs of the search with a number were handed out, at both stages; none, where no such search was opened.
+    /// How many runs of the search with a number were handed out, at both stages; none, where no such search was
+    /// opened.
     pub fn leases_of(&self, number: u32) -> u32
         ensures { result ≡ length (leases self.now number) }
     {

@@ -7,7 +7,7 @@
 //! Additions take no memory where room was made for them before, and each can be taken back, so that an entry which
 //! was stored elsewhere can be added, taken back and added again.
 //!
-//! The crate stands on `farm_types` for the stage of a run and for running out of memory, and on nothing of the farm.
+//! The crate stands on `farm_types` for the stage of a run and for the out-of-memory error, and on nothing of the farm.
 //! Contracts see a book as a `BookView` of `specs/`: the list of leases with their marks, and the room for more. The
 //! layer above may use every name below.
 #![tactic(auto)]

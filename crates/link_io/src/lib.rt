@@ -1,14 +1,14 @@
-//! The traits through which the program meets the outside. A `Source` gives bytes, a `Sink` takes them, a `Link` is both in
-//! one object, and a `Clock` says what moment it is. Their contracts say all that code above may rely on, whatever stands
-//! behind them: which bytes a call moved, that a call which failed moved none, that a call on one half of a link keeps
-//! what the other half has done, whether the last take found the end, and that each failure is counted. Code above is
-//! generic over them and proved once.
+//! The traits through which the program meets the outside. A `Source` gives bytes, a `Sink` takes them, a `Link` is
+//! both in one object, and a `Clock` says what moment it is. Their contracts say all that code above may rely on,
+//! whatever stands behind them: which bytes a call moved, that a call which failed moved none, that a call on one half
+//! of a link keeps what the other half has done, whether the last take found the end, and that each failure is
+//! counted. Code above is generic over them and proved once.
 //!
 //! The crate stands on `farm_types` for moments and on `fault_types` for counts. The layers above may use
 //! - the traits with their answers, `take_piece`, which gives the bytes of one take, and `put_all`, which puts a whole
 //!   slice;
-//! - `MemSource`, `MemSink` and `MemLink`, which tell their bytes to contracts, and fail at the calls that they are told
-//!   to, `MemClock`, which stands still, and `FaultPlan`, the calls of an object in memory that are to fail;
+//! - `MemSource`, `MemSink` and `MemLink`, which tell their bytes to contracts, and fail at the calls that they are
+//!   told to, `MemClock`, which stands still, and `FaultPlan`, the calls of an object in memory that are to fail;
 //! - `InputSource`, `OutputSink` and `StreamLink`, over any reader, writer and stream of the standard library, and
 //!   `SystemClock`: the trusted edge, since no contract says which bytes the system itself gives or takes, or what its
 //!   clock shows.

@@ -1,5 +1,5 @@
-//! Sources, sinks, links and a clock in memory, for tests and for runs that touch nothing outside. They tell their bytes
-//! and their moment; sources, sinks and links fail at the calls that they are told to.
+//! Sources, sinks, links and a clock in memory, for tests and for runs that touch nothing outside. They tell their
+//! bytes and their moment; sources, sinks and links fail at the calls that they are told to.
 
 mod fault_plan;
 mod mem_clock;

@@ -5,8 +5,9 @@ use farm_types::{MOMENT_MAX_MS, MOMENT_MIN_MS, Moment};
 use std::rt;
 use std::time::SystemTime;
 
-/// The clock of the machine, in UTC. Where it shows a time before the first moment that there is, after the last one, or
-/// none, it is taken to be the first moment or the last one; a farm takes no moment that lies before its last entry.
+/// The clock of the machine, in UTC. Where it shows a time before the first moment that there is, after the last one,
+/// or none, it is taken to be the first moment or the last one; a farm takes no moment that lies before its last
+/// entry.
 #[derive(Drop)]
 pub struct SystemClock<R: rt::Clock + Drop> {
     rt: R,

@@ -31,10 +31,11 @@ enum Happened {
     Returned(Snapshot<MemLink>),
 }
 
-/// A network that gives links in memory, in their order, and tells all that it did. It fails at the calls that are listed.
+/// A network that gives links in memory, in their order, and tells all that it did. It fails at the calls that are
+/// listed.
 ///
-/// Contracts see it as the links that it will give, the plan of the calls that are to fail, its count of faults, and what
-/// it did.
+/// Contracts see it as the links that it will give, the plan of the calls that are to fail, its count of faults, and
+/// what it did.
 #[derive(Drop)]
 pub struct MemNetwork {
     accepts: Vec<MemLink>,
@@ -60,9 +61,10 @@ impl Model for MemNetwork {
 }
 
 impl MemNetwork {
-    /// A network that gives the links of `accepts` to accepts and those of `connects` to connects, each as it was before
-    /// its first call. The calls whose numbers are in `fails` will fail, accepts and connects counted together from 1;
-    /// they use up no link. An accept past the last link answers that no more will come, and a connect past it fails.
+    /// A network that gives the links of `accepts` to accepts and those of `connects` to connects, each as it was
+    /// before its first call. The calls whose numbers are in `fails` will fail, accepts and connects counted together
+    /// from 1; they use up no link. An accept past the last link answers that no more will come, and a connect past it
+    /// fails.
     pub fn of(accepts: Vec<MemLink>, connects: Vec<MemLink>, fails: Vec<u64>) -> MemNetwork
         ensures { result ≡ record {
           accepts = accepts.items;

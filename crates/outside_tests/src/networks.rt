@@ -66,8 +66,8 @@ pub(crate) fn print_turns<R: Print, N: Network>(
     Ok(())
 }
 
-/// Connects one network to the other one, says something on each side, ends the side that listens first, and prints what
-/// was heard.
+/// Connects one network to the other one, says something on each side, ends the side that listens first, and prints
+/// what was heard.
 pub(crate) fn print_talk<R: Print, N: Network>(
     rt: &R,
     listening: &mut N,
@@ -85,8 +85,8 @@ pub(crate) fn print_talk<R: Print, N: Network>(
     println!(rt; "talk faults {} {}", listening.faults(), calling.faults())
 }
 
-/// The side that listens is given a question and asked for it, and the side that calls for the answer. Then the first is
-/// given back, and the second takes twice: what is left, and the end. A last take waits for nothing.
+/// The side that listens is given a question and asked for it, and the side that calls for the answer. Then the first
+/// is given back, and the second takes twice: what is left, and the end. A last take waits for nothing.
 fn print_sides<R: Print, N: Network>(
     rt: &R,
     listening: &mut N,

@@ -10,8 +10,8 @@ use tcp_net::TcpNetwork;
 /// How long a read or a write may take, in milliseconds.
 const TIMEOUT_MS: u64 = 200;
 
-/// A network that listens at a port that the system picks, and one that calls there; another one that would listen there
-/// too; and one that calls port 0, at which nobody can listen.
+/// A network that listens at a port that the system picks, and one that calls there; another one that would listen
+/// there too; and one that calls port 0, at which nobody can listen.
 pub(crate) fn print_sockets<R: Print + Net>(rt: &R, alloc: Global) -> io::Result<()> {
     println!(rt; "sockets")?;
     let timeout = Duration::from_millis(TIMEOUT_MS);

@@ -1,5 +1,5 @@
--- What is kept of each search of a history while the history is gone through: plain values, each of which is what a definition
--- of the farm gives.
+-- What is kept of each search of a history while the history is gone through: plain values, each of which is what a
+-- definition of the farm gives.
 use Rattle.std.specs.Prelude.{◌≡◌, ℕ, true, ◌+◌, ◌<◌, ◌≤◌, ◌&&◌, not, if◌then◌else◌, List, [], ◌∷◌, ◌++◌, length, filter, get_or, Contains, Option, Some, None}
 use Rattle.farm_types.specs.declared.stage.Stage.{Stage}
 use Rattle.weight_exact.specs.Plan.{plan}
@@ -38,8 +38,8 @@ pub record IsRow (H : List Entry) (o : Opening) (row : Row) : Type 0 where
   pub told : IsTold H o row
   pub out : IsOut H o.search row
 
--- Each row that is kept says of the search at its number what a history says: the first row is of search 1. There may be fewer
--- rows than searches, or none
+-- Each row that is kept says of the search at its number what a history says: the first row is of search 1. There may
+-- be fewer rows than searches, or none
 pub record AreRows (H : List Entry) (rows : List Row) : Type 0 where
   pub few : length rows ≤ length (openings H)
   pub told : (o : Opening) (i : ℕ) (row : Row) → Contains (openings H) o → i + 1 ≡ o.search → i < length rows

@@ -49,8 +49,8 @@ fn is_founded(list: &[Entry]) -> bool
 
 /// The place of the first entry that may not stand where it does, so that the entries before it are a legal history
 /// (or none) and with it they are not. Nothing, exactly where the list is a legal history. An empty list, which isn't
-/// one, stops at place 0. From place to place a row is kept of each search, so that none is gone through again for an entry
-/// that doesn't speak of it.
+/// one, stops at place 0. From place to place a row is kept of each search, so that none is gone through again for an
+/// entry that doesn't speak of it.
 pub fn first_illegal(alloc: Global, list: &[Entry]) -> Result<Option<usize>, Memory>
     ensures { IfOk result (IsFirstIllegal list.now) }
 {

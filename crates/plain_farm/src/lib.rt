@@ -1,11 +1,12 @@
 //! The farm's definitions as a slow and obvious program over a list of entries.
 //!
 //! Each definition of `farm_entry` that a farm has to compute is one function of the same name, whose contract is that
-//! definition, exactly: it scans the history anew each time, and keeps no index and no cache. Running out of memory is the only
-//! other answer. The crate is the reference that every faster body is tested against, and [`first_illegal`] decides
-//! whether a list of entries that came from elsewhere is a history that a farm can have. That call goes through the list
-//! once, and keeps a row of each search from entry to entry: the same functions then read the runs, the plan, the leases
-//! and the standing of a search off its row, where one is there, in place of a scan. No row is kept for the other calls.
+//! definition, exactly: it scans the history anew each time, and keeps no index and no cache. Running out of memory is
+//! the only other answer. The crate is the reference that every faster body is tested against, and [`first_illegal`]
+//! decides whether a list of entries that came from elsewhere is a history that a farm can have. That call goes
+//! through the list once, and keeps a row of each search from entry to entry: the same functions then read the runs,
+//! the plan, the leases and the standing of a search off its row, where one is there, in place of a scan. No row is
+//! kept for the other calls.
 //!
 //! Most calls speak of legal histories, and of searches that were opened in them: the laws of `farm_laws` give what a
 //! belief asks for, that runs are in range and within the budget. [`first_illegal`] takes any list.

@@ -1,6 +1,6 @@
-//! What is kept of each search while a list of entries is gone through from place to place: plain values, each of which is
-//! what a definition of the farm gives. One entry more changes the row of one search at most, which is then brought up to
-//! it; a row of each search says as much as the history does, and less than that is never kept.
+//! What is kept of each search while a list of entries is gone through from place to place: plain values, each of
+//! which is what a definition of the farm gives. One entry more changes the row of one search at most, which is then
+//! brought up to it; a row of each search says as much as the history does, and less than that is never kept.
 
 ghost use Rattle.std.specs.Prelude.{◌≡◌, ◌==◌, not, ◌||◌, ℕ, ◌+◌, ◌<◌, ◌≤◌, [], filter, length, Contains, IfNone, IfOk, IfSome, OnOk, Some};
 ghost use Rattle.farm_entry.specs.History.{cancelled_in, is_over, lease_in, opening_in, openings, report_in, reruns, runs, was_cancelled, went_over};

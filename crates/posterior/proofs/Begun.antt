@@ -1,5 +1,5 @@
 -- A belief before any run.
-use Rattle.std.proofs.Common.{◌≡◌, ℕ, ◌+◌, ◌-◌, ◌*◌, ◌≤◌, List, [], ◌∷◌, ◌++◌, length, sum, sym, ap, ◌∙◌, subst, arith}
+use Rattle.std.proofs.Common.{◌≡◌, ℕ, ◌+◌, ◌-◌, ◌≤◌, List, [], ◌∷◌, ◌++◌, length, sum, sym, ap, ◌∙◌, subst, arith}
 use Rattle.std.proofs.lemmas.List.{length-append, get_or_at}
 use Rattle.flake_rate.specs.Rate.{rate_numerator, rate_denominator}
 use Rattle.flake_rate.specs.Miss.{miss_numerator, miss_denominator}

@@ -1,19 +1,16 @@
 -- What one run more makes of the weights: each is multiplied by the number of the run.
-use Rattle.std.proofs.Common.{◌≡◌, ℕ, ◌+◌, ◌-◌, ◌*◌, ◌^◌, ◌<◌, ◌≤◌, true, false, not, nat_le, if◌then◌else◌, List, length, set, sym, ap, ◌∙◌, arith, add-one, pow-suc, mul-zero, zero-mul, mul-one, le-leb, ⊎_elim, ◌⊎◌}
+use Rattle.std.proofs.Common.{◌≡◌, ℕ, ◌+◌, ◌-◌, ◌*◌, ◌^◌, ◌<◌, ◌≤◌, true, false, nat_le, if◌then◌else◌, List, length, set, sym, arith, add-one, pow-suc, zero-mul, le-leb, ⊎_elim, ◌⊎◌}
 use Rattle.std.proofs.lemmas.Bool.{cases_lt, lt-leb}
-use Rattle.std.proofs.lemmas.Nat.{pow-add}
-use Rattle.weight_exact.specs.Weights.{sum_to}
 use Rattle.weight_exact.specs.Load.{is_fail}
 use Rattle.weight_exact.specs.Factors.{verdict_factor}
 use Rattle.weight_exact.specs.Cumulative.{reweighed}
 use Rattle.weight_exact.specs.Powers.{product}
 use Rattle.weight_exact.specs.declared.factors.Factors.{Factors}
-use Rattle.weight_exact.specs.declared.powers.Counts.{Counts}
 use Rattle.weight_exact.specs.declared.run.Verdict.{Verdict}
 use Rattle.weight_exact.specs.declared.run.Verdict.TheVariants.{Pass, Fail}
 use Rattle.weight_exact.proofs.SumTo.{sum_to_more}
 use Rattle.posterior.specs.Kept.{at}
-use Rattle.posterior.specs.Counted.{AreCleared, counted_to, counted}
+use Rattle.posterior.specs.Counted.{counted_to, counted}
 use Rattle.posterior.specs.KeptWeight.{kept_counts, kept_weight}
 use Rattle.posterior.proofs.Counting.{counted-set, counted_to-set, counted_to-set_below}
 
@@ -47,7 +44,8 @@ one_more xs p low high = record {
   above = λ m over. omega (arith, counted_to-set xs p (at xs p + 1) m low high over);
 }
 
--- a fail more multiplies the product of a hypothesis up to its position by the one number, and of the others by the other
+-- a fail more multiplies the product of a hypothesis up to its position by the one number, and of the others by the
+-- other
 product-fail : (f : Factors) (x : ℕ) (fails fails' passes : List ℕ) (p i : ℕ) → OneMore fails fails' p → 1 ≤ i → i - 1 ≤ length fails
     → product f x (kept_counts fails' passes i)
     ≡ product f x (kept_counts fails passes i) * (if nat_le i p then f.fail_in else f.fail_out)

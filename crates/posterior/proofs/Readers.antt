@@ -1,9 +1,9 @@
 -- What the kept numbers say of a list of runs that a belief stands for.
-use Rattle.std.proofs.Common.{◌≡◌, ℕ, zero, suc, ◌-◌, ◌*◌, ◌^◌, ◌<◌, ◌≤◌, Bool, List, refl, sym, ap, ◌∙◌, arith, ⊎_elim}
+use Rattle.std.proofs.Common.{◌≡◌, ℕ, ◌-◌, ◌*◌, ◌^◌, ◌<◌, ◌≤◌, List, sym, ap, ◌∙◌, arith, ⊎_elim}
 use Rattle.std.proofs.Math.Nat.{div-le_of_le-mul}
 use Rattle.std.proofs.lemmas.Bool.{cases_lt}
 use Rattle.weight_exact.specs.Weights.{hypotheses, weight, total, sum_to}
-use Rattle.weight_exact.specs.Share.{last_to, is_at_bar, reached, share, basis_points}
+use Rattle.weight_exact.specs.Share.{is_at_bar, reached, share, basis_points}
 use Rattle.weight_exact.specs.Common.{common}
 use Rattle.weight_exact.specs.declared.run.Run.{Run}
 use Rattle.weight_exact.proofs.SumTo.{sum_to_last, sum_to_more, member-le-sum_to}

@@ -1,16 +1,15 @@
 -- What a pass that clears suspects makes of the weights, where those above it stay as they are.
-use Rattle.std.proofs.Common.{◌≡◌, ℕ, ◌+◌, ◌-◌, ◌*◌, ◌^◌, ◌<◌, ◌≤◌, true, false, nat_le, if◌then◌else◌, List, length, sym, ap, ◌∙◌, arith, mul-zero, mul-one, pow-add, le-leb, ⊎_elim, ◌⊎◌, inl, inr}
+use Rattle.std.proofs.Common.{◌≡◌, ℕ, ◌+◌, ◌-◌, ◌*◌, ◌^◌, ◌<◌, ◌≤◌, true, false, nat_le, List, length, sym, ap, ◌∙◌, arith, mul-zero, mul-one, pow-add, le-leb, ⊎_elim, ◌⊎◌, inl, inr}
 use Rattle.std.proofs.Math.Nat.{pow-zero}
 use Rattle.std.proofs.lemmas.Bool.{cases_lt, lt-leb}
 use Rattle.weight_exact.specs.Weights.{sum_to}
 use Rattle.weight_exact.specs.Cumulative.{reweighed}
-use Rattle.weight_exact.specs.Powers.{product}
 use Rattle.weight_exact.specs.declared.factors.Factors.{Factors}
 use Rattle.weight_exact.proofs.Powering.{one-pow}
 use Rattle.weight_exact.proofs.SumTo.{sum_to-same, sum_to-add, sum_to-zero, sum_to_more}
 use Rattle.posterior.specs.Kept.{at}
 use Rattle.posterior.specs.Counted.{AreCleared, counted_to, counted}
-use Rattle.posterior.specs.KeptWeight.{kept_counts, kept_weight}
+use Rattle.posterior.specs.KeptWeight.{kept_weight}
 
 -- counts that are cleared up to a position and as before above it
 pub record AreStruck (xs ys : List ℕ) (p : ℕ) : Type 0 where

@@ -268,7 +268,8 @@ impl Belief {
         );
     }
 
-    /// Takes in a run above the floor that clears nobody, while the load is below the budget: it multiplies the weights.
+    /// Takes in a run above the floor that clears nobody, while the load is below the budget: it multiplies the
+    /// weights.
     fn count<L: Ledger>(&mut self, position: u16, verdict: Verdict, steps: &mut Steps<L>)
         requires live { (1 ≤ self.old.setup.factors.pass_in) ⊎ (verdict ≡ Verdict.Fail) }
         requires above { self.old.floor < position }

@@ -9,7 +9,8 @@ use flake_rate::Bar;
 use std::sync::ledger::Ledger;
 use weight_exact::{Steps, Sums};
 
-/// The hypotheses above `low` and up to `high`, among which the middle of the total lies: with the sums up to those two.
+/// The hypotheses above `low` and up to `high`, among which the middle of the total lies: with the sums up to those
+/// two.
 #[derive(Clone, Copy)]
 struct Span {
     low: u16,
@@ -40,8 +41,8 @@ impl Span {
     }
 }
 
-/// The hypothesis whose weight is at the bar of the whole. As the bar is above one half, it can only be the one in whose
-/// span the middle of the whole lies. Up to the floor nothing weighs anything.
+/// The hypothesis whose weight is at the bar of the whole. As the bar is above one half, it can only be the one in
+/// whose span the middle of the whole lies. Up to the floor nothing weighs anything.
 pub fn at_bar<L: Ledger>(sums: &Sums, floor: u16, bar: Bar, steps: &mut Steps<L>) -> Option<u16>
     requires middle { HasMiddle floor sums.now }
     ensures bar { (w : ℕ → ℕ) → AreSumsOf w sums.now → result ≡ reaching bar w sums.now }

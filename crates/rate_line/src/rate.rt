@@ -15,8 +15,8 @@ use flake_rate::Rate;
 use serde_json::{Value, json};
 use std::alloc::Global;
 
-/// The text that says how often a test failed, in how many runs, and which flake rate is offered for it. The member `rate`
-/// has the form in which an open takes it.
+/// The text that says how often a test failed, in how many runs, and which flake rate is offered for it. The member
+/// `rate` has the form in which an open takes it.
 ///
 /// # Errors
 ///

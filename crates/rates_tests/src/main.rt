@@ -1,6 +1,6 @@
-//! Plays the scripts of standard input on farms in memory, and prints what the history of each tells of the flake rates of
-//! its tests. A case is some lines of commands in JSON, after a line that names it, and before an empty line. The file
-//! `stdout` has what is wanted, which was worked out by hand.
+//! Plays the scripts of standard input on farms in memory, and prints what the history of each tells of the flake
+//! rates of its tests. A case is some lines of commands in JSON, after a line that names it, and before an empty line.
+//! The file `stdout` has what is wanted, which was worked out by hand.
 #![tactic(auto)]
 
 use farm_core::{Farm, Prepared};

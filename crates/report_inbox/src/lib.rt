@@ -6,7 +6,7 @@
 //! again. Keys are kept in buckets, since a sender picks them; runs are numbered one after the other, and each has a
 //! row.
 //!
-//! The crate stands on `farm_types` for keys and running out of memory, and on nothing of the farm. Contracts see an
+//! The crate stands on `farm_types` for keys and the out-of-memory error, and on nothing of the farm. Contracts see an
 //! inbox as an `InboxView` of `specs/`: two finite maps with their room. The layer above may use every name below.
 #![tactic(auto)]
 

@@ -1,6 +1,6 @@
 -- The walk down a chain, to the order for a commit.
 use Rattle.std.proofs.Common.{◌≡◌, ◌≢◌, ◌<◌, ◌≤◌, ◌+◌, ℕ, zero, suc, List, [], ◌∷◌, length, get_or, Bool, true, false, ◌||◌, ap, subst, sym, ◌∙◌, ⊎_elim, arith, refl}
-use Rattle.std.proofs.lemmas.Bool.{cases_Bool, cases_eq}
+use Rattle.std.proofs.lemmas.Bool.{cases_eq}
 use Rattle.farm_rules.specs.Orders.{has_order}
 use Rattle.farm_types.specs.CommitId.{same_id}
 use Rattle.farm_types.specs.declared.commit_id.CommitId.{CommitId}

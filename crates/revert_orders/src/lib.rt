@@ -4,7 +4,7 @@
 //! `take_last` takes back gives its place back, so that as many can be added again without memory.
 //!
 //! The crate stands on `farm_rules` for what the next order is, with the types that it is asked with and answers, and
-//! for the day of a moment, on `farm_types` for ids, moments, the limits of time zones and running out of memory, and
+//! for the day of a moment, on `farm_types` for ids, moments, the limits of time zones and the out-of-memory error, and
 //! on `jiff` for the calendar. The orders stand in a table of its own, since the maps of the libraries don't promise
 //! that a removal gives its room back, and a caller that takes orders back has to be able to add them again without
 //! memory. The layer above may use every name below. Contracts see [`Orders`] as a `Book` of `specs/`: the list of the

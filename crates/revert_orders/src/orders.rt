@@ -71,8 +71,8 @@ impl Orders {
     }
 
     /// The next order: of the candidates whose commit has no order it is for the one with the smallest search number,
-    /// on a tie for the first of them. The candidates may stand in any order. `limit` is how many orders a day may have.
-    /// Nothing is added, and no memory is taken.
+    /// on a tie for the first of them. The candidates may stand in any order. `limit` is how many orders a day may
+    /// have. Nothing is added, and no memory is taken.
     pub fn next(&self, confirmed: &[Candidate], day: u32, limit: u32) -> Result<Draft, NoOrder>
         requires { length self.now.orders + 1 < 2 ^ 32 }
         ensures next { result ≡ next_draft confirmed.now self.now.orders day limit }

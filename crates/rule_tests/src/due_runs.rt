@@ -40,8 +40,8 @@ fn print_rerun(rt: &impl Print, text: &str, out: &[u16]) -> io::Result<()> {
     )
 }
 
-/// Prints which rerun is due: of a culprit, the reruns counted at it and at its parent, those asked for, and what is out
-/// behind a slash.
+/// Prints which rerun is due: of a culprit, the reruns counted at it and at its parent, those asked for, and what is
+/// out behind a slash.
 pub(crate) fn print_due_rerun(rt: &impl Print, alloc: Global, text: &str) -> io::Result<()> {
     let (counts, out) = lists(text);
     match positions(alloc, out) {

@@ -1,9 +1,9 @@
 //! Plays the cases of standard input over the crates of plans and rules, and prints what each line comes to, behind the
-//! line. A case is lines with no empty one between them; those on orders are played over the orders of their case, of which
-//! there are none at first. A line has a word and what it asks for: positions are listed with spaces between them, what is
-//! out stands behind a slash, a rerun is written as `3,fail`, and a confirmed search as its number and its commit's, as
-//! `4,40`. A line that begins with `#` is printed as it is. The file `stdout` has what is wanted; it was worked out by
-//! hand.
+//! line. A case is lines with no empty one between them; those on orders are played over the orders of their case, of
+//! which there are none at first. A line has a word and what it asks for: positions are listed with spaces between
+//! them, what is out stands behind a slash, a rerun is written as `3,fail`, and a confirmed search as its number and
+//! its commit's, as `4,40`. A line that begins with `#` is printed as it is. The file `stdout` has what is wanted; it
+//! was worked out by hand.
 #![tactic(auto)]
 
 mod days;

@@ -143,8 +143,8 @@ fn banded(alloc: Global, bands: &str) -> Result<Vec<u32>, Want> {
     Ok(sums)
 }
 
-/// Prints the plan above a floor, of a width, over bands of suspects: each up to a position, and with one weight for each
-/// suspect. The last band has the hypothesis that there is no culprit.
+/// Prints the plan above a floor, of a width, over bands of suspects: each up to a position, and with one weight for
+/// each suspect. The last band has the hypothesis that there is no culprit.
 pub(crate) fn print_banded(rt: &impl Print, alloc: Global, text: &str) -> io::Result<()> {
     let (floor, rest) = word(text);
     let (width, bands) = word(rest);

@@ -56,8 +56,8 @@ fn play_reruns(rt: &impl Print, verify: &mut Verify, culprit: u16, reruns: &str)
     println!(rt; "")
 }
 
-/// Starts a verification of a culprit with so many reruns asked for on each side, notes reruns in order, and prints what
-/// each came to, the counts at the culprit and at its parent after it, and whether it changed anything.
+/// Starts a verification of a culprit with so many reruns asked for on each side, notes reruns in order, and prints
+/// what each came to, the counts at the culprit and at its parent after it, and whether it changed anything.
 pub(crate) fn play_verification(rt: &impl Print, text: &str) -> io::Result<()> {
     let (culprit, rest) = word(text);
     let (asked, reruns) = word(rest);

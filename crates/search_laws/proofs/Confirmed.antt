@@ -1,12 +1,11 @@
 -- The searches whose culprit is confirmed, after appending an entry.
-use Rattle.std.proofs.Common.{◌≡◌, ◌≢◌, ℕ, zero, suc, ◌+◌, ◌==◌, ◌<◌, ◌≤◌, ◌⊎◌, inl, inr, Bool, true, false, List, [], ◌∷◌, ◌++◌, length, map, count_by, Contains, All, Option, Some, None, refl, sym, ap, subst, ◌∙◌, append-nil, ⊎_elim, arith, true≢false}
+use Rattle.std.proofs.Common.{◌≡◌, ◌≢◌, ℕ, zero, suc, ◌+◌, ◌<◌, ◌≤◌, ◌⊎◌, inl, inr, true, false, List, [], ◌∷◌, ◌++◌, length, map, count_by, Contains, Option, Some, None, refl, sym, ap, subst, ◌∙◌, append-nil, ⊎_elim, arith, true≢false}
 use Rattle.std.specs.List.{cons_option, filter_map, range_with_len}
 use Rattle.std.proofs.lemmas.Bool.{cases_Bool, cases_eq}
 use Rattle.std.proofs.lemmas.List.Elements.{All-cons, All-contains_itself, All-nil, Contains-append_right, filter_map-append}
 use Rattle.std.proofs.lemmas.Option.{none-some}
 use Rattle.farm_types.specs.declared.stage.Stage.TheVariants.{Verify}
 use Rattle.weight_exact.specs.Counts.{is_fail_at}
-use Rattle.weight_exact.specs.declared.run.Run.{Run}
 use Rattle.farm_rules.specs.declared.orders.Candidate.{Candidate}
 use Rattle.farm_entry.proofs.Growing.{openings-grow}
 use Rattle.farm_entry.specs.History.{lease_of, opening_in, openings, reruns}

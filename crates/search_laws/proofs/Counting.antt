@@ -1,7 +1,6 @@
 -- The totals after appending an entry.
-use Rattle.std.proofs.Common.{◌≡◌, ◌≢◌, ℕ, zero, suc, ◌+◌, ◌<◌, ◌≤◌, Bool, true, false, cond, List, [], ◌∷◌, ◌++◌, length, map, count_by, Contains, get_or, Option, Some, None, refl, sym, ap, subst, ◌∙◌, append-nil, length-append, arith}
-use Rattle.std.specs.List.{cons_option, filter_map, range_with_len}
-use Rattle.std.proofs.lemmas.Option.{none-some}
+use Rattle.std.proofs.Common.{◌≡◌, ◌≢◌, ℕ, zero, suc, ◌+◌, ◌≤◌, Bool, cond, List, [], ◌∷◌, ◌++◌, length, map, count_by, Contains, Option, Some, None, refl, sym, ap, ◌∙◌, append-nil, length-append, arith}
+use Rattle.std.specs.List.{cons_option, range_with_len}
 use Rattle.farm_entry.proofs.Growing.{openings-grow, order_lines-grow, reports-grow}
 use Rattle.farm_entry.specs.History.{is_counted, lease_of, opening_in, openings, order_in, order_lines, report_in, reports}
 use Rattle.farm_entry.specs.Legal.{IsLegal}
@@ -13,7 +12,6 @@ use Rattle.farm_entry.specs.declared.entry.What.TheVariants.{Founded, Opened, Le
 use Rattle.farm_entry.specs.declared.lease.LeasedRun.{LeasedRun}
 use Rattle.farm_entry.specs.declared.lease.ReportedRun.{ReportedRun}
 use Rattle.farm_entry.specs.declared.opening.Opening.{Opening}
-use Rattle.farm_entry.specs.declared.order_page.OrderLine.{OrderLine}
 use Rattle.farm_entry.specs.declared.standing.Standing.{Standing}
 use Rattle.farm_laws.proofs.Counts.{count_by-append, count_by-cons}
 use Rattle.farm_laws.proofs.Numbered.{number-at, number-at-least, openings-numbered, tail_of}

@@ -1,7 +1,7 @@
 -- What a search holds after an entry that isn't about it, and its leases after any entry.
-use Rattle.std.proofs.Common.{◌≡◌, ℕ, ◌+◌, ◌==◌, Bool, true, false, not, ◌&&◌, ◌||◌, nat_lt, cond, if◌then◌else◌, List, [], ◌∷◌, ◌++◌, length, filter, Contains, Option, Some, None, refl, sym, ap, subst, ◌∙◌, append-nil, ⊎_elim, arith, true≢false}
+use Rattle.std.proofs.Common.{◌≡◌, ℕ, ◌+◌, ◌==◌, Bool, true, false, not, ◌&&◌, ◌||◌, nat_lt, if◌then◌else◌, List, [], ◌∷◌, ◌++◌, length, filter, Option, Some, None, refl, sym, ap, ◌∙◌, append-nil, arith, true≢false}
 use Rattle.std.specs.List.{cons_option, filter_map, list_any}
-use Rattle.std.proofs.lemmas.Bool.{cases_Bool, cases_eq, ne_eqb}
+use Rattle.std.proofs.lemmas.Bool.{ne_eqb}
 use Rattle.std.proofs.lemmas.List.Elements.{filter-append}
 use Rattle.std.proofs.lemmas.Option.{none-some}
 use Rattle.farm_types.specs.declared.stage.Stage.{Stage}
@@ -10,7 +10,7 @@ use Rattle.weight_exact.specs.Share.{reached}
 use Rattle.weight_exact.specs.declared.run.Run.{Run}
 use Rattle.farm_entry.specs.Decision.{run_with}
 use Rattle.farm_entry.specs.Due.{is_open, open_leases}
-use Rattle.farm_entry.specs.History.{cancelled_in, counted, counted_run, is_counted, is_lease_for, is_of_run, is_of_search, is_over, is_report_of, is_reported, last_lease, last_place, lease_in, lease_of, leases, openings, report_in, reruns, runs, same_stage, was_cancelled, went_over}
+use Rattle.farm_entry.specs.History.{cancelled_in, counted, counted_run, is_counted, is_lease_for, is_of_run, is_of_search, is_over, is_report_of, is_reported, last_lease, last_place, lease_of, leases, report_in, same_stage, was_cancelled, went_over}
 use Rattle.farm_entry.specs.Legal.{IsLegal}
 use Rattle.farm_entry.specs.Setup.{setup_of}
 use Rattle.farm_entry.specs.Standing.{standing, standing_of_reached}

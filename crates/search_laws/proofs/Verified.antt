@@ -1,7 +1,5 @@
 -- The reruns of a search are what a verification of its suspect went through.
-use Rattle.std.proofs.Common.{◌≡◌, ◌≢◌, ℕ, zero, suc, ◌+◌, ◌-◌, ◌==◌, ◌<◌, ◌≤◌, ◌⊎◌, Bool, true, false, not, ◌&&◌, nat_lt, if◌then◌else◌, List, [], ◌∷◌, ◌++◌, length, count_by, Contains, Option, Some, None, refl, sym, ap, subst, inl, inr, ◌∙◌, ⊎_elim, arith, true≢false, append_assoc}
-use Rattle.std.proofs.lemmas.Bool.Decides.{nat_tests}
-use Rattle.std.proofs.lemmas.Option.{none-some}
+use Rattle.std.proofs.Common.{◌≡◌, ◌≢◌, ℕ, zero, suc, ◌+◌, ◌-◌, ◌==◌, ◌≤◌, ◌⊎◌, Bool, true, false, not, ◌&&◌, nat_lt, if◌then◌else◌, List, [], ◌∷◌, ◌++◌, count_by, Contains, Option, Some, None, refl, sym, ap, subst, inl, inr, ◌∙◌, ⊎_elim, arith, true≢false}
 use Rattle.farm_rules.specs.Reruns.{Outcome, after_rerun, after_reruns, confirmed, counts, enough, is_verifying, outcome, reruns_at, vindicated, vindicating, verifying}
 use Rattle.farm_types.specs.declared.stage.Stage.{Stage}
 use Rattle.farm_types.specs.declared.stage.Stage.TheVariants.{Search, Verify}
@@ -12,10 +10,10 @@ use Rattle.weight_exact.specs.Weights.{suspects}
 use Rattle.weight_exact.specs.declared.run.Run.{Run}
 use Rattle.weight_exact.specs.declared.run.Verdict.{Verdict}
 use Rattle.farm_entry.specs.Decision.{fate_at, is_past_budget, run_with}
-use Rattle.farm_entry.specs.History.{counted, is_counted, openings, reruns, runs, same_stage, was_cancelled, went_over}
-use Rattle.farm_entry.specs.Legal.{AreNext, IsLegal}
+use Rattle.farm_entry.specs.History.{is_counted, openings, reruns, same_stage, was_cancelled, went_over}
+use Rattle.farm_entry.specs.Legal.{IsLegal}
 use Rattle.farm_entry.specs.Setup.{setup_of}
-use Rattle.farm_entry.specs.Standing.{at_bar, is_searching, standing}
+use Rattle.farm_entry.specs.Standing.{at_bar, standing}
 use Rattle.farm_entry.specs.declared.entry.Entry.{Entry}
 use Rattle.farm_entry.specs.declared.entry.Fate.TheVariants.{Counted, Late, Over}
 use Rattle.farm_entry.specs.declared.lease.LeasedRun.{LeasedRun}
@@ -25,14 +23,13 @@ use Rattle.farm_entry.specs.declared.standing.Standing.TheVariants.{Searching, V
 use Rattle.farm_laws.specs.Laws.{culprit_of}
 use Rattle.farm_laws.proofs.Counts.{count_by-le}
 use Rattle.farm_laws.proofs.Ends.{at_bar-stays, over-kept, some-entries}
-use Rattle.farm_laws.proofs.InRange.{FitsStage, lease-fits}
+use Rattle.farm_laws.proofs.InRange.{lease-fits}
 use Rattle.farm_laws.proofs.Induct.{IsLegal-first, IsLegal-rest, grown}
 use Rattle.farm_laws.proofs.Numbered.{lease-there}
 use Rattle.farm_laws.proofs.Opened.{each_opened, fresh-counted, opened-stays}
-use Rattle.farm_laws.proofs.RunSteps.{GrownRuns, NewRun, counted-step, runs-step}
+use Rattle.farm_laws.proofs.RunSteps.{NewRun, counted-step}
 use Rattle.farm_laws.proofs.Standings.{at_bar-searching}
 use Rattle.farm_laws.proofs.Stepped.{Stepped}
-use Rattle.search_laws.specs.Stands.{IsBeingRerun, IsBelieved, IsNamed}
 use Rattle.search_laws.proofs.Sides.{counts-lacking, silent-vindicated}
 use Rattle.search_laws.proofs.Views.{bar-reached, cancelled-standing, named-standing_names, reached-bar, standing-confirmed, standing-verifying}
 use Rattle.search_laws.proofs.Counting.{some-equal}

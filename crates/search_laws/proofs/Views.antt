@@ -1,9 +1,9 @@
 -- The cases of a standing, forwards and backwards.
-use Rattle.std.proofs.Common.{◌≡◌, ℕ, ◌-◌, ◌==◌, ◌<◌, ◌≤◌, Bool, true, false, if◌then◌else◌, List, Contains, Option, Some, None, refl, sym, ap, subst, ◌∙◌, arith, true≢false}
+use Rattle.std.proofs.Common.{◌≡◌, ℕ, ◌-◌, ◌==◌, ◌≤◌, Bool, true, false, if◌then◌else◌, List, Contains, Option, Some, None, refl, sym, ap, subst, ◌∙◌, arith, true≢false}
 use Rattle.std.proofs.lemmas.Bool.Decides.{nat_tests}
 use Rattle.std.proofs.lemmas.Option.{none-some}
 use Rattle.weight_exact.specs.Share.{IsReached, reached}
-use Rattle.weight_exact.specs.Weights.{Setup, hypotheses, suspects, total}
+use Rattle.weight_exact.specs.Weights.{hypotheses, suspects}
 use Rattle.weight_exact.specs.declared.run.Run.{Run}
 use Rattle.weight_exact.proofs.Shares.{reached-none, reached-some, unreached-from_none, IsReached-from_some}
 use Rattle.farm_rules.specs.Reruns.{Outcome, confirmed, enough, outcome, verifying, vindicated, vindicating}

@@ -2,7 +2,7 @@
 use Rattle.std.specs.Prelude.{◌≡◌, ℕ, ◌+◌, ◌-◌, ◌<◌, ◌≤◌, ◌⊎◌, false, List, Contains, count_by}
 use Rattle.weight_exact.specs.Counts.{is_fail_at, is_pass_at}
 use Rattle.weight_exact.specs.Share.{IsReached}
-use Rattle.weight_exact.specs.Weights.{hypotheses, suspects}
+use Rattle.weight_exact.specs.Weights.{suspects}
 use Rattle.weight_exact.specs.declared.run.Run.{Run}
 use Rattle.weight_exact.specs.declared.run.Verdict.TheVariants.{Fail, Pass}
 use Rattle.farm_entry.specs.History.{reruns, runs, was_cancelled, went_over}

@@ -1,5 +1,5 @@
 -- What appending an entry changes.
-use Rattle.std.specs.Prelude.{◌≡◌, ℕ, ◌==◌, Bool, ◌&&◌, not, List, [], ◌++◌, filter, Some}
+use Rattle.std.specs.Prelude.{◌≡◌, ℕ, ◌==◌, ◌&&◌, not, List, [], filter, Some}
 use Rattle.std.specs.List.{cons_option}
 use Rattle.farm_types.specs.declared.stage.Stage.{Stage}
 use Rattle.farm_entry.specs.Due.{is_open}

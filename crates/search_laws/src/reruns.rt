@@ -32,8 +32,8 @@ pub fn reruns_are_those_of_a_verification()
         × (count_by (is_pass_at (suspect - 1)) (reruns H o.search) ≡ o.reruns) }
 {}
 
-/// A search that verifies a suspect goes on to verify, confirm or vindicate the same one, or is cancelled, in every longer
-/// history.
+/// A search that verifies a suspect goes on to verify, confirm or vindicate the same one, or is cancelled, in every
+/// longer history.
 pub fn verifications_keep_their_suspect()
     ensures { (H K : List Entry) (o : Opening) (suspect : ℕ) → IsLegal (H ++ K) → Contains (openings H) o
         → standing H o ≡ Verifying suspect

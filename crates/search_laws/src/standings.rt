@@ -11,8 +11,8 @@ ghost use Rattle.search_laws.specs.Stands.{IsAtBar, IsBeingRerun, IsBorneOut, Is
 
 use farm_entry::{Entry, Opening};
 
-/// A standing names a suspect, or "no culprit", exactly where that hypothesis is at the bar over the counted runs and the
-/// search is neither cancelled nor over its budget; and a search goes on searching exactly where none is.
+/// A standing names a suspect, or "no culprit", exactly where that hypothesis is at the bar over the counted runs and
+/// the search is neither cancelled nor over its budget; and a search goes on searching exactly where none is.
 pub fn beliefs_decide_standings()
     ensures suspect { (H : List Entry) (o : Opening) (suspect : ℕ) → IsLegal H → Contains (openings H) o
         → (culprit_of (standing H o) ≡ Some suspect) ↔ IsNamed H o suspect }
@@ -22,7 +22,8 @@ pub fn beliefs_decide_standings()
         → (standing H o ≡ Searching) ↔ IsUndecided H o }
 {}
 
-/// A search that was cancelled stands so, whatever else; one that went over its budget and wasn't cancelled is inconclusive.
+/// A search that was cancelled stands so, whatever else; one that went over its budget and wasn't cancelled is
+/// inconclusive.
 pub fn entries_end_searches()
     ensures cancelled { (H : List Entry) (o : Opening)
         → (standing H o ≡ Cancelled) ↔ (was_cancelled H o.search ≡ true) }
@@ -30,8 +31,8 @@ pub fn entries_end_searches()
         → (standing H o ≡ Inconclusive) ↔ ((was_cancelled H o.search ≡ false) × (went_over H o.search ≡ true)) }
 {}
 
-/// A named suspect is vindicated exactly where a rerun spoke against it, confirmed exactly where none did and each side has
-/// the reruns that were asked for, and verified exactly where none did and some side lacks reruns.
+/// A named suspect is vindicated exactly where a rerun spoke against it, confirmed exactly where none did and each
+/// side has the reruns that were asked for, and verified exactly where none did and some side lacks reruns.
 pub fn named_suspects_stand_by_their_reruns()
     ensures vindicated { (H : List Entry) (o : Opening) (suspect : ℕ) → IsLegal H → Contains (openings H) o
         → (standing H o ≡ Vindicated suspect) ↔ IsSpokenAgainst H o suspect }

@@ -27,8 +27,9 @@ pub fn an_entry_changes_one_search()
         → ¬ IsAbout H e.what o.search → standing (H ++ e ∷ []) o ≡ standing H o }
 {}
 
-/// The leases of a search after appending an entry are those before and the one that it hands out. The open ones are those of
-/// them that were open before or are now, without the one that it reports. The last lease is this entry's, or stays.
+/// The leases of a search after appending an entry are those before and the one that it hands out. The open ones are
+/// those of them that were open before or are now, without the one that it reports. The last lease is this entry's, or
+/// stays.
 pub fn leases_after_one_entry_more()
     ensures leases { (H : List Entry) (e : Entry) (search : ℕ)
         → leases (H ++ e ∷ []) search ≡ leases H search ++ handed_out e.what search }
@@ -39,9 +40,9 @@ pub fn leases_after_one_entry_more()
         → last_lease (H ++ e ∷ []) search ≡ (if is_lease_for search e then length H else last_lease H search) }
 {}
 
-/// The totals after appending an entry: it is counted itself, with the search that it opens, the order that it gives and the
-/// report that counts. By any test of a standing, at most one search of those before changes sides: the one that the entry
-/// is about.
+/// The totals after appending an entry: it is counted itself, with the search that it opens, the order that it gives
+/// and the report that counts. By any test of a standing, at most one search of those before changes sides: the one
+/// that the entry is about.
 pub fn totals_after_one_entry_more()
     ensures entries { (H : List Entry) (e : Entry) → (totals (H ++ e ∷ [])).entries ≡ (totals H).entries + 1 }
     ensures searches { (H : List Entry) (e : Entry)

@@ -1,5 +1,5 @@
--- What contracts see of a search, and what the farm's definitions say of it: where it stands, what a report does to it, which
--- run is due.
+-- What contracts see of a search, and what the farm's definitions say of it: where it stands, what a report does to
+-- it, which run is due.
 use Rattle.std.specs.Prelude.{◌≡◌, ℕ, ◌+◌, ◌-◌, ◌<◌, ◌≤◌, ◌⊎◌, nat_lt, Bool, true, false, ◌&&◌, ◌||◌, List, [], ◌∷◌, ◌++◌, map, if◌then◌else◌, Option, Some, None}
 use Rattle.std.specs.List.{range_with_len}
 use Rattle.std.specs.Option.{option_map}
@@ -22,8 +22,8 @@ use Rattle.farm_entry.specs.declared.opening.Opening.{Opening}
 use Rattle.farm_entry.specs.declared.standing.Standing.{Standing}
 use Rattle.farm_entry.specs.declared.standing.Standing.TheVariants.{Searching, Verifying, Inconclusive, Cancelled}
 
--- A search: how it was opened, the runs and the reruns that counted, each in the order of their reports, and whether it went
--- over its budget or was cancelled
+-- A search: how it was opened, the runs and the reruns that counted, each in the order of their reports, and whether
+-- it went over its budget or was cancelled
 pub record SearchView : Type 0 where
   pub opening : Opening
   pub runs : List Run
@@ -104,8 +104,8 @@ after_report s stage r Counted = after_counted s stage r
 after_report s stage r Over = gone_over s
 after_report s stage r Late = s
 
--- A run may be of a search: it is at a suspect's position where it is to find the culprit, and at the suspect at the bar or
--- just below it where it is to verify that one
+-- A run may be of a search: it is at a suspect's position where it is to find the culprit, and at the suspect at the
+-- bar or just below it where it is to verify that one
 pub record IsPlaced (s : SearchView) (stage : Stage) (r : Run) : Type 0 where
   pub first : stage ≡ Search → 1 ≤ r.position
   pub last : stage ≡ Search → r.position < hypotheses (setup_of s.opening)

@@ -136,8 +136,8 @@ impl SearchState {
 
     // What is due.
 
-    /// The run that is due, while the runs at these positions are out, of the stage at which the search stands. A search that
-    /// has ended has none.
+    /// The run that is due, while the runs at these positions are out, of the stage at which the search stands. A
+    /// search that has ended has none.
     pub fn due(&self, outstanding: &[u16]) -> Option<DueRun>
         ensures { result ≡ due_in self.now outstanding.now }
     {
@@ -312,8 +312,8 @@ impl SearchState {
         self.standing = Standing::Cancelled;
     }
 
-    /// Puts the search back to where it was opened. It takes no memory. Whoever takes the last report of a search away, or its
-    /// cancellation, does so, and then gives it the reports that are left.
+    /// Puts the search back to where it was opened. It takes no memory. Whoever takes the last report of a search
+    /// away, or its cancellation, does so, and then gives it the reports that are left.
     pub fn clear(&mut self)
         ensures { self.new ≡ opened self.old.opening }
     {

@@ -14,8 +14,8 @@ use std::sync::atomic::{AtomicBool, Ordering};
 use std::sync::{Arc, Wait};
 use std::thread::Threads;
 
-/// A link whose other end asks for the farm's page. The first take of the first link looks so often whether something was
-/// put on the second one, and gives up the processor between two looks; it fails where that never was.
+/// A link whose other end asks for the farm's page. The first take of the first link looks so often whether something
+/// was put on the second one, and gives up the processor between two looks; it fails where that never was.
 #[derive(Drop)]
 struct GatedLink {
     first: bool,

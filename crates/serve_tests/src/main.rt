@@ -1,5 +1,5 @@
-//! Serves links of networks in memory, and prints what it came to. The file `stdout` has what is wanted, written down by
-//! hand. Whatever the order in which the handlers come to their links, the output is the same.
+//! Serves links of networks in memory, and prints what it came to. The file `stdout` has what is wanted, written down
+//! by hand. Whatever the order in which the handlers come to their links, the output is the same.
 #![tactic(auto)]
 
 mod gated;
@@ -10,8 +10,8 @@ use gated::print_gated;
 use service::{Outside, print_service};
 use std::io;
 
-/// Four links that all open one search, and take a lease each. Then one that is cut off as it opens a search, an accept that fails, a link of
-/// which a take fails, and an output that fails.
+/// Four links that all open one search, and take a lease each. Then one that is cut off as it opens a search, an
+/// accept that fails, a link of which a take fails, and an output that fails.
 const SETTINGS: [(&str, u8, u64, Outside); 7] = [
     ("one handler", 1, 9, Outside::Calm),
     ("four handlers", 4, 9, Outside::Calm),

@@ -90,8 +90,8 @@ fn is_repeated<R: Wait>(
     first && second
 }
 
-/// One lease, which is asked for again and again, and at each stride reported. Answers whether each reply is as it should
-/// be.
+/// One lease, which is asked for again and again, and at each stride reported. Answers whether each reply is as it
+/// should be.
 fn step<R: Wait>(
     rt: &R,
     alloc: Global,

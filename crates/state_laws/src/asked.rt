@@ -12,8 +12,8 @@ ghost use Rattle.state_laws.specs.Seen.{seen};
 use farm_entry::{Entry, LeasedRun, Opening, ReportedRun};
 use weight_exact::Verdict;
 
-/// A search of a legal history was opened within the limits of a state, each of its runs is at a place that a state takes a
-/// report of, and while the history takes one more entry the state takes one more report.
+/// A search of a legal history was opened within the limits of a state, each of its runs is at a place that a state
+/// takes a report of, and while the history takes one more entry the state takes one more report.
 pub fn histories_meet_what_states_ask()
     ensures within { (H : List Entry) (o : Opening) → IsLegal H → Contains (openings H) o → OpenWithin o }
     ensures placed { (H : List Entry) (o : Opening) (l : LeasedRun) (v : Verdict) → IsLegal H → Contains (openings H) o

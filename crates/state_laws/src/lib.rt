@@ -1,9 +1,9 @@
-//! Laws of the state of a search and of what a legal history holds of it: each says of the other what the farm's definitions
-//! say, and appending an entry changes both alike.
+//! Laws of the state of a search and of what a legal history holds of it: each says of the other what the farm's
+//! definitions say, and appending an entry changes both alike.
 //!
-//! A function here does nothing: its contract is the law. The crate stands on `search_state`, whose calls a farm makes, and
-//! on the laws of histories. A farm that keeps a state for each search, as `specs/Seen` has it, cites these laws where it
-//! calls it.
+//! A function here does nothing: its contract is the law. The crate stands on `search_state`, whose calls a farm
+//! makes, and on the laws of histories. A farm that keeps a state for each search, as `specs/Seen` has it, cites these
+//! laws where it calls it.
 #![tactic(auto)]
 
 mod asked;

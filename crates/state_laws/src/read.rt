@@ -11,8 +11,8 @@ ghost use Rattle.state_laws.specs.Seen.{seen};
 use farm_entry::{Entry, LeasedRun, Opening};
 use weight_exact::Verdict;
 
-/// Where a search stands in a history, the fate of the first report of one of its runs, the run that is due by those that
-/// are outstanding, and its shares are those of its state there.
+/// Where a search stands in a history, the fate of the first report of one of its runs, the run that is due by those
+/// that are outstanding, and its shares are those of its state there.
 pub fn states_say_what_histories_hold()
     ensures standing { (H : List Entry) (o : Opening) → standing_in (seen H o) ≡ standing H o }
     ensures fate { (H : List Entry) (o : Opening) (l : LeasedRun) (v : Verdict)

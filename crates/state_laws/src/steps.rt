@@ -10,8 +10,8 @@ ghost use Rattle.state_laws.specs.Seen.{seen};
 
 use farm_entry::{Entry, LeasedRun, Opening, ReportedRun};
 
-/// A search that an entry opens has the state of an opened one. The search of a reported run takes in the report, one that is
-/// cancelled is, and every other search keeps its state.
+/// A search that an entry opens has the state of an opened one. The search of a reported run takes in the report, one
+/// that is cancelled is, and every other search keeps its state.
 pub fn an_entry_changes_a_state()
     ensures opened { (H : List Entry) (e : Entry) (o : Opening) → IsLegal H → IsLegal (H ++ e ∷ [])
         → opening_in e.what ≡ Some o → seen (H ++ e ∷ []) o ≡ opened o }

@@ -9,8 +9,8 @@ ghost use Rattle.state_laws.specs.Seen.{all_seen, seen};
 
 use farm_entry::{Entry, LeasedRun, Opening, ReportedRun};
 
-/// An entry that opens a search adds one state at the end. A report, or a cancellation, sets the state of its search, and any
-/// other entry changes none.
+/// An entry that opens a search adds one state at the end. A report, or a cancellation, sets the state of its search,
+/// and any other entry changes none.
 pub fn an_entry_changes_one_state()
     ensures opened { (H : List Entry) (e : Entry) (o : Opening) → IsLegal H → IsLegal (H ++ e ∷ [])
         → opening_in e.what ≡ Some o → all_seen (H ++ e ∷ []) ≡ all_seen H ++ opened o ∷ [] }

@@ -97,7 +97,8 @@ fn holds(
     }
 }
 
-/// The same where one call failed with no byte, one and all bytes kept: whether all of it holds, and whether the call failed.
+/// The same where one call failed with no byte, one and all bytes kept: whether all of it holds, and whether the call
+/// failed.
 fn all_hold(
     alloc: Global,
     file: &str,

@@ -121,8 +121,8 @@ impl SuspectRange {
         &self.suspects
     }
 
-    /// The weights of all suspects in commit order, as a list of their own. With the calm weight they are the priors of a
-    /// search.
+    /// The weights of all suspects in commit order, as a list of their own. With the calm weight they are the priors
+    /// of a search.
     pub fn weights(&self, alloc: Global) -> Result<Vec<u32>, Memory>
         ensures weights { IfOk result (λ weights. weights.items ≡ map (λ suspect. suspect.weight) self.now.suspects) }
         ensures priors { IfOk result (λ weights. ArePriors weights.items self.now.calm) }
@@ -168,8 +168,8 @@ fn bad_weight_index(suspects: &[Suspect]) -> Option<usize>
         .position(|suspect| !(1..=MAX_WEIGHT).contains(&suspect.weight))
 }
 
-/// The position of the first suspect whose commit stands below it too. It takes no memory. A commit is compared with all
-/// below it only where one of them has its mark, as few have.
+/// The position of the first suspect whose commit stands below it too. It takes no memory. A commit is compared with
+/// all below it only where one of them has its mark, as few have.
 fn first_repeat(base: CommitId, suspects: &[Suspect]) -> Option<usize>
     ensures { result ≡ first_repeat base suspects.now }
 {

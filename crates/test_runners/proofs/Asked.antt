@@ -1,5 +1,5 @@
 -- What a host that was asked says.
-use Rattle.std.proofs.Common.{◌≡◌, ◌++◌, ℕ, Bool, List, [], Option, Some, None, inl, inr, refl, sym, ap, ◌∙◌}
+use Rattle.std.proofs.Common.{◌≡◌, ℕ, Bool, List, [], Option, Some, None, inr, refl, sym, ap, ◌∙◌}
 use Rattle.std.specs.Io.KnownBytes.{append_known}
 use Rattle.std.proofs.lemmas.List.{append-nil}
 use Rattle.weight_exact.specs.declared.run.Verdict.{Verdict}

@@ -30,8 +30,8 @@ abbrev pub IsTaken : (taken : List ℕ) → (ended : Bool) → Result (Option Ve
 IsTaken taken ended (Ok said) = IsAnswer taken ended × (said ≡ answer_of taken)
 IsTaken taken ended (Err failed) = ⊤
 
--- What a host said that was asked over a connection, where so much was put and taken, and that failed so often. It gave a
--- verdict; or the connection failed, not the whole question was put, or the answer says something else
+-- What a host said that was asked over a connection, where so much was put and taken, and that failed so often. It
+-- gave a verdict; or the connection failed, not the whole question was put, or the answer says something else
 abbrev pub IsAsked : (question sent taken : List ℕ) → (ended : Bool) → (count : ℕ) → Option Verdict → Type 0
 IsAsked question sent taken ended count (Some verdict) =
     (sent ≡ question) × IsAnswer taken ended × (answer_of taken ≡ Some verdict)

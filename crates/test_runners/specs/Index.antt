@@ -1,9 +1,11 @@
--- The index by which the rows of a test at a commit are found: of each bucket, a chain of the places of its rows, the first in front.
+-- The index by which the rows of a test at a commit are found: of each bucket, a chain of the places of its rows, the
+-- first in front.
 use Rattle.std.specs.Prelude.{ℕ, ◌≡◌, ◌≢◌, ◌<◌, ◌≤◌, ◌+◌, ◌*◌, ◌%◌, List, [], ◌∷◌, length, map, get_or}
 use Rattle.test_runners.specs.Rows.{TableRow}
 use Rattle.test_runners.specs.declared.index.TheConstants.{HASH_FACTOR, HASH_SIZE}
 
--- a hash of bytes that come after others with this hash: 31 times what was there, and the next byte, as Java hashes a string
+-- a hash of bytes that come after others with this hash: 31 times what was there, and the next byte, as Java hashes a
+-- string
 abbrev pub hash_after : (hash : ℕ) → List ℕ → ℕ
 hash_after hash [] = hash
 hash_after hash (b ∷ bs) = hash_after ((hash * HASH_FACTOR + b) % HASH_SIZE) bs

@@ -37,8 +37,8 @@ abbrev pub ran_by : Option Verdict → Ran
 ran_by (Some verdict) = ran.Verdict verdict
 ran_by None = ran.Failed
 
--- What a run of a test at a commit answers, and what becomes of where verdicts come from. A table stays as it is and answers
--- by its first row; a host is asked by one line over one connection of its network
+-- What a run of a test at a commit answers, and what becomes of where verdicts come from. A table stays as it is and
+-- answers by its first row; a host is asked by one line over one connection of its network
 abbrev pub Asks : {N : Type 0} → (told : N → Option (List NetworkEvent)) → (test : List ℕ) → CommitId →
     (before after : OriginSeen N) → Ran → Type 0
 Asks told test commit by_nothing after answer = (after ≡ by_nothing) × (answer ≡ ran.Failed)

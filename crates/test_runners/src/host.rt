@@ -20,8 +20,8 @@ const QUESTION_BYTES: usize = 242;
 /// The greatest length of an answer in bytes, with its line feed.
 const ANSWER_BYTES: usize = 5;
 
-/// Asks the host behind a network for the verdict of a test at a commit, over a connection of its own, which is given back.
-/// None where the host gives none.
+/// Asks the host behind a network for the verdict of a test at a commit, over a connection of its own, which is given
+/// back. None where the host gives none.
 pub(crate) fn ask_host<N: Network>(
     network: &mut N,
     test: &Name,

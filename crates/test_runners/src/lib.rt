@@ -2,13 +2,14 @@
 //! connections of their own (`host:ADDRESS`). [`runner_named`] says which of them a word names, and [`TestRunner`] is
 //! either of them, as a `Runner`.
 //!
-//! Whatever is read here is a value: [`read_table`] makes a [`Table`] of a file's bytes, or says which line is outside the
-//! form and why, and a host's question and answer are functions of their bytes (`specs/Host`). What a file or a host of
-//! the outside holds or says, no contract says: the one who makes the runner reads the file, and the network is handed in.
+//! Whatever is read here is a value: [`read_table`] makes a [`Table`] of a file's bytes, or says which line is outside
+//! the form and why, and a host's question and answer are functions of their bytes (`specs/Host`). What a file or a
+//! host of the outside holds or says, no contract says: the one who makes the runner reads the file, and the network
+//! is handed in.
 //!
-//! The crate stands on `worker_io` for runners, on `net_io` and `link_io` for connections, on `http_exchange` for what is told
-//! of one connection, on `hex` and `memchr`, and on `farm_types` and `weight_exact` for names, ids and verdicts. The layers
-//! above may use every name below.
+//! The crate stands on `worker_io` for runners, on `net_io` and `link_io` for connections, on `http_exchange` for what
+//! is told of one connection, on `hex` and `memchr`, and on `farm_types` and `weight_exact` for names, ids and
+//! verdicts. The layers above may use every name below.
 #![tactic(auto)]
 
 mod host;

@@ -50,9 +50,9 @@ impl<N: Network + Drop> TestRunner<N> {
         }
     }
 
-    /// A runner that asks the test host behind a network, over a connection of its own for each run: it puts the line of the
-    /// commit's id in digits, a space and the test's name, and takes the line `pass` or `fail`. Any other answer, and none,
-    /// fails.
+    /// A runner that asks the test host behind a network, over a connection of its own for each run: it puts the line
+    /// of the commit's id in digits, a space and the test's name, and takes the line `pass` or `fail`. Any other
+    /// answer, and none, fails.
     pub fn host(network: N) -> TestRunner<N>
         ensures origin { origin_of result ≡ by_host network }
         ensures faults { runner_faults result ≡ 0 }

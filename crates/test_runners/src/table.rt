@@ -40,8 +40,8 @@ impl Model for Table {
     ghost invariant = { λ table. IsIndex (map row_seen table.rows.items) table.index.heads.items table.index.next.items };
 }
 
-/// The table that a text writes: lines of a commit's id in 40 digits, `pass` or `fail`, and the name of a test, with one
-/// space between two. Each line ends with a line feed, which the last one may lack.
+/// The table that a text writes: lines of a commit's id in 40 digits, `pass` or `fail`, and the name of a test, with
+/// one space between two. Each line ends with a line feed, which the last one may lack.
 ///
 /// # Errors
 ///
@@ -74,7 +74,8 @@ pub fn read_table(alloc: Global, text: &[u8]) -> Result<Table, TableFault>
 }
 
 impl Table {
-    /// The verdict of the first row of this test at this commit. It is found by an index, so that the number of rows counts little.
+    /// The verdict of the first row of this test at this commit. It is found by an index, so that the number of rows
+    /// counts little.
     pub fn verdict(&self, test: &Name, commit: &CommitId) -> Option<Verdict>
         ensures { result ≡ verdict_in self.now test.now (id_bytes commit.now) }
     {

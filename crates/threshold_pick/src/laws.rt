@@ -20,8 +20,8 @@ pub fn picks_are_the_plan()
         ArePicks sums (floor s.factors runs) k positions → positions ≡ plan s runs k }
 {}
 
-/// Such sums rise above the floor, as a pick requires: a hypothesis with a prior weight keeps a weight there, since only
-/// a pass that clears it could take the last of it.
+/// Such sums rise above the floor, as a pick requires: a hypothesis with a prior weight keeps a weight there, since
+/// only a pass that clears it could take the last of it.
 pub fn sums_rise_above_the_floor()
     ensures { (s : Setup) (runs : List Run) (sums : List ℕ) →
         AreCumulative s runs sums → 1 ≤ total s runs →

@@ -1,8 +1,8 @@
-//! Laws of the values that a farm reads and shows: the digits of commit ids, the numbers of rates, ranges and settings, and
-//! the texts of days.
+//! Laws of the values that a farm reads and shows: the digits of commit ids, the numbers of rates, ranges and
+//! settings, and the texts of days.
 //!
-//! A function here does nothing: its contract is the law. The crate stands on the crates whose definitions the laws speak
-//! of, and nothing stands on it but readers.
+//! A function here does nothing: its contract is the law. The crate stands on the crates whose definitions the laws
+//! speak of, and nothing stands on it but readers.
 #![tactic(auto)]
 
 mod dates;

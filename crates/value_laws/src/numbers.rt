@@ -12,8 +12,8 @@ ghost use Rattle.farm_entry.specs.Settings.{settings_daily, settings_fault, sett
 use farm_entry::Settings;
 use flake_rate::{Bar, Miss, Rate};
 
-/// A rate, a miss rate and a bar are themselves when they are made of their own numbers; a miss rate that fits a rate still
-/// does; and a range and settings are taken again as they are.
+/// A rate, a miss rate and a bar are themselves when they are made of their own numbers; a miss rate that fits a rate
+/// still does; and a range and settings are taken again as they are.
 pub fn values_are_made_again_from_their_readers()
     ensures rate { (rate : Rate) → rate_of (rate_numerator rate) (rate_denominator rate) ≡ Some rate }
     ensures miss { (miss : Miss) → miss_of (miss_numerator miss) (miss_denominator miss) ≡ Some miss }

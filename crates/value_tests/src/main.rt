@@ -1,8 +1,8 @@
 //! Plays the cases of standard input over the crates of values and of exact weights, and prints what each comes to,
-//! behind the case. A case is a line: a word, and what it asks for. A fraction is written as `1/10`, an id of a commit as
-//! the number that it ends in, and a suspect as its id and its weight, as `300,7`. A range has its calm weight and its
-//! suspects over the base 0. A line that begins with `#` is printed as it is. The file `stdout` has what is wanted; it was
-//! worked out by hand.
+//! behind the case. A case is a line: a word, and what it asks for. A fraction is written as `1/10`, an id of a commit
+//! as the number that it ends in, and a suspect as its id and its weight, as `300,7`. A range has its calm weight and
+//! its suspects over the base 0. A line that begins with `#` is printed as it is. The file `stdout` has what is
+//! wanted; it was worked out by hand.
 #![tactic(auto)]
 
 mod fractions;

@@ -144,7 +144,8 @@ pub(crate) fn print_ranges(rt: &impl Print, alloc: Global, text: &str) -> io::Re
     }
 }
 
-/// Prints the size of a range of so many suspects of a weight, with a calm weight, and its last commit, or why it is none.
+/// Prints the size of a range of so many suspects of a weight, with a calm weight, and its last commit, or why it is
+/// none.
 pub(crate) fn play_many(rt: &impl Print, alloc: Global, text: &str) -> io::Result<()> {
     let (count, rest) = word(text);
     let (weight, calm) = word(rest);

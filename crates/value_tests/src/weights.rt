@@ -46,8 +46,8 @@ fn product_of<L: Ledger>(powers: &Powers, x: u128, counts: Counts, blank: Blank)
     powers.times(x, counts, &mut Steps::<L>::new(blank))
 }
 
-/// Prints 7 times the likelihood numbers at 2/5 and 1/4 to the powers 2, 1, 3 and 1. Of a fail they are 15 and 8, and of a
-/// pass 5 and 12.
+/// Prints 7 times the likelihood numbers at 2/5 and 1/4 to the powers 2, 1, 3 and 1. Of a fail they are 15 and 8, and
+/// of a pass 5 and 12.
 pub(crate) fn print_product(rt: &impl Print, alloc: Global) -> io::Result<()> {
     let (Ok(rate), Ok(miss)) = (Rate::of(2, 5), Miss::of(1, 4)) else {
         return println!(rt; "no rates");

@@ -10,8 +10,8 @@ use crate::Outcome;
 use std::marker::Model;
 use weight_exact::Verdict;
 
-/// The verification of a culprit, in the midst of its reruns. A side is a position: the culprit's own, where the culprit
-/// is in the tree, and its parent's just below it, where it isn't.
+/// The verification of a culprit, in the midst of its reruns. A side is a position: the culprit's own, where the
+/// culprit is in the tree, and its parent's just below it, where it isn't.
 #[derive(Clone, Copy, Debug, PartialEq, Eq)]
 pub struct Verify {
     culprit: u16,

@@ -1,5 +1,5 @@
 -- Sums of weights of which those up to a position are multiplied by one number, and the others by another.
-use Rattle.std.proofs.Common.{◌≡◌, ℕ, ◌+◌, ◌-◌, ◌*◌, ◌<◌, ◌≤◌, true, false, nat_le, List, length, get_or, refl, sym, ap, ◌∙◌, arith, le-leb, mul-le-mul_left}
+use Rattle.std.proofs.Common.{◌≡◌, ℕ, ◌+◌, ◌-◌, ◌*◌, ◌≤◌, true, false, nat_le, List, length, get_or, sym, ap, ◌∙◌, arith, le-leb}
 use Rattle.std.proofs.Math.Nat.{mul-le-mul}
 use Rattle.std.proofs.lemmas.Bool.{lt-leb}
 use Rattle.weight_exact.specs.Weights.{sum_to}

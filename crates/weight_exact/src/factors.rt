@@ -26,7 +26,8 @@ pub struct Factors {
 }
 
 impl Factors {
-    /// The numbers of these two rates, each at most [`MAX_FACTOR`]. Only `pass_in` may be 0: it is where the miss rate is.
+    /// The numbers of these two rates, each at most [`MAX_FACTOR`]. Only `pass_in` may be 0: it is where the miss rate
+    /// is.
     pub fn of(rate: Rate, miss: Miss) -> Factors
         ensures value { result ≡ factors_of rate miss }
         ensures at_most { greatest_factor result ≤ MAX_FACTOR }

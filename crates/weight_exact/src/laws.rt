@@ -95,8 +95,8 @@ pub fn load_after_one_run_more()
 {}
 
 /// What all hypotheses above the floor have in common cancels: each likelihood there is one factor, positive where a
-/// sound tree may pass and may fail, times the likelihood of the live runs; up to the floor it is 0. Where a broken test
-/// may pass, each run is live.
+/// sound tree may pass and may fail, times the likelihood of the live runs; up to the floor it is 0. Where a broken
+/// test may pass, each run is live.
 pub fn settled_runs_cancel()
     ensures above { (f : Factors) (runs : List Run) (i : ℕ) →
         floor f runs < i →
@@ -109,9 +109,9 @@ pub fn settled_runs_cancel()
         1 ≤ f.pass_in → (live f runs ≡ runs) × (common f runs ≡ 1) }
 {}
 
-/// The live runs say all that the runs say: the weights by the live runs alone give the same shares, the same hypothesis
-/// at the bar and the same plan, where a sound tree may pass and may fail. In basis points they fit in 128 bits while the
-/// load fits.
+/// The live runs say all that the runs say: the weights by the live runs alone give the same shares, the same
+/// hypothesis at the bar and the same plan, where a sound tree may pass and may fail. In basis points they fit in 128
+/// bits while the load fits.
 pub fn live_runs_suffice()
     ensures shares { (s : Setup) (runs : List Run) (i : ℕ) →
         1 ≤ s.factors.fail_out → 1 ≤ s.factors.pass_out → 1 ≤ i → i ≤ hypotheses s →
@@ -169,10 +169,10 @@ pub fn there_is_one_budget()
         Fits prior_total f smaller }
 {}
 
-/// The four likelihood numbers of rates within their limits. None is above the greatest there is, three are positive, and the
-/// fourth is 0 exactly where a broken test never passes. A fail speaks for the hypotheses whose culprit is in the tree,
-/// and a pass for the others. With no misses, a rate a/b in lowest terms has the numbers b and a for a fail, and 0 and
-/// 1 for a pass.
+/// The four likelihood numbers of rates within their limits. None is above the greatest there is, three are positive,
+/// and the fourth is 0 exactly where a broken test never passes. A fail speaks for the hypotheses whose culprit is in
+/// the tree, and a pass for the others. With no misses, a rate a/b in lowest terms has the numbers b and a for a fail,
+/// and 0 and 1 for a pass.
 pub fn likelihood_numbers_of_rates()
     ensures positive { (a b c d : ℕ) → IsRate a b → IsMiss c d →
         (1 ≤ (factors a b c d).fail_in)

@@ -13,7 +13,7 @@
 //! The laws: at most one hypothesis reaches the bar (`at_most_one_reaches_the_bar`); the total weight is never 0
 //! (`total_is_positive`); any run multiplies each hypothesis by its number, in any order (`runs_are_independent`,
 //! `likelihood_counts_runs`); what all live hypotheses share cancels from shares, bar and plan (`settled_runs_cancel`,
-//! `live_runs_suffice`); there is one budget, the greatest number of runs that fits (`there_is_one_budget`); with a
+//! `live_runs_suffice`); there is one budget, the greatest load that fits (`there_is_one_budget`); with a
 //! miss rate of 0 the plain table gives the same (`plain_table_gives_the_same`); each planned position is the nearest
 //! to its threshold (`plan_is_nearest`).
 #![tactic(auto)]

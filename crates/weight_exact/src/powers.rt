@@ -50,8 +50,8 @@ impl Model for Powers {
 }
 
 impl Powers {
-    /// The powers of the numbers of these two rates, for counts that come to at most `budget` together, as the load of a
-    /// search does. Any budget will do: a table holds no more than 128 powers.
+    /// The powers of the numbers of these two rates, for counts that come to at most `budget` together, as the load of
+    /// a search does. Any budget will do: a table holds no more than 128 powers.
     ///
     /// # Errors
     ///

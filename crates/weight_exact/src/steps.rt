@@ -27,7 +27,8 @@ impl<L: Ledger> Model for Steps<L> {
 }
 
 impl<L: Ledger> Steps<L> {
-    /// A counter at 0, on a blank of its ledger. A call that counts steps has one beside it for callers that count none.
+    /// A counter at 0, on a blank of its ledger. A call that counts steps has one beside it for callers that count
+    /// none.
     pub fn new(blank: Blank) -> Steps<L>
         requires { CanCount blank L.name L.parts }
         ensures { result ≡ 0 }

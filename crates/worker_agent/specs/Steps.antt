@@ -23,8 +23,8 @@ pub data Step : Type 0 where
   sent : Exchange → Exchanged → Step
   ran : Asked → Step
 
--- a worker between two steps: what it is to do, by its core, the lease that it had last, and whether its last request met a
--- fault of the network
+-- a worker between two steps: what it is to do, by its core, the lease that it had last, and whether its last request
+-- met a fault of the network
 pub record AgentState : Type 0 where
   pub core : Core
   pub lease : Option LeaseAnswer
@@ -34,8 +34,8 @@ pub record AgentState : Type 0 where
 abbrev pub agent_start : (runs : ℕ) → AgentState
 agent_start runs = record { core = (core_step (core_start runs) event.Begin).core; lease = None; faulted = false }
 
--- A step is what the worker is to do. It sends its own request, whole or as far as the connection took it, and has its runner
--- run the test of the lease that it holds, at that lease's commit
+-- A step is what the worker is to do. It sends its own request, whole or as far as the connection took it, and has its
+-- runner run the test of the lease that it holds, at that lease's commit
 abbrev pub Does : (worker : List ℕ) → Option Action → Option LeaseAnswer → Step → Type 0
 Does worker (Some Draw) lease (drew key) = ⊤
 Does worker (Some (AskLease key)) lease (sent x answer) = AnsweredBy (lease_request key worker) x (Ok answer)

@@ -19,8 +19,8 @@ use Rattle.worker_agent.specs.declared.worked.Worked.{Worked}
 use Rattle.worker_agent.specs.declared.worked.WorkFault.{WorkFault}
 use Rattle.worker_agent.specs.declared.worked.WorkFault.TheVariants.{Memory, NetFault, Peer}
 
--- What a worker did after its last step that came to an event: nothing, a step by which the work ended, or a request for whose
--- answer memory ran out
+-- What a worker did after its last step that came to an event: nothing, a step by which the work ended, or a request
+-- for whose answer memory ran out
 pub data Last : Type 0 where
   nothing : Last
   ended_by : Step → Last
@@ -51,8 +51,8 @@ IsEndedBy worker agent (ended_by step) fault =
     Does worker agent.core.last agent.lease step × (came_of agent.core.last step ≡ Err fault)
 IsEndedBy worker agent last fault = ⊥
 
--- a worker that gave up a request is answered by a fault of the network where the last try met one, else by the status that it
--- was lost with
+-- a worker that gave up a request is answered by a fault of the network where the last try met one, else by the status
+-- that it was lost with
 abbrev pub GivesUp : AgentState → WorkFault → Type 0
 GivesUp agent NetFault =
     (status : ℕ) × (agent.core.last ≡ Some (Stop (end.Peer status))) × (agent.faulted ≡ true)
@@ -77,8 +77,8 @@ Ends worker runs cames agent nothing (Ok worked) =
 Ends worker runs cames agent last (Ok worked) = ⊥
 Ends worker runs cames agent last (Err fault) = IsEndedBy worker agent last fault ⊎ ((last ≡ nothing) × GivesUp agent fault)
 
--- The work of a worker of this name that is to take so many leases: it begins, takes its steps one after the other, and ends.
--- What the network, the runner and the source of keys tell of it is just that
+-- The work of a worker of this name that is to take so many leases: it begins, takes its steps one after the other,
+-- and ends. What the network, the runner and the source of keys tell of it is just that
 pub record Works (worker : List ℕ) (runs : ℕ) (before after : Told) (result : Result Worked WorkFault) : Type 0 where
   pub steps : List Step
   pub cames : List Came

@@ -22,8 +22,8 @@ use worker_core::{Action, End, Event, WorkerCore};
 use worker_io::{KeySource, Ran, Runner};
 use worker_wire::LeaseAnswer;
 
-/// A worker that has begun: its core with the action that is to be done, the lease that it had last, and whether its last
-/// request met a fault of the network.
+/// A worker that has begun: its core with the action that is to be done, the lease that it had last, and whether its
+/// last request met a fault of the network.
 #[derive(Debug, Drop)]
 pub(crate) struct Agent {
     core: WorkerCore,

@@ -28,8 +28,8 @@ pub enum WorkFault {
     NetFault,
     /// The runner failed, and its count rose.
     RunnerFault,
-    /// The farm answered otherwise than workers are answered, with this status; or the last try of a request was lost with
-    /// it, or with 0, where no whole response came.
+    /// The farm answered otherwise than workers are answered, with this status; or the last try of a request was lost
+    /// with it, or with 0, where no whole response came.
     Peer(u16),
     /// Out of memory.
     Memory,
@@ -46,9 +46,9 @@ impl From<Memory> for WorkFault {
     }
 }
 
-/// Leases runs under a name, runs their tests and reports their verdicts, until the farm has no run to hand out, or so many
-/// leases were taken. A request that is lost is sent again as it was, three times in all. Every connection is given back to
-/// the network.
+/// Leases runs under a name, runs their tests and reports their verdicts, until the farm has no run to hand out, or so
+/// many leases were taken. A request that is lost is sent again as it was, three times in all. Every connection is
+/// given back to the network.
 pub fn work<N: Network, R: Runner, Q: KeySource>(
     alloc: Global,
     network: &mut N,

@@ -18,9 +18,9 @@ Asked core = (key : Key) × (core.last ≡ Some (AskLease key))
 abbrev pub Reported : Core → Type 0
 Reported core = (run : ℕ) × (verdict : Verdict) × (core.last ≡ Some (SendReport run verdict))
 
--- An action comes where the worker did just that last, or else: a lease is asked for under the key that was drawn, the test of
--- the run is run that was leased, the verdict is reported that came of it. A worker stops where the farm has no run, where
--- it has no lease left, or where its request was lost in the last try
+-- An action comes where the worker did just that last, or else: a lease is asked for under the key that was drawn, the
+-- test of the run is run that was leased, the verdict is reported that came of it. A worker stops where the farm has
+-- no run, where it has no lease left, or where its request was lost in the last try
 abbrev pub ComesFrom : Core → Event → Action → Type 0
 ComesFrom core event Draw =
     (core.last ≡ None) ⊎ ((core.last ≡ Some Draw) ⊎ (Reported core × (event ≡ Noted) × (1 ≤ core.left)))

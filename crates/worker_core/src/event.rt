@@ -18,7 +18,7 @@ pub enum Event {
     Ran(Verdict),
     /// The farm has noted the report.
     Noted,
-    /// The request was lost, or the farm couldn't serve it. The number is the status that came back, or 0 where no whole
-    /// response came.
+    /// The request was lost, or the farm couldn't serve it. The number is the status that came back, or 0 where no
+    /// whole response came.
     Lost(u16),
 }

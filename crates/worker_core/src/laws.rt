@@ -1,4 +1,5 @@
-//! What a worker does, over single events and whole lists of them. A function here does nothing: its contract is the law.
+//! What a worker does, over single events and whole lists of them. A function here does nothing: its contract is the
+//! law.
 
 ghost use Rattle.std.specs.Prelude.{◌≡◌, ◌⊎◌, ℕ, ◌≤◌, ◌≢◌, List, [], ◌∷◌, Some};
 ghost use Rattle.worker_core.specs.Core.{Core};
@@ -9,9 +10,9 @@ ghost use Rattle.worker_core.specs.Steps.{core_after, core_start, core_step};
 
 use crate::{Action, End, Event};
 
-/// Each action has its cause: it was the last one already, or what came of the last one calls for it. So a verdict is only
-/// reported of the run whose test gave it, a worker is idle after it was told that there is no run, and it gives up after the
-/// last try of a request was lost.
+/// Each action has its cause: it was the last one already, or what came of the last one calls for it. So a verdict is
+/// only reported of the run whose test gave it, a worker is idle after it was told that there is no run, and it gives
+/// up after the last try of a request was lost.
 pub fn actions_have_their_causes()
     ensures { (core : Core) (event : Event) → ComesFrom core event (core_step core event).action }
 {}
@@ -32,8 +33,8 @@ pub fn leases_are_limited()
         → leases_taken (core_start runs) events ≡ runs }
 {}
 
-/// A worker has at most as many reports noted as it took leases, and exactly as many where it stops but for a request that
-/// was lost: each lease that it took was reported, and the farm noted it.
+/// A worker has at most as many reports noted as it took leases, and exactly as many where it stops but for a request
+/// that was lost: each lease that it took was reported, and the farm noted it.
 pub fn leases_are_reported()
     ensures most { (runs : ℕ) (events : List Event)
         → reports_noted (core_start runs) events ≤ leases_taken (core_start runs) events }

@@ -49,9 +49,9 @@ impl WorkerCore {
         self.left
     }
 
-    /// What the worker does after an event. The first action is to draw a key, whatever the event. After that, an event that
-    /// doesn't fit the last action gives that action again and changes nothing. A lost request is sent again as it was,
-    /// [`MAX_TRIES`] times in all.
+    /// What the worker does after an event. The first action is to draw a key, whatever the event. After that, an
+    /// event that doesn't fit the last action gives that action again and changes nothing. A lost request is sent
+    /// again as it was, [`MAX_TRIES`] times in all.
     pub fn step(&mut self, event: Event) -> Action
         ensures action { result ≡ (core_step self.old event).action }
         ensures state { self.new ≡ (core_step self.old event).core }

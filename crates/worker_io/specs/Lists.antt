@@ -6,7 +6,8 @@ use Rattle.weight_exact.specs.declared.run.Verdict.{Verdict}
 use Rattle.worker_io.specs.Runs.{Asked, asked}
 use Rattle.worker_io.specs.declared.list_runner.Told.{Told}
 
--- the verdicts that it will give, the calls that are to fail, how often it failed, and what it answered, the newest first
+-- the verdicts that it will give, the calls that are to fail, how often it failed, and what it answered, the newest
+-- first
 pub record RunnerInMemory : Type 0 where
   pub verdicts : List Verdict
   pub plan : PlannedFaults

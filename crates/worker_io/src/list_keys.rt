@@ -7,8 +7,8 @@ use farm_types::Key;
 use std::marker::Model;
 use told_list::ToldList;
 
-/// A source that gives its keys in their order, and then counts on from the last one, or from 1 where it has none. After
-/// the greatest number comes 0. It tells its keys.
+/// A source that gives its keys in their order, and then counts on from the last one, or from 1 where it has none.
+/// After the greatest number comes 0. It tells its keys.
 ///
 /// Contracts see it as the keys of its list that are left, the number of the last key given, and the keys given.
 #[derive(Drop)]

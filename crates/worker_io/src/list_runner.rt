@@ -34,8 +34,8 @@ impl Told {
     }
 }
 
-/// A runner that answers by a list of verdicts, whatever it is asked, and tells all that it did. It fails at the calls that
-/// are listed, and at each call past its verdicts.
+/// A runner that answers by a list of verdicts, whatever it is asked, and tells all that it did. It fails at the calls
+/// that are listed, and at each call past its verdicts.
 ///
 /// Contracts see it as the verdicts that it will give, the plan of the calls that are to fail, its count of faults, and
 /// what it told.
@@ -62,8 +62,8 @@ impl Model for ListRunner {
 }
 
 impl ListRunner {
-    /// A runner that gives these verdicts in their order. The calls whose numbers are in `fails` will fail, counted from
-    /// 1; they use up no verdict.
+    /// A runner that gives these verdicts in their order. The calls whose numbers are in `fails` will fail, counted
+    /// from 1; they use up no verdict.
     pub fn of(verdicts: Vec<Verdict>, fails: Vec<u64>) -> ListRunner
         ensures { result ≡ record {
           verdicts = verdicts.items;

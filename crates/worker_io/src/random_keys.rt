@@ -15,7 +15,8 @@ pub struct RandomKeys {
 }
 
 impl RandomKeys {
-    /// A source with a seed of 32 bytes from the system. An error where the system gives none; after that no call fails.
+    /// A source with a seed of 32 bytes from the system. An error where the system gives none; after that no call
+    /// fails.
     pub fn new<R: RandomSource>(rt: &R) -> io::Result<RandomKeys> {
         let mut seed = [0u8; 32];
         rt.fill_bytes(&mut seed)?;

@@ -1,5 +1,5 @@
-//! What stands in the history of a farm whose reports come from workers. A function here does nothing: its contract is the
-//! law.
+//! What stands in the history of a farm whose reports come from workers. A function here does nothing: its contract is
+//! the law.
 ghost use Rattle.std.specs.Prelude.{◌≡◌, ◌≢◌, ℕ, List, All, AllPairs};
 ghost use Rattle.farm_entry.specs.History.{reports};
 ghost use Rattle.farm_entry.specs.Legal.{IsLegal};
@@ -11,9 +11,9 @@ ghost use Rattle.worker_laws.specs.World.{founded};
 use farm_entry::{ReportedRun, Settings};
 use farm_types::Moment;
 
-/// Whatever the network loses, repeats and reorders, whenever workers and farm stop and start anew, whatever keys are drawn
-/// and whatever others ask of the farm: its history is legal, each report in it, counted or not, is what a runner said
-/// of the run's test at the run's commit, and no run has two reports.
+/// Whatever the network loses, repeats and reorders, whenever workers and farm stop and start anew, whatever keys are
+/// drawn and whatever others ask of the farm: its history is legal, each report in it, counted or not, is what a
+/// runner said of the run's test at the run's commit, and no run has two reports.
 pub fn reports_are_what_runners_said()
     ensures legal { (settings : Settings) (at : Moment) (starts : List (List ℕ × ℕ)) (all : List Happening)
         → IsLegal (all_happen (founded settings at (crew starts)) all).history }

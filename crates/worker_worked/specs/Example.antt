@@ -7,8 +7,8 @@ use Rattle.worker_laws.specs.Happenings.{Happening, all_happen, answered, begins
 use Rattle.worker_laws.specs.Workers.{crew}
 use Rattle.worker_laws.specs.World.{World, founded}
 
--- the search is opened, and the worker leases, runs and reports until there is no run. The answer at place 2, which is the
--- first to a report, is never received
+-- the search is opened, and the worker leases, runs and reports until there is no run. The answer at place 2, which is
+-- the first to a report, is never received
 abbrev pub what_happens : List Happening
 what_happens =
     is_asked 9 (Open (ask_for 1 1000 1)) at_first answered

@@ -1,5 +1,5 @@
-//! A worker that serves a small farm, played by evaluating the definitions of `worker_laws`: each law is the contract of a
-//! call that does nothing.
+//! A worker that serves a small farm, played by evaluating the definitions of `worker_laws`: each law is the contract
+//! of a call that does nothing.
 //!
 //! `specs/Example` has what happens, over a farm of `farm_worked`. Nothing stands on this crate.
 #![tactic(auto)]
@@ -16,9 +16,9 @@ ghost use Rattle.worker_worked.specs.Example.{played};
 
 use farm_entry::ReportedRun;
 
-/// One suspect whose weight alone names it: its run is at the suspect and fails, and the rerun at the base passes. The first
-/// answer to a report is lost, so the report comes twice; it is recorded once. Then the farm has no run, and the worker
-/// stops, with six entries in the history and two runs made.
+/// One suspect whose weight alone names it: its run is at the suspect and fails, and the rerun at the base passes. The
+/// first answer to a report is lost, so the report comes twice; it is recorded once. Then the farm has no run, and the
+/// worker stops, with six entries in the history and two runs made.
 pub fn a_lost_report_is_sent_again()
     ensures entries { length played.history ≡ 6 }
     ensures runs { map (λ (r : ReportedRun). r.run) (reports played.history) ≡ 1 ∷ 2 ∷ [] }

@@ -1,4 +1,4 @@
-use Rattle.std.proofs.Common.{◌≡◌, ◌≤◌, ◌-◌, length, take}
+use Rattle.std.proofs.Common.{◌-◌, length}
 use Rattle.farm_core.specs.Cutting.{IsCutFrom}
 use Rattle.farm_core.proofs.tail.cut.Given as goal
 

@@ -1,4 +1,4 @@
-use Rattle.std.proofs.Common.{◌≡◌, ◌-◌, ◌∙◌, length, arith, ap, sym}
+use Rattle.std.proofs.Common.{◌-◌, ◌∙◌, length, arith, ap, sym}
 use Rattle.farm_entry.specs.declared.entry.Entry.{Entry}
 use Rattle.farm_entry.proofs.Growing.{last_moment-last}
 use Rattle.farm_entry.proofs.moments.last_moment.Goals as goal

@@ -1,6 +1,5 @@
-use Rattle.std.proofs.Common.{ap, ◌≡◌, [], None, subst, sym, List, refl}
+use Rattle.std.proofs.Common.{ap, ◌≡◌, []}
 use Rattle.farm_rules.specs.Orders.{earliest}
-use Rattle.farm_rules.specs.declared.orders.Candidate.{Candidate}
 use Rattle.farm_rules.proofs.Earliest.{earliest-contained, earliest-first, earliest-least, earliest-none}
 use Rattle.farm_rules.proofs.laws.earliest_is_the_first_with_the_least_number.Goals as goal
 

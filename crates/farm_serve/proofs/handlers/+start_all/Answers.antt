@@ -1,5 +1,5 @@
--- What a handler takes along may be handed to its thread. The search shows that by itself where each type crosses by itself,
--- which the shared farm does by its crate's lemma alone. So the parts of the closure are written out.
+-- What a handler takes along may be handed to its thread. The search shows that by itself where each type crosses by
+-- itself, which the shared farm does by its crate's lemma alone. So the parts of the closure are written out.
 use Rattle.std.proofs.Common.{◌∷◌, [], List, ℕ}
 use Rattle.std.specs.Prelude.{codes}
 use denote.Exit.{no}

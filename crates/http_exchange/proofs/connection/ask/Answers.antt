@@ -1,4 +1,4 @@
-use Rattle.std.proofs.Common.{◌≡◌, [], take, drop, sym, ap, ◌∙◌}
+use Rattle.std.proofs.Common.{◌≡◌, [], take, sym, ap, ◌∙◌}
 use Rattle.std.proofs.lemmas.Result.{err_from_is_err_and}
 use Rattle.link_io.specs.Intake.{Intake}
 use Rattle.http_exchange.proofs.Outcomes.{asked-unput, prefix-take, taken-kept}

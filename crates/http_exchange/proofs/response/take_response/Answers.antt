@@ -1,4 +1,4 @@
-use Rattle.std.proofs.Common.{◌≡◌, ◌++◌, ◌≤◌, ◌<◌, Bool, Err, Ok, true, false, slice_range, ◌∙◌, le_trans, subst, sym, arith}
+use Rattle.std.proofs.Common.{◌≡◌, ◌++◌, Bool, Ok, true, false, slice_range, ◌∙◌, le_trans, subst}
 use Rattle.std.proofs.lemmas.Result.{err_from_is_err_and}
 use Rattle.http_responses.specs.Reading.{IsUnfinished, Says}
 use Rattle.http_responses.specs.declared.progress.Progress.TheVariants as progress

@@ -1,4 +1,4 @@
-use Rattle.std.proofs.Common.{◌≡◌, ℕ, ◌+◌, ◌-◌, ◌*◌, ◌/◌, ◌<◌, ◌≤◌, length, if◌then◌else◌, Some, None, ap, sym, ◌∙◌, arith}
+use Rattle.std.proofs.Common.{◌≡◌, ℕ, ◌-◌, ◌/◌, length, if◌then◌else◌, Some, None, ap, sym, ◌∙◌, arith}
 use Rattle.flake_rate.proofs.Values.{bar-in_limits}
 use Rattle.weight_exact.specs.Weights.{sum_to}
 use Rattle.weight_exact.specs.Share.{last_to, is_at_bar}

@@ -1,4 +1,4 @@
-use Rattle.std.proofs.Common.{◌≡◌, ◌+◌, ◌-◌, ◌/◌, ◌<◌, ◌≤◌, ℕ, length}
+use Rattle.std.proofs.Common.{◌≡◌, ◌+◌, ◌-◌, ◌<◌, ◌≤◌, ℕ, length}
 use Rattle.weight_exact.specs.Cumulative.{AreSumsOf}
 use Rattle.weight_exact.specs.Weights.{sum_to}
 use Rattle.posterior.specs.Middle.{last_of}

@@ -1,4 +1,4 @@
-use Rattle.std.proofs.Common.{arith, refl, ap, sym, subst, ◌∙◌, ◌-◌, ◌<◌, ◌≡◌, false, true, length, get_or}
+use Rattle.std.proofs.Common.{arith, refl, sym, subst, ◌∙◌, ◌-◌, ◌<◌, ◌≡◌, false, true, length, get_or}
 use Rattle.farm_types.specs.CommitId.{same_id}
 use Rattle.revert_orders.specs.Chains.{blank, home_of}
 use Rattle.revert_orders.specs.declared.chains.Item.{Item}

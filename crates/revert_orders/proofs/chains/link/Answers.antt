@@ -1,7 +1,6 @@
 use Rattle.std.proofs.Common.{arith, ap, ◌∙◌, ◌≡◌, ℕ, length, get_or}
 use Rattle.revert_orders.specs.Chains.{home_of}
 use Rattle.revert_orders.proofs.Ends.{linked-push, read_number}
-use Rattle.revert_orders.proofs.Items.{orders_in-snoc}
 use Rattle.revert_orders.proofs.chains.link.Goals as goal
 
 pub returns-clause-linked : goal.returns-clause-linked

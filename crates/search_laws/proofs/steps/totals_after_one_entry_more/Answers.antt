@@ -1,4 +1,4 @@
-use Rattle.std.proofs.Common.{List, [], ◌∷◌}
+use Rattle.std.proofs.Common.{[], ◌∷◌}
 use Rattle.farm_laws.proofs.Ends.{some-entries}
 use Rattle.farm_laws.proofs.Induct.{IsLegal-first, IsLegal-pushed}
 use Rattle.farm_laws.proofs.Stepped.{stepped}

@@ -1,8 +1,7 @@
-use Rattle.std.proofs.Common.{◌≡◌, ◌++◌, ◌∷◌, [], List, sym, subst, true≢false, ◌∙◌}
+use Rattle.std.proofs.Common.{◌++◌, ◌∷◌, [], List, sym, subst, true≢false, ◌∙◌}
 use Rattle.farm_entry.specs.Legal.{IsLegal}
 use Rattle.farm_entry.specs.declared.entry.Entry.{Entry}
 use Rattle.farm_laws.proofs.Induct.{IsLegal-push, IsLegal-pushed}
-use Rattle.farm_core.specs.FarmView.{FarmView}
 use Rattle.farm_core.proofs.farm.Farm.admit.Goals as goal
 
 pub returns-then-not-branch-clause-illegal : goal.returns-then-not-branch-clause-illegal

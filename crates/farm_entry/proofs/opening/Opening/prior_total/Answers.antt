@@ -1,4 +1,4 @@
-use Rattle.std.proofs.Common.{ℕ, ◌+◌, ◌<◌, ◌∙◌, arith}
+use Rattle.std.proofs.Common.{◌∙◌, arith}
 use Rattle.farm_entry.proofs.Priors.{total-made}
 use Rattle.farm_entry.proofs.opening.Opening.prior_total.Goals as goal
 

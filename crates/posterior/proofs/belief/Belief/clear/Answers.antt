@@ -1,4 +1,4 @@
-use Rattle.std.proofs.Common.{◌≡◌, ℕ, ◌+◌, arith}
+use Rattle.std.proofs.Common.{arith}
 use Rattle.posterior.specs.BeliefInside.{kept_of, IsBelief}
 use Rattle.posterior.proofs.Reclosed.{can_walk, recounted, walked}
 use Rattle.posterior.proofs.Matching.{stands_empty}

@@ -1,9 +1,8 @@
-use Rattle.std.proofs.Common.{◌≡◌, ℕ, ◌+◌, ◌-◌, ◌<◌, ◌≤◌, ◌⊎◌, Bool, true, false, not, if◌then◌else◌, List, set, arith, sym, ap, ◌∙◌, subst}
+use Rattle.std.proofs.Common.{◌≡◌, ℕ, ◌+◌, ◌-◌, ◌<◌, ◌≤◌, ◌⊎◌, Bool, true, false, not, if◌then◌else◌, List, set, arith, sym, ap, subst}
 use Rattle.weight_exact.specs.Weights.{hypotheses}
 use Rattle.weight_exact.specs.Load.{is_fail}
 use Rattle.weight_exact.specs.Budget.{run_budget}
 use Rattle.weight_exact.specs.Factors.{verdict_factor}
-use Rattle.weight_exact.specs.Cumulative.{AreSumsOf, reweighed, reweighed_total}
 use Rattle.weight_exact.specs.declared.run.Verdict.{Verdict}
 use Rattle.weight_exact.specs.declared.run.Verdict.TheVariants.{Fail}
 use Rattle.posterior.specs.Kept.{Kept, at}

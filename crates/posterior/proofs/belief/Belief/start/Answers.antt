@@ -3,7 +3,6 @@ use Rattle.std.proofs.lemmas.List.{length-append, length-replicate}
 use Rattle.weight_exact.specs.Factors.{factors_of}
 use Rattle.weight_exact.specs.Budget.{Fits, budget_of}
 use Rattle.weight_exact.specs.Powers.{PowersOf}
-use Rattle.weight_exact.specs.declared.factors.Factors.{Factors}
 use Rattle.posterior.specs.Kept.{at}
 use Rattle.posterior.specs.BeliefInside.{kept_of, IsBelief}
 use Rattle.posterior.specs.declared.belief.Belief.TheInside.{Inside}

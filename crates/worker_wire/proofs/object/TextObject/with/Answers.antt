@@ -1,5 +1,5 @@
 use Rattle.std.proofs.Common.{◌≡◌, false, subst, sym, refl, ap, ◌∙◌}
-use Rattle.serde_json.specs.Data.{Data, Members, put, string}
+use Rattle.serde_json.specs.Data.{Data, Members, put}
 use Rattle.serde_json.specs.View.{members_view, view}
 use Rattle.serde_json.specs.Written.{has_float, members_have_float}
 use Rattle.farm_wire.proofs.Objects.{members_have_float-put}
