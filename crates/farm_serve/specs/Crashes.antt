@@ -35,8 +35,8 @@ AreKept history disk [] = ⊤
 AreKept history disk (rest ∷ rests) = IsKept history disk rest × AreKept history disk rests
 
 -- A journal was opened at the history of the first mark, and turns took its store to that of the last one, with what is
--- pending. The disk was only read before the first turn. The history at the beginning of each turn, which has all
--- entries that were acknowledged before, is held by each image of each moment since.
+-- pending. The disk was only read before the first turn. The history at the beginning of each turn is held by each
+-- image of each moment since.
 pub record WentByTurns (first last : Mark) (pending : List Entry) (old new : DiskState) : Type 0 where
   pub opened : Rest
   pub turns : List Rest

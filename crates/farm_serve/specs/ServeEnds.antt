@@ -56,7 +56,8 @@ pub record JournalMissed (fault : OpeningFault) (old new : Outside) : Type 0 whe
 -- A crash at any moment since the sync with which opening begins leaves a history that begins with the first one, and
 -- with which the last one begins; or such a one with entries that a fault of the disk left undecided, where the disk
 -- failed in this call. And so since the call's start, where the one image was then what a read gave. What stood before
--- a turn, which has all that was acknowledged by then, each crash leaves from then on.
+-- a turn each crash leaves from then on; that an entry is acknowledged after its turn is the code's order of calls,
+-- which no clause says.
 pub record FarmServed (links : ℕ) (clock : Moment → Type 0) (ending : Ending) (old new : Outside) : Type 0 where
   pub first : List Entry
   pub last : List Entry
