@@ -1,13 +1,13 @@
 //! The belief of a search.
 
-ghost use Rattle.std.specs.Prelude.{◌≡◌, ◌↔◌, ◌⊎◌, ◌+◌, ◌-◌, ◌*◌, ◌<◌, ◌≤◌, ◌++◌, ◌∷◌, [], ℕ, List, All, length, sum, IfOk};
+ghost use Rattle.std.specs.Prelude.{◌≡◌, ◌↔◌, ◌⊎◌, ◌+◌, ◌-◌, ◌*◌, ◌^◌, ◌<◌, ◌≤◌, ◌++◌, ◌∷◌, [], ℕ, List, All, length, sum, IfOk};
 ghost use Rattle.std.specs.Bool.{OnTrue, OnFalse};
 ghost use Rattle.flake_rate.specs.Miss.{FitsRate};
 ghost use Rattle.flake_rate.specs.Bar.{bar_numerator, bar_denominator};
 ghost use Rattle.weight_exact.specs.Factors.{factors_of};
 ghost use Rattle.weight_exact.specs.Weights.{setup, hypotheses};
 ghost use Rattle.weight_exact.specs.Limits.{ArePriors};
-ghost use Rattle.weight_exact.specs.Share.{reached, basis_points as basis_points_of};
+ghost use Rattle.weight_exact.specs.Share.{reached, share, basis_points as basis_points_of};
 ghost use Rattle.weight_exact.specs.Load.{load as load_of};
 ghost use Rattle.weight_exact.specs.Budget.{run_budget};
 ghost use Rattle.weight_exact.specs.Steps.{CanCount};
@@ -26,6 +26,9 @@ use std::sync::ledger::{Blank, Ledger};
 use weight_exact::{
     BASIS_POINTS, Factors, MAX_SUSPECTS, Memory, Powers, Steps, Sums, Verdict, budget,
 };
+
+/// The greatest weight that fits 64 bits in basis points.
+const SMALL_WHOLE: u128 = u64::MAX as u128 / BASIS_POINTS;
 
 /// What [`Belief::note`] made of a run.
 #[derive(Clone, Copy, Debug, PartialEq, Eq)]
@@ -332,7 +335,7 @@ impl Belief {
         ensures { (runs : List Run) → StandsFor self.now runs → result ≡ basis_points_of self.now.setup runs i }
     {
         let weight = weight_at(&self.sums, i as usize);
-        (weight * BASIS_POINTS / self.sums.total()) as u32
+        share_of(weight, self.sums.total())
     }
 }
 
@@ -351,6 +354,21 @@ fn prior_total(priors: &[u32]) -> u64
     ensures { result ≡ sum priors.now }
 {
     priors.iter().map(|weight| u64::from(*weight)).sum()
+}
+
+/// A weight's share of a whole, in basis points, rounded down. A small whole is divided by in 64 bits, which takes less
+/// time than in 128.
+fn share_of(weight: u128, whole: u128) -> u32
+    requires some { 1 ≤ whole }
+    requires part { weight ≤ whole }
+    requires room { whole * BASIS_POINTS < 2 ^ 128 }
+    ensures { result ≡ share weight whole }
+{
+    if whole <= SMALL_WHOLE {
+        (weight as u64 * BASIS_POINTS as u64 / whole as u64) as u32
+    } else {
+        (weight * BASIS_POINTS / whole) as u32
+    }
 }
 
 /// The weight of hypothesis `i`, as the difference of two sums.

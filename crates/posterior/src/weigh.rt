@@ -1,6 +1,7 @@
 //! The walk over all hypotheses that makes the sums anew from the counts.
 
 ghost use Rattle.std.specs.Prelude.{◌≡◌, ◌+◌, ◌-◌, ◌*◌, ◌<◌, ◌≤◌, ◌^◌, ℕ, Some, None, length, vec_len, sum, slice_index, if◌then◌else◌};
+ghost use Rattle.std.specs.Bool.{OnTrue};
 ghost use Rattle.weight_exact.specs.Cumulative.{AreSumsOf};
 ghost use Rattle.weight_exact.specs.Powers.{product, count_of};
 ghost use Rattle.weight_exact.specs.Steps.{CanCount};
@@ -30,9 +31,18 @@ fn weight_of<L: Ledger>(
 {
     if cleared {
         0
+    } else if is_empty(counts) {
+        u128::from(prior)
     } else {
         powers.times(u128::from(prior), counts, steps)
     }
+}
+
+/// Whether no run is counted, so that each likelihood number has the power 1.
+fn is_empty(counts: Counts) -> bool
+    ensures { OnTrue result (counts ≡ record { fail_in = 0; fail_out = 0; pass_in = 0; pass_out = 0 }) }
+{
+    counts.fail_in == 0 && counts.fail_out == 0 && counts.pass_in == 0 && counts.pass_out == 0
 }
 
 /// How many are counted at an index, of which the last hypothesis has none.

@@ -1,5 +1,5 @@
 use Rattle.std.proofs.Common.{◌≡◌, ℕ, zero, suc, ◌*◌, ◌^◌, ◌<◌, ◌≤◌, ◌↔◌, false, true, IsTrue, arith, refl, sym, subst}
-use Rattle.std.proofs.Math.Nat.{pow-suc, pow-succ', mul-zero, lt_of_not-le, one-le-pow, one-le-mul, pow-le-pow_right}
+use Rattle.std.proofs.Math.Nat.{pow-suc, pow-succ', mul-zero, mul_comm, lt_of_not-le, one-le-pow, one-le-mul, pow-le-pow_left, pow-le-pow_right}
 use Rattle.weight_exact.specs.Powers.{PowersOf, product}
 use Rattle.weight_exact.specs.PowersInside.{served, AreServed}
 use Rattle.weight_exact.specs.declared.powers.Counts.{Counts}
@@ -85,6 +85,18 @@ below_next_power b n e most two over h =
     let up : b * b ^ n ≤ b ^ e = rw (← pow-succ' b n) (pow_le_mono b (suc n) e (omega arith) past) in
     omega (arith, up, over, h)) in
     omega arith
+
+-- a base of at least 2 has powers below 2^128 to exponents below 128 alone
+pub exponent_few : (b e : ℕ) → 2 ≤ b → b ^ e < 2 ^ 128 → e < 128
+exponent_few b e two h =
+    lt_of_not-le (λ many.
+    let least : 2 ^ 128 ≤ 2 ^ e = pow_le_mono 2 128 e (omega arith) many in
+    let more : 2 ^ e ≤ b ^ e = pow-le-pow_left two e in
+    omega (arith, least, more, h))
+
+-- where a product doesn't fit 128 bits, all powers that do have exponents up to that of its first factor
+pub none_past : (b n e : ℕ) → 2 ≤ b → 2 ^ 128 ≤ b ^ n * b → b ^ e < 2 ^ 128 → e ≤ n
+none_past b n e two over h = below_next_power b n e (2 ^ 128) two (rw (mul_comm b (b ^ n)) over) h
 
 -- where x and the power of a pass with the culprit in are positive, each part of the product fits as the product does
 pub times_fit : (p : Inside) (now : PowersOf) (x : ℕ) (counts : Counts) → served p ≡ now → AreServed p → (x ≡ 0 → ⊥) →

@@ -6,6 +6,9 @@ ghost use Rattle.weight_exact.specs.PowerTable.{AreFirstPowers};
 use std::alloc::{AllocError, Global};
 use std::marker::Model;
 
+/// The greatest exponent to which a base of at least 2 may have a power below 2^128.
+const MAX_EXPONENT: u32 = u128::BITS - 1;
+
 /// The powers of a number that are below 2^128, up to an exponent.
 ///
 /// The powers of 0 and 1 go without a table, so that one has at most 128 entries whatever the limit.
@@ -60,28 +63,33 @@ impl PowerTable {
     }
 }
 
-/// The greatest exponent up to the limit whose power is below 2^128, or 0 for a base that needs no table.
+/// The greatest exponent that a table goes up to, where its power is below 2^128: up to the limit, or 0 for a base that
+/// needs no table.
 fn last_exponent(base: u32, limit: u32) -> u32
     ensures few { result < 128 }
-    ensures fits { base ^ result < 2 ^ 128 }
-    ensures greatest { 2 ≤ base → (e : ℕ) → e ≤ limit → base ^ e < 2 ^ 128 → e ≤ result }
+    ensures enough { 2 ≤ base → (e : ℕ) → e ≤ limit → base ^ e < 2 ^ 128 → e ≤ result }
 {
-    if base < 2 {
-        0
-    } else {
-        limit.min(u128::MAX.ilog(u128::from(base)))
-    }
+    if base < 2 { 0 } else { limit.min(MAX_EXPONENT) }
 }
 
-/// The powers to the exponents 0 to `last`.
+/// The powers to the exponents 0 to `last` that are below 2^128, each made from the one before.
 fn powers_up_to(alloc: Global, base: u32, last: u32) -> Result<Vec<u128>, AllocError>
-    requires { base ^ last < 2 ^ 128 }
-    ensures length { IfOk result (λ powers. length powers.items ≡ last + 1) }
+    ensures some { IfOk result (λ powers. 0 < length powers.items) }
+    ensures few { IfOk result (λ powers. length powers.items ≤ last + 1) }
     ensures powers { IfOk result (λ powers. AreFirstPowers base powers.items) }
+    ensures all { IfOk result (λ powers.
+        2 ≤ base → (e : ℕ) → e ≤ last → base ^ e < 2 ^ 128 → e < length powers.items) }
 {
+    let factor = u128::from(base);
+    let mut power = 1_u128;
     let mut powers = Vec::with_capacity(alloc, last as usize + 1)?;
-    for exponent in 0..=last {
-        powers.push(u128::from(base).pow(exponent))?;
+    powers.push(power)?;
+    for _exponent in 0..last {
+        let Some(next) = power.checked_mul(factor) else {
+            return Ok(powers);
+        };
+        power = next;
+        powers.push(power)?;
     }
     Ok(powers)
 }

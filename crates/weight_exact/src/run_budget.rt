@@ -1,6 +1,6 @@
 //! The budget of a search: what load fits 128 bits.
 
-ghost use Rattle.std.specs.Prelude.{◌≡◌, ℕ, ◌≤◌};
+ghost use Rattle.std.specs.Prelude.{◌≡◌, ℕ, ◌*◌, ◌^◌, ◌<◌, ◌≤◌};
 ghost use Rattle.flake_rate.specs.Miss.{FitsRate};
 ghost use Rattle.weight_exact.specs.Budget.{Fits, budget_of};
 ghost use Rattle.weight_exact.specs.Factors.{factors_of};
@@ -42,5 +42,24 @@ pub fn budget(prior_total: u64, rate: Rate, miss: Miss) -> u32
 {
     let greatest = Factors::of(rate, miss).greatest();
     let room = u128::MAX / (u128::from(prior_total) * BASIS_POINTS);
-    room.ilog(u128::from(greatest))
+    logarithm(room, greatest)
+}
+
+/// The greatest exponent to which a base has a power of at most `room`. It divides once, where `ilog` would for each
+/// exponent.
+fn logarithm(room: u128, base: u32) -> u32
+    requires some { 1 ≤ room }
+    requires two { 2 ≤ base }
+    ensures power_le { base ^ result ≤ room }
+    ensures next_power_gt { room < base * base ^ result }
+{
+    let factor = u128::from(base);
+    let most = room / factor;
+    let mut exponent = 0;
+    let mut power = 1;
+    while power <= most {
+        power *= factor;
+        exponent += 1;
+    }
+    exponent
 }

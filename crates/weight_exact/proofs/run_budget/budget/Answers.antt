@@ -5,18 +5,18 @@ use Rattle.weight_exact.specs.Budget.{IsBudget}
 use Rattle.weight_exact.specs.Factors.{factors_of, greatest_factor}
 use Rattle.weight_exact.proofs.run_budget.budget.Goals as goal
 
-pub ilog-requires-clause-base : goal.ilog-requires-clause-base
-ilog-requires-clause-base c =
-    rw (c.from-2.ensures, c.greatest-greatest.ensures, c.of.ensures.value)
+pub logarithm-requires-clause-two : goal.logarithm-requires-clause-two
+logarithm-requires-clause-two c =
+    rw (c.greatest-greatest.ensures, c.of.ensures.value)
     (greatest_factor_told c.args.rate c.args.miss c.requires.told)
 
-is_budget : (c : goal.After-ilog) → IsBudget c.args.prior_total (factors_of c.args.rate c.args.miss) c.ilog.result
+is_budget : (c : goal.After-logarithm) → IsBudget c.args.prior_total (factors_of c.args.rate c.args.miss) c.logarithm.result
 is_budget c =
-    let base_is : c.from-2.result ≡ greatest_factor (factors_of c.args.rate c.args.miss) =
-    c.from-2.ensures ∙ (c.greatest-greatest.ensures ∙ ap greatest_factor c.of.ensures.value) in
-    logarithm_is_budget c.args.prior_total (factors_of c.args.rate c.args.miss) c.from-2.result c.ilog.result (omega arith)
+    let base_is : c.greatest-greatest.result ≡ greatest_factor (factors_of c.args.rate c.args.miss) =
+    c.greatest-greatest.ensures ∙ ap greatest_factor c.of.ensures.value in
+    logarithm_is_budget c.args.prior_total (factors_of c.args.rate c.args.miss) c.greatest-greatest.result c.logarithm.result (omega arith)
     (rw base_is (greatest_factor_told c.args.rate c.args.miss c.requires.told)) base_is
-    (rw (← c.from.ensures) c.ilog.ensures.power_le) (rw (← c.from.ensures) c.ilog.ensures.next_power_gt)
+    (rw (← c.from.ensures) c.logarithm.ensures.power_le) (rw (← c.from.ensures) c.logarithm.ensures.next_power_gt)
 
 pub returns-clause-fits : goal.returns-clause-fits
 returns-clause-fits c = (is_budget c).fits
@@ -26,7 +26,7 @@ returns-clause-greatest c = (is_budget c).greatest
 
 pub returns-clause-value : goal.returns-clause-value
 returns-clause-value c =
-    IsBudget-is c.args.prior_total (factors_of c.args.rate c.args.miss) c.ilog.result (omega arith)
+    IsBudget-is c.args.prior_total (factors_of c.args.rate c.args.miss) c.logarithm.result (omega arith)
     (greatest_factor_told c.args.rate c.args.miss c.requires.told) (is_budget c)
 
 pub returns-clause-lowest : goal.returns-clause-lowest
@@ -36,5 +36,5 @@ returns-clause-lowest c =
 
 pub returns-clause-highest : goal.returns-clause-highest
 returns-clause-highest c =
-    few_runs_fit c.args.prior_total (greatest_factor (factors_of c.args.rate c.args.miss)) c.ilog.result c.requires.at_least
+    few_runs_fit c.args.prior_total (greatest_factor (factors_of c.args.rate c.args.miss)) c.logarithm.result c.requires.at_least
     (greatest_factor_told c.args.rate c.args.miss c.requires.told) (is_budget c).fits
