@@ -1,6 +1,5 @@
 -- What the kept numbers say of a list of runs that a belief stands for.
 use Rattle.std.proofs.Common.{◌≡◌, ℕ, ◌-◌, ◌*◌, ◌^◌, ◌<◌, ◌≤◌, List, sym, ap, ◌∙◌, arith, ⊎_elim}
-use Rattle.std.proofs.Math.Nat.{div-le_of_le-mul}
 use Rattle.std.proofs.lemmas.Bool.{cases_lt}
 use Rattle.weight_exact.specs.Weights.{hypotheses, weight, total, sum_to}
 use Rattle.weight_exact.specs.Share.{is_at_bar, reached, share, basis_points}
@@ -57,10 +56,6 @@ weight_in-le-whole k kept i low high = omega (arith, whole-is k kept, member-le-
 
 pub whole_fits : (k : Kept) → IsKept k → whole k * 10000 < 2 ^ 128
 whole_fits k kept = omega (arith, whole-is k kept, sum_fits k kept (hypotheses k.setup) (omega arith))
-
--- a share is at most 10,000 basis points
-pub share-le : (w whole : ℕ) → w ≤ whole → share w whole ≤ 10000
-share-le w whole part = div-le_of_le-mul whole (omega arith)
 
 -- the share of a kept weight in the whole is the posterior probability
 pub share-in : (k : Kept) (runs : List Run) → IsKept k → StandsFor k runs → (i : ℕ) → 1 ≤ i → i ≤ hypotheses k.setup → share (weight_in k i) (whole k) ≡ basis_points k.setup runs i
