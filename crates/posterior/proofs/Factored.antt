@@ -1,5 +1,5 @@
 -- What one run more makes of the weights: each is multiplied by the number of the run.
-use Rattle.std.proofs.Common.{◌≡◌, ℕ, ◌+◌, ◌-◌, ◌*◌, ◌^◌, ◌<◌, ◌≤◌, true, false, nat_le, if◌then◌else◌, List, length, set, sym, arith, add-one, pow-suc, zero-mul, le-leb, ⊎_elim, ◌⊎◌}
+use Rattle.std.proofs.Common.{◌≡◌, ℕ, ◌+◌, ◌-◌, ◌*◌, ◌^◌, ◌<◌, ◌≤◌, true, false, nat_le, if◌then◌else◌, List, length, set, sym, arith, add-one, pow-suc, zero-mul, le-leb, ⊎_elim}
 use Rattle.std.proofs.lemmas.Bool.{cases_lt, lt-leb}
 use Rattle.weight_exact.specs.Load.{is_fail}
 use Rattle.weight_exact.specs.Factors.{verdict_factor}
