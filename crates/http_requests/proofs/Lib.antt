@@ -3,6 +3,7 @@ pub mod FrontLaws
 pub mod Heads
 pub mod Inputs
 pub mod ItemLaws
+pub mod Joins
 pub mod Parts
 pub mod Places
 pub mod Read

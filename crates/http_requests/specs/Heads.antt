@@ -3,7 +3,7 @@ use Rattle.std.specs.Prelude.{ℕ, ◌≡◌, List, length}
 use Rattle.httparse.specs.Grammar.{RequestHead, HasNoRequest, MayBecomeRequest}
 use Rattle.httparse.specs.Spans.{IsRequestWithin, IsRequestOf, RequestOverflows}
 use Rattle.httparse.specs.declared.spans.HeaderSpan.{HeaderSpan}
-use Rattle.http_fields.specs.Fields.{field_texts}
+use Rattle.http_requests.specs.Facts.{facts_of}
 use Rattle.http_requests.specs.Fields.{fields_of}
 use Rattle.http_requests.specs.Items.{head_size}
 use Rattle.http_requests.specs.declared.head.Head.{Head}
@@ -15,7 +15,7 @@ pub record IsHeadOf (parts : Head) (head : RequestHead) : Type 0 where
   pub method : parts.method.now ≡ head.method
   pub target : parts.target.now ≡ head.target
   pub minor : parts.minor ≡ head.minor
-  pub fields : field_texts parts.fields ≡ fields_of head
+  pub facts : parts.facts ≡ facts_of (fields_of head)
   pub size : parts.size ≡ head_size head
 
 -- what the parser says of the front of what is left

@@ -1,4 +1,5 @@
 pub mod Costs
+pub mod Facts
 pub mod Fields
 pub mod Framing
 pub mod Fronts

@@ -1,24 +1,19 @@
 //! How long the body of a request is.
-ghost use Rattle.std.specs.Prelude.{◌≡◌, ◌≤◌, IfOk};
-ghost use Rattle.http_fields.specs.Fields.{field_texts};
+ghost use Rattle.std.specs.Prelude.{◌≡◌, ◌≤◌, IfOk, List};
+ghost use Rattle.http_fields.specs.Fields.{FieldText};
 ghost use Rattle.http_fields.specs.Lengths.{StatesWithin};
-ghost use Rattle.http_requests.specs.Framing.{body_length, has_host, has_coding, length_by};
+ghost use Rattle.http_requests.specs.Facts.{facts_of};
+ghost use Rattle.http_requests.specs.Framing.{body_length, has_host, length_by};
 
-use http_fields::{Fields, StatedLength};
+use crate::facts::Facts;
+use http_fields::StatedLength;
 use http_words::{Fault, MAX_BODY_BYTES};
 
 /// Whether exactly one `Host` field stands where one has to.
-fn has_host(minor: u8, fields: &Fields) -> bool
-    ensures { result ≡ has_host minor (field_texts fields.now) }
+fn has_host(minor: u8, facts: &Facts) -> bool
+    ensures { (fields : List FieldText) → facts.now ≡ facts_of fields → result ≡ has_host minor fields }
 {
-    minor == 0 || fields.has_one(b"host")
-}
-
-/// Whether a transfer coding is named.
-fn has_coding(fields: &Fields) -> bool
-    ensures { result ≡ has_coding (field_texts fields.now) }
-{
-    fields.has(b"transfer-encoding")
+    minor == 0 || facts.hosts.is_once()
 }
 
 /// The length of a request's body, by what its fields state.
@@ -43,15 +38,17 @@ fn length_by(method: &[u8], stated: StatedLength) -> Result<usize, Fault>
 
 /// The length of a request's body, or the fault for which none is read.
 #[tactic(auto, unfolding(crate::specs::Framing::body_length))]
-pub(crate) fn body_length(method: &[u8], minor: u8, fields: &Fields) -> Result<usize, Fault>
-    ensures exact { result ≡ body_length method.now minor (field_texts fields.now) }
+pub(crate) fn body_length(method: &[u8], minor: u8, facts: &Facts) -> Result<usize, Fault>
+    requires { StatesWithin facts.now.stated }
+    ensures exact { (fields : List FieldText) → facts.now ≡ facts_of fields
+        → result ≡ body_length method.now minor fields }
     ensures bounded { IfOk result (λ len. len ≤ MAX_BODY_BYTES) }
 {
-    if !has_host(minor, fields) {
+    if !has_host(minor, facts) {
         return Err(Fault::BadRequest);
     }
-    if has_coding(fields) {
+    if facts.coding {
         return Err(Fault::NotImplemented);
     }
-    length_by(method, fields.stated_length())
+    length_by(method, facts.stated)
 }

@@ -1,6 +1,6 @@
 //! The head at the front of the bytes held.
 
-use http_fields::Fields;
+use crate::facts::Facts;
 
 /// What the rules look at in a head.
 #[derive(Clone, Copy)]
@@ -8,7 +8,8 @@ pub(crate) struct Head<'b> {
     pub(crate) method: &'b [u8],
     pub(crate) target: &'b [u8],
     pub(crate) minor: u8,
-    pub(crate) fields: Fields<'b>,
+    /// What its fields say.
+    pub(crate) facts: Facts,
     /// How many bytes the head has.
     pub(crate) size: usize,
 }

@@ -11,6 +11,7 @@
 #![tactic(auto)]
 
 mod answered;
+mod facts;
 mod framing;
 mod front;
 mod head;

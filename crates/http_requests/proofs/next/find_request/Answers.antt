@@ -18,7 +18,7 @@ find_body-requires g c =
     record {
       head = found.0;
       has = at-HasHead held c.args.count spans c.in-Head.found found.0 c.requires.few room found.1;
-      becomes = c.in-Ok.ensures found.0 (c.of-head.ensures found.0 found.1);
+      becomes = c.in-Ok.ensures found.0 (c.of-head.ensures.is found.0 found.1);
     }
 
 pub returns-in-Err-clause-found : goal.returns-in-Err-clause-found
@@ -27,7 +27,7 @@ returns-in-Err-clause-found g c =
     let spans = c.front_of.new.spans in
     let room : length spans ≡ MAX_FIELDS = search rules in
     let found = c.in-Head.ensures.says.1 in
-    let is = c.of-head.ensures found.0 found.1 in
+    let is = c.of-head.ensures.is found.0 found.1 in
     c.found_refused.ensures.found c.args.ended held
     (refused-says c.args.ended held found.0 c.in-Err.fault c.is_head.result
     (at-HasHead held c.args.count spans c.in-Head.found found.0 c.requires.few room found.1) (c.in-Err.ensures found.0 is)
@@ -59,7 +59,7 @@ returns-in-Ok-clause-few g c =
     let found = c.in-Head.ensures.says.1 in
     let head = found.0 in
     let has = at-HasHead held count spans c.in-Head.found head c.requires.few room found.1 in
-    let became = c.in-Ok.ensures head (c.of-head.ensures head found.1) in
+    let became = c.in-Ok.ensures head (c.of-head.ensures.is head found.1) in
     let first : count ≤ head_size head = first-head held count head has c.requires.first in
     let given : length (take count held) ≡ count = omega (arith, length-take count held, c.requires.within) in
     omega (arith, c.front_of.ensures.counted, given, c.find_body.ensures.most, became.whole.body, first)

@@ -1,0 +1,68 @@
+-- What the rules ask of the fields of a head, and how it is gathered of some fields and of those behind them.
+use Rattle.std.specs.Prelude.{ℕ, zero, suc, ◌≡◌, Bool, true, false, ◌||◌, List, [], ◌∷◌, length, codes}
+use Rattle.http_fields.specs.Fields.{FieldText, named_values, has_close, expects_continue}
+use Rattle.http_fields.specs.Lengths.{stated_length}
+use Rattle.http_fields.specs.declared.lengths.StatedLength.{StatedLength}
+use Rattle.http_fields.specs.declared.lengths.StatedLength.TheVariants.{Absent, Bytes, TooLong, Malformed}
+use Rattle.http_requests.specs.Framing.{has_coding}
+use Rattle.http_requests.specs.declared.facts.Facts.{Facts}
+use Rattle.http_requests.specs.declared.facts.Seen.{Seen}
+use Rattle.http_requests.specs.declared.facts.Seen.TheVariants as seen
+
+-- how many these are
+abbrev pub seen_of : ℕ → Seen
+seen_of zero = seen.Never
+seen_of (suc zero) = seen.Once
+seen_of (suc (suc n)) = seen.Often
+
+-- the facts of these fields
+abbrev pub facts_of : List FieldText → Facts
+facts_of fields = record {
+  hosts = seen_of (length (named_values (codes "host") fields));
+  coding = has_coding fields;
+  stated = stated_length fields;
+  expects = expects_continue fields;
+  closes = has_close fields;
+}
+
+-- there is one
+abbrev pub is_once : Seen → Bool
+is_once seen.Never = false
+is_once seen.Once = true
+is_once seen.Often = false
+
+-- how many there are of both
+abbrev pub seen_both : Seen → Seen → Seen
+seen_both seen.Never others = others
+seen_both seen.Once seen.Never = seen.Once
+seen_both seen.Once seen.Once = seen.Often
+seen_both seen.Once seen.Often = seen.Often
+seen_both seen.Often others = seen.Often
+
+-- the length that is stated, where one is stated already
+abbrev pub stated_again : StatedLength → StatedLength → StatedLength
+stated_again some Absent = some
+stated_again some (Bytes len) = Malformed
+stated_again some TooLong = Malformed
+stated_again some Malformed = Malformed
+
+-- the length that some fields and others state together
+abbrev pub stated_both : StatedLength → StatedLength → StatedLength
+stated_both Absent others = others
+stated_both (Bytes len) others = stated_again (Bytes len) others
+stated_both TooLong others = stated_again TooLong others
+stated_both Malformed others = stated_again Malformed others
+
+-- the facts of some fields and of those behind them
+abbrev pub joined : Facts → Facts → Facts
+joined some others = record {
+  hosts = seen_both some.hosts others.hosts;
+  coding = some.coding || others.coding;
+  stated = stated_both some.stated others.stated;
+  expects = some.expects || others.expects;
+  closes = some.closes || others.closes;
+}
+
+-- there is one field, of this name
+abbrev pub IsOne : List ℕ → List FieldText → Type 0
+IsOne name fields = (value : List ℕ) × (fields ≡ (name, value) ∷ [])
