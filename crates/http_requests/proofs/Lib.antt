@@ -1,4 +1,5 @@
 pub mod Counts
+pub mod Feeds
 pub mod FrontLaws
 pub mod Heads
 pub mod Inputs

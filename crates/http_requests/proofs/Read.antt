@@ -11,7 +11,9 @@ use Rattle.httparse.specs.declared.spans.HeaderSpan.{HeaderSpan}
 use Rattle.httparse.specs.declared.spans.RequestSpans.{RequestSpans}
 use Rattle.httparse.proofs.GrammarLemmas.{ReadsRequest-append}
 use Rattle.http_requests.specs.Items.{HasHead, IsIdle, head_size, is_line_end}
-use Rattle.http_requests.specs.Looks.{IsLook, IsLookThrough, IsTried}
+use Rattle.http_requests.specs.Looks.{IsLook, IsLookThrough, IsTried, feeds}
+use Rattle.http_requests.specs.Heads.{IsFrontHead}
+use Rattle.http_requests.specs.declared.head.Head.{Head}
 use Rattle.http_requests.specs.Next.{AwaitsBody, AwaitsHead, HasNoHeadFor, IsNextFor, refusal}
 use Rattle.http_requests.specs.Places.{is_blank, is_end, place_from, place_of}
 use Rattle.http_requests.specs.Readings.{IsBegun, IsBodyAwaited, IsReading, IsStage}
@@ -35,6 +37,8 @@ use Rattle.http_requests.proofs.Says.{bad-says, cut-says, full-busy, nothing-fol
 look-append : (look : Look) (bytes more : List ℕ) → IsLook look bytes → IsLook look (bytes ++ more)
 look-append look bytes more is = record {
   within = omega (arith, is.within, length-append bytes more);
+  lines = omega (arith, is.lines, ap feeds (take-append-le look.count bytes more is.within));
+  few_lines = is.few_lines;
   place = is.place ∙ ap place_of (sym (take-append-le look.count bytes more is.within));
 }
 
@@ -69,10 +73,10 @@ take-none [] = refl
 take-none (b ∷ bytes) = refl
 
 -- nothing was read
-pub nothing-begun : (bytes : List ℕ) → IsBegun (record { look = record { count = 0; place = place.Blank }; tried = 0 }) bytes
+pub nothing-begun : (bytes : List ℕ) → IsBegun (record { look = record { count = 0; lines = 0; place = place.Blank }; tried = 0 }) bytes
 unfolding place_of
 nothing-begun bytes = record {
-  look = record { within = omega arith; place = sym (ap (place_from place.Blank) (take-none bytes)) };
+  look = record { within = omega arith; lines = omega (arith, ap feeds (take-none bytes)); few_lines = omega arith; place = sym (ap (place_from place.Blank) (take-none bytes)) };
   few = omega arith;
   no_end = refl;
   tried = record { before = omega arith; may = inl refl };
@@ -101,22 +105,30 @@ front-HasHead held count head rest few reads fit =
       few_fields = fit;
     }
 
--- the head that the parser found in so many bytes at the front
-pub at-HasHead : (held : List ℕ) (count : ℕ) (spans : List HeaderSpan) (found : RequestSpans) (head : RequestHead) → count ≤ MAX_HEAD_BYTES
-    → length spans ≡ MAX_FIELDS → IsRequestAt (take count held) spans found head → HasHead held head
-at-HasHead held count spans found head few room at =
-    let number = ap length at.fields in
-    let covered = length-map (take found.headers spans) (header_bytes (take count held)) in
-    let named = length-map head.fields name_and_value in
-    front-HasHead held count head (drop found.len (take count held)) few at.reads
-    (omega (arith, number, covered, named, length-take found.headers spans, room))
+-- the same of its parts
+pub at-HasHead : (held : List ℕ) (count : ℕ) (parts : Head) → count ≤ MAX_HEAD_BYTES → (at : IsFrontHead (take count held) parts) → HasHead held at.head
+at-HasHead held count parts few at = front-HasHead held count at.head at.rest few at.reads at.few_fields
 
 -- the same in all of them
-pub whole-HasHead : (bytes : List ℕ) (spans : List HeaderSpan) (found : RequestSpans) (head : RequestHead) → length bytes ≤ MAX_HEAD_BYTES
-    → length spans ≡ MAX_FIELDS → IsRequestAt bytes spans found head → HasHead bytes head
-whole-HasHead bytes spans found head few room at =
+pub whole-HasHead : (bytes : List ℕ) (parts : Head) → length bytes ≤ MAX_HEAD_BYTES → (at : IsFrontHead bytes parts) → HasHead bytes at.head
+whole-HasHead bytes parts few at =
     let all : bytes ≡ take (length bytes) bytes = sym (take_all (length bytes) bytes (omega arith)) in
-    at-HasHead bytes (length bytes) spans found head few room (subst (λ (l : List ℕ). IsRequestAt l spans found head) all at)
+    front-HasHead bytes (length bytes) at.head at.rest few (subst (λ (l : List ℕ). ReadsRequest l at.head at.rest) all at.reads) at.few_fields
+
+-- how many fields the parser found
+pub found-few : (bytes : List ℕ) (spans : List HeaderSpan) (found : RequestSpans) (head : RequestHead) → length spans ≤ MAX_FIELDS
+    → IsRequestAt bytes spans found head → length head.fields ≤ MAX_FIELDS
+found-few bytes spans found head room at =
+    let number = ap length at.fields in
+    let covered = length-map (take found.headers spans) (header_bytes bytes) in
+    let named = length-map head.fields name_and_value in
+    omega (arith, number, covered, named, length-take found.headers spans, room)
+
+-- all bytes were looked at
+pub through-lines : (look : Look) (held : List ℕ) → IsLookThrough look held → length held ≤ MAX_HEAD_BYTES → feeds held ≤ look.lines
+through-lines look held is few =
+    let whole : take look.count held ≡ held = take_all look.count held (omega (arith, is.all, few)) in
+    omega (arith, is.is.lines, ap feeds whole)
 
 pub body-whole : (ended : Bool) (held : List ℕ) (request : Request) → IsBodyAwaited request held → request.size ≤ length held
     → IsNextFor ended held request

@@ -1,13 +1,20 @@
 -- How far the bytes of a head were looked at.
-use Rattle.std.specs.Prelude.{ℕ, ◌≡◌, ◌⊎◌, ◌≤◌, false, List, length, take, min}
+use Rattle.std.specs.Prelude.{ℕ, ◌≡◌, ◌⊎◌, ◌==◌, ◌≤◌, false, List, filter, length, take, min}
+use Rattle.httparse.specs.Ascii.{line_feed}
 use Rattle.httparse.specs.Grammar.{MayBecomeRequest}
 use Rattle.http_requests.specs.Places.{is_end, place_of}
 use Rattle.http_requests.specs.declared.look.Look.{Look}
 use Rattle.http_words.specs.declared.limits.TheConstants.{MAX_HEAD_BYTES}
 
--- so many bytes at the front were looked at, and that is where they end
+-- how many line feeds there are
+abbrev pub feeds : List ℕ → ℕ
+feeds bytes = length (filter (λ b. b == line_feed) bytes)
+
+-- so many bytes at the front were looked at, so many lines ended in them at most, and that is where they end
 pub record IsLook (look : Look) (bytes : List ℕ) : Type 0 where
   pub within : look.count ≤ length bytes
+  pub lines : feeds (take look.count bytes) ≤ look.lines
+  pub few_lines : look.lines ≤ look.count
   pub place : look.place ≡ place_of (take look.count bytes)
 
 -- so many bytes at the front, which the parser was last given, may become a head, or it was given none

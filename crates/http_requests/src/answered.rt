@@ -21,7 +21,7 @@ use httparse::spans::{HeaderSpan, RequestSpans};
 
 impl<'b> Head<'b> {
     /// The parts of the head that was found.
-    pub(crate) fn of(front: &'b [u8], spans: &'b [HeaderSpan], found: &RequestSpans) -> Head<'b>
+    pub(crate) fn of(front: &'b [u8], spans: &[HeaderSpan], found: &RequestSpans) -> Head<'b>
         requires { IsRequestWithin front.now spans.now found.now }
         ensures is { (head : RequestHead) → IsRequestAt front.now spans.now found.now head → IsHeadOf result head }
         ensures bounded { StatesWithin result.facts.stated }

@@ -14,6 +14,8 @@ use std::sync::ledger::Ledger;
 pub(crate) struct Look {
     /// How many bytes at the front were looked at.
     pub(crate) count: usize,
+    /// How many lines end in those.
+    pub(crate) lines: usize,
     pub(crate) place: Place,
 }
 
@@ -34,13 +36,19 @@ impl Look {
     {
         let last = bytes.len().min(MAX_HEAD_BYTES);
         let mut count = self.count;
+        let mut lines = self.lines;
         let mut place = self.place;
         while count < last && !place.is_end() {
             let stride = Stride::of(place, &bytes[count..last]);
             place = stride.place;
             count += stride.count;
+            lines += stride.lines;
             looked.add(stride.count);
         }
-        Look { count, place }
+        Look {
+            count,
+            lines,
+            place,
+        }
     }
 }

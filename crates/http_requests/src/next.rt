@@ -3,20 +3,18 @@ ghost use Rattle.std.specs.Prelude.{◌≡◌, ◌≤◌, ◌<◌, ◌+◌, ◌*
 ghost use Rattle.httparse.specs.Grammar.{MayBecomeRequest, RequestHead};
 ghost use Rattle.http_requests.specs.Costs.{CanCount, cost, cost_of, head_room, most};
 ghost use Rattle.http_requests.specs.Items.{HasHead};
-ghost use Rattle.http_requests.specs.Looks.{IsLookThrough, IsTried};
+ghost use Rattle.http_requests.specs.Looks.{IsLookThrough, IsTried, feeds};
 ghost use Rattle.http_requests.specs.Next.{AwaitsHead, HasNoHeadFor, IsFound, IsNextFor, Says, left_of, refusal};
 ghost use Rattle.http_requests.specs.Places.{is_blank, is_end, place_of};
 ghost use Rattle.http_requests.specs.Readings.{IsBegun, IsBodyAwaited, IsReading, IsStage};
 
 use crate::front::{Front, front_of};
-use crate::head::Head;
 use crate::look::Look;
 use crate::looked::Looked;
 use crate::reading::{Begun, Reading, Stage};
 use crate::request::Request;
 use http_routes::Pages;
-use http_words::{Fault, MAX_FIELDS, MAX_HEAD_BYTES};
-use httparse::spans::EMPTY_HEADER_SPAN;
+use http_words::{Fault, MAX_HEAD_BYTES};
 use std::marker::Brand;
 use std::sync::ledger::{Blank, Ledger};
 
@@ -185,7 +183,7 @@ fn find_head<L: Ledger>(
 {
     let look = begun.look.on(held, looked);
     if look.place.is_end() {
-        return find_request(pages, look.count, held, ended, looked);
+        return find_request(pages, look.count, look.lines, held, ended, looked);
     }
     if look.place.is_blank() {
         return find_blank(look, begun.tried, held, ended);
@@ -193,31 +191,29 @@ fn find_head<L: Ledger>(
     find_open(look, begun.tried, held, ended, looked)
 }
 
-/// What comes of so many bytes, which are a head if they begin with one.
+/// What comes of so many bytes, in which so many lines end, and which are a head if they begin with one.
 fn find_request<L: Ledger>(
     pages: &Pages,
     count: usize,
+    lines: usize,
     held: &[u8],
     ended: bool,
     looked: &mut Looked<L>,
 ) -> Found
     requires within { count ≤ length held.now }
     requires few { count ≤ MAX_HEAD_BYTES }
+    requires lines { feeds (take count held.now) ≤ lines }
     requires at_end { is_end (place_of (take count held.now)) ≡ true }
     requires first { (n : ℕ) → n < count → is_end (place_of (take n held.now)) ≡ false }
     ensures found { IsFound ended held.now result }
     ensures few { looked.new + 3 * count ≤ looked.old + most held.now result.reading result.next }
 {
     let front = &held[..count];
-    let mut spans = [EMPTY_HEADER_SPAN; MAX_FIELDS];
-    match front_of(front, &mut spans, looked) {
-        Front::Head(found) => {
-            let head = Head::of(front, &spans, &found);
-            match head.becomes(pages) {
-                Ok(request) => find_body(request, held, ended),
-                Err(fault) => found_refused(false, head.is_head(), fault),
-            }
-        }
+    match front_of(front, lines, looked) {
+        Front::Head(head) => match head.becomes(pages) {
+            Ok(request) => find_body(request, held, ended),
+            Err(fault) => found_refused(false, head.is_head(), fault),
+        },
         Front::Open => found_refused(false, false, Fault::BadRequest),
         Front::Never => found_refused(false, false, Fault::BadRequest),
     }
@@ -267,22 +263,22 @@ fn find_open<L: Ledger>(
     if look.count < 2 * tried {
         return found_more(look, tried);
     }
-    if may_become_head(held, looked) {
+    if may_become_head(held, look.lines, looked) {
         return found_more(look, look.count);
     }
     found_refused(false, false, Fault::BadRequest)
 }
 
-/// Whether bytes that hold no head may become one.
-fn may_become_head<L: Ledger>(bytes: &[u8], looked: &mut Looked<L>) -> bool
+/// Whether bytes that hold no head, and in which so many lines end, may become one.
+fn may_become_head<L: Ledger>(bytes: &[u8], lines: usize, looked: &mut Looked<L>) -> bool
     requires few { length bytes.now ≤ MAX_HEAD_BYTES }
+    requires lines { feeds bytes.now ≤ lines }
     requires none { (head : RequestHead) → ¬ (HasHead bytes.now head) }
     ensures may { result ≡ true → MayBecomeRequest bytes.now }
     ensures never { result ≡ false → (ended : Bool) → HasNoHeadFor ended bytes.now }
     ensures counted { looked.new ≡ looked.old + length bytes.now }
 {
-    let mut spans = [EMPTY_HEADER_SPAN; MAX_FIELDS];
-    match front_of(bytes, &mut spans, looked) {
+    match front_of(bytes, lines, looked) {
         Front::Head(_) => unreachable!(),
         Front::Open => true,
         Front::Never => false,

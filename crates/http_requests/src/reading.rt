@@ -39,6 +39,7 @@ impl Reading {
     {
         let look = Look {
             count: 0,
+            lines: 0,
             place: Place::Blank,
         };
         Reading::of_head(look, 0)

@@ -1,7 +1,7 @@
 use Rattle.std.proofs.Common.{◌<◌, Bool, length, sym, subst, arith}
 use Rattle.http_requests.specs.Next.{AwaitsHead, HasNoHeadFor}
 use Rattle.http_words.specs.declared.limits.TheConstants.{MAX_HEAD_BYTES}
-use Rattle.http_requests.proofs.Read.{bad-full, bad-open, begun-on, ended-headless, now-awaits, through-none, tried-all, tried-awaits}
+use Rattle.http_requests.proofs.Read.{bad-full, bad-open, begun-on, ended-headless, now-awaits, through-lines, through-none, tried-all, tried-awaits}
 use Rattle.http_requests.proofs.next.find_open.Goals as goal
 
 pub returns-then-ended-clause-found : goal.returns-then-ended-clause-found
@@ -26,6 +26,10 @@ returns-then-look-tried-clause-found g c =
 
 pub may_become_head-requires-clause-none : goal.may_become_head-requires-clause-none
 may_become_head-requires-clause-none g c = through-none c.args.look c.args.held.now c.requires.through
+
+pub may_become_head-requires-clause-lines : goal.may_become_head-requires-clause-lines
+may_become_head-requires-clause-lines g c =
+    through-lines c.args.look c.args.held.now c.requires.through (omega (arith, c.if-held-ge-MAX_HEAD_BYTES.false))
 
 pub returns-then-may_become_head-clause-found : goal.returns-then-may_become_head-clause-found
 returns-then-may_become_head-clause-found g c =

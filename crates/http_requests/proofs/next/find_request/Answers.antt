@@ -1,37 +1,42 @@
-use Rattle.std.proofs.Common.{◌≡◌, ◌≤◌, ℕ, length, take, subst, ◌∙◌, rules, arith}
+use Rattle.std.proofs.Common.{◌≡◌, ◌≤◌, length, take, sym, subst, ◌∙◌, ℕ, List, arith}
 use Rattle.std.proofs.lemmas.List.{length-take}
-use Rattle.httparse.specs.Spans.{RequestOverflows}
+use Rattle.std.specs.Str.{IsUtf8}
 use Rattle.http_requests.specs.Items.{head_size}
-use Rattle.http_words.specs.declared.limits.TheConstants.{MAX_FIELDS}
 use Rattle.http_requests.proofs.Counts.{first-head}
+use Rattle.http_requests.proofs.Heads.{HasHead-size}
 use Rattle.http_requests.proofs.Parts.{parts-is_head}
 use Rattle.http_requests.proofs.Read.{at-HasHead, bad-end, never-headless, other-headless}
 use Rattle.http_requests.proofs.Says.{refused-says}
 use Rattle.http_requests.proofs.next.find_request.Goals as goal
 
+pub becomes-requires-clause-short : goal.becomes-requires-clause-short
+becomes-requires-clause-short g c =
+    let held = c.args.held.now in
+    let at = c.in-Head.ensures.says in
+    omega (arith, at.is.size, (HasHead-size held at.head (at-HasHead held c.args.count c.in-Head.head c.requires.few at)).0)
+
+pub becomes-requires-clause-text : goal.becomes-requires-clause-text
+becomes-requires-clause-text g c =
+    let at = c.in-Head.ensures.says in
+    subst (λ (l : List ℕ). IsUtf8 l) (sym at.is.target) at.reads.0.target_text
+
 pub find_body-requires : goal.find_body-requires
 find_body-requires g c =
-    let held = c.args.held.now in
-    let spans = c.front_of.new.spans in
-    let room : length spans ≡ MAX_FIELDS = search rules in
-    let found = c.in-Head.ensures.says.1 in
+    let at = c.in-Head.ensures.says in
     record {
-      head = found.0;
-      has = at-HasHead held c.args.count spans c.in-Head.found found.0 c.requires.few room found.1;
-      becomes = c.in-Ok.ensures found.0 (c.of-head.ensures.is found.0 found.1);
+      head = at.head;
+      has = at-HasHead c.args.held.now c.args.count c.in-Head.head c.requires.few at;
+      becomes = c.in-Ok.ensures at.head at.is;
     }
 
 pub returns-in-Err-clause-found : goal.returns-in-Err-clause-found
 returns-in-Err-clause-found g c =
     let held = c.args.held.now in
-    let spans = c.front_of.new.spans in
-    let room : length spans ≡ MAX_FIELDS = search rules in
-    let found = c.in-Head.ensures.says.1 in
-    let is = c.of-head.ensures.is found.0 found.1 in
+    let at = c.in-Head.ensures.says in
     c.found_refused.ensures.found c.args.ended held
-    (refused-says c.args.ended held found.0 c.in-Err.fault c.is_head.result
-    (at-HasHead held c.args.count spans c.in-Head.found found.0 c.requires.few room found.1) (c.in-Err.ensures found.0 is)
-    (c.is_head.ensures ∙ parts-is_head c.of-head.result found.0 is))
+    (refused-says c.args.ended held at.head c.in-Err.fault c.is_head.result
+    (at-HasHead held c.args.count c.in-Head.head c.requires.few at) (c.in-Err.ensures at.head at.is)
+    (c.is_head.ensures ∙ parts-is_head c.in-Head.head at.head at.is))
 
 pub returns-in-Open-clause-found : goal.returns-in-Open-clause-found
 returns-in-Open-clause-found g c =
@@ -43,23 +48,17 @@ returns-in-Open-clause-found g c =
 pub returns-in-Never-clause-found : goal.returns-in-Never-clause-found
 returns-in-Never-clause-found g c =
     let held = c.args.held.now in
-    let spans = c.front_of.new.spans in
-    let room : length spans ≡ MAX_FIELDS = search rules in
     c.found_refused-in-Never.ensures.found c.args.ended held
     (bad-end c.args.ended held c.args.count c.requires.at_end
-    (never-headless c.args.ended held c.args.count c.requires.within c.requires.few
-    (subst (λ (n : ℕ). RequestOverflows n (take c.args.count held)) room c.in-Never.ensures.says)))
+    (never-headless c.args.ended held c.args.count c.requires.within c.requires.few c.in-Never.ensures.says))
 
 pub returns-in-Ok-clause-few : goal.returns-in-Ok-clause-few
 returns-in-Ok-clause-few g c =
     let held = c.args.held.now in
     let count = c.args.count in
-    let spans = c.front_of.new.spans in
-    let room : length spans ≡ MAX_FIELDS = search rules in
-    let found = c.in-Head.ensures.says.1 in
-    let head = found.0 in
-    let has = at-HasHead held count spans c.in-Head.found head c.requires.few room found.1 in
-    let became = c.in-Ok.ensures head (c.of-head.ensures.is head found.1) in
-    let first : count ≤ head_size head = first-head held count head has c.requires.first in
+    let at = c.in-Head.ensures.says in
+    let has = at-HasHead held count c.in-Head.head c.requires.few at in
+    let became = c.in-Ok.ensures at.head at.is in
+    let first : count ≤ head_size at.head = first-head held count at.head has c.requires.first in
     let given : length (take count held) ≡ count = omega (arith, length-take count held, c.requires.within) in
     omega (arith, c.front_of.ensures.counted, given, c.find_body.ensures.most, became.whole.body, first)

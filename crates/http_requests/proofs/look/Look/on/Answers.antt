@@ -2,6 +2,7 @@ use Rattle.std.proofs.Common.{◌≡◌, ◌-◌, ◌≤◌, false, take, drop, 
 use Rattle.http_requests.specs.Places.{is_end, place_from, place_of}
 use Rattle.http_requests.specs.declared.place.Place.{Place}
 use Rattle.http_requests.proofs.Counts.{earlier-open}
+use Rattle.http_requests.proofs.Feeds.{feeds-add}
 use Rattle.http_requests.proofs.Strides.{first-add, place_of-add}
 use Rattle.http_requests.proofs.look.Look.on.Goals as goal
 
@@ -14,6 +15,8 @@ loop-count-init g c =
     record {
       before = omega (arith, c.min-last.ensures, is.within, c.requires.few);
       onward = omega arith;
+      lines = is.lines;
+      few_lines = is.few_lines;
       place = is.place;
       first = λ n below. earlier-open bytes count n (omega (arith, below)) still;
       counted = refl;
@@ -29,6 +32,8 @@ loop-count-preserved g c =
     record {
       before = omega (arith, within, l.invariant.before);
       onward = omega (arith, l.invariant.onward);
+      lines = omega (arith, feeds-add bytes l.count room stride.result.count within, stride.ensures.lines, l.invariant.lines);
+      few_lines = omega (arith, stride.ensures.few, l.invariant.few_lines);
       place =
           stride.ensures.leads
           ∙ ap (λ (at : Place). place_from at (take stride.result.count (take room (drop l.count bytes)))) l.invariant.place
