@@ -11,7 +11,7 @@ use std::io;
 use std::marker::Brand;
 use std::sync::ledger::{Blank, Ledger};
 use threshold_pick::laws::steps_are_few;
-use threshold_pick::pick;
+use threshold_pick::{pick, pick_uncounted};
 use weight_exact::{MAX_WIDTH, Steps, Sums};
 
 /// One pick. The law says what its cost comes to for a thousand suspects.
@@ -41,7 +41,7 @@ fn plain_pick(sums: &[u32], floor: u16, j: u8, k: u8) -> Option<u16> {
         .map(|(position, _)| position)
 }
 
-// How many picks of one width are the plain ones.
+// How many picks of one width are the plain ones, and the same where no steps are counted.
 fn alike<L: Ledger>(sums: &Sums, numbers: &[u32], floor: u16, k: u8, steps: &mut Steps<L>) -> u32
     requires sums { CanPick floor sums.now }
     requires narrow { k ≤ MAX_WIDTH }
@@ -49,7 +49,8 @@ fn alike<L: Ledger>(sums: &Sums, numbers: &[u32], floor: u16, k: u8, steps: &mut
     let mut count: u32 = 0;
     for j in 1..=k {
         let position = picked(sums, floor, j, k, steps);
-        if plain_pick(numbers, floor, j, k) == Some(position) {
+        let uncounted = pick_uncounted(sums, floor, j, k);
+        if uncounted == position && plain_pick(numbers, floor, j, k) == Some(position) {
             count = count.saturating_add(1);
         }
     }

@@ -1,7 +1,7 @@
 //! The position to run next.
 
-ghost use Rattle.std.specs.Prelude.{◌≡◌, ◌↔◌, ◌+◌, ◌≤◌, nat_lt, length, IsNone};
-ghost use Rattle.farm_rules.specs.Due.{due_search, due_verify, times_at};
+ghost use Rattle.std.specs.Prelude.{ℕ, ◌≡◌, ◌↔◌, ◌+◌, ◌≤◌, nat_lt, List, [], ◌∷◌, ◌++◌, length, true, false, Some, IsNone};
+ghost use Rattle.farm_rules.specs.Due.{due_search, due_verify, first_entry, struck, times_at};
 
 /// The position that a searching search is to run next: the first entry of its plan that no outstanding run stands for.
 ///
@@ -19,11 +19,23 @@ pub fn due_search(plan: &[u16], outstanding: &[u16]) -> Option<u16>
         return None;
     }
     for (index, position) in plan.iter().enumerate() {
-        if times_at(*position, outstanding) <= times_at(*position, &plan[..index]) {
+        if is_left(*position, &plan[..index], outstanding) {
             return Some(*position);
         }
     }
     None
+}
+
+/// Whether the next entry of a plan, at `position`, is left, where outstanding runs stand for each entry `before` it: it
+/// is, where as many entries before it stand at its position as runs are outstanding there. What comes after it in the
+/// plan doesn't matter, so a plan can be made entry by entry, up to the one that is due.
+pub fn is_left(position: u16, before: &[u16], outstanding: &[u16]) -> bool
+    requires { struck before.now outstanding.now ≡ [] }
+    ensures left { result ≡ true → (after : List ℕ) →
+        first_entry (struck (before.now ++ position ∷ after) outstanding.now) ≡ Some position }
+    ensures struck { result ≡ false → struck (before.now ++ position ∷ []) outstanding.now ≡ [] }
+{
+    times_at(position, outstanding) <= times_at(position, before)
 }
 
 /// The position that a verifying search is to run next: the culprit's, and then its parent's, which is the tree just

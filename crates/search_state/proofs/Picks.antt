@@ -1,7 +1,9 @@
 -- The plan of a search can be made of what is kept of it.
-use Rattle.std.proofs.Common.{◌≡◌, ℕ, ◌+◌, ◌*◌, ◌^◌, ◌<◌, ◌≤◌, Bool, if◌then◌else◌, List, None, length, sym, ap, subst, ◌∙◌, arith, le-ltb}
+use Rattle.std.proofs.Common.{◌≡◌, ℕ, zero, suc, ◌+◌, ◌*◌, ◌^◌, ◌<◌, ◌≤◌, Bool, if◌then◌else◌, List, [], ◌∷◌, ◌++◌, Some, None, length, refl, sym, ap, subst, ◌∙◌, ⊎_elim, add-one, arith, le-ltb, lt-ltb}
+use Rattle.std.proofs.lemmas.Bool.{cases_lt}
+use Rattle.std.proofs.lemmas.List.{append_assoc}
 use Rattle.weight_exact.specs.Load.{floor}
-use Rattle.weight_exact.specs.Plan.{plan}
+use Rattle.weight_exact.specs.Plan.{pick, picks, plan}
 use Rattle.weight_exact.specs.Share.{reached}
 use Rattle.weight_exact.specs.Weights.{AreInRange, Setup, hypotheses, suspects, total}
 use Rattle.weight_exact.specs.declared.limits.TheConstants.{BASIS_POINTS}
@@ -12,10 +14,10 @@ use Rattle.posterior.specs.Kept.{Kept, at}
 use Rattle.posterior.specs.StandsFor.{StandsFor}
 use Rattle.threshold_pick.specs.CanPick.{CanPick}
 use Rattle.threshold_pick.specs.Cumulative.{AreCumulative}
-use Rattle.threshold_pick.specs.Picks.{ArePicks}
+use Rattle.threshold_pick.specs.Picks.{IsPick}
 use Rattle.threshold_pick.specs.Sums.{RiseAbove, whole}
 use Rattle.threshold_pick.proofs.Alive.{RiseAbove-cumulative}
-use Rattle.threshold_pick.proofs.Plans.{ArePicks-plan}
+use Rattle.threshold_pick.proofs.Plans.{IsPick-pick}
 use Rattle.farm_rules.specs.Due.{due_search, first_entry, struck}
 use Rattle.farm_entry.specs.Setup.{setup_of}
 use Rattle.farm_entry.specs.declared.opening.Opening.{Opening}
@@ -64,13 +66,54 @@ undecided-can_pick o told k u =
       room = room;
     }
 
--- and those that are picked are the plan
-pub undecided-plan : (o : Opening) (told : List Run) (k : Kept) (positions : List ℕ) → IsUndecided o told k →
-    ArePicks k.sums k.floor o.width positions → positions ≡ plan (setup_of o) told o.width
-undecided-plan o told k positions u picks =
+-- and one that is picked is the position of the plan
+pub undecided-pick : (o : Opening) (told : List Run) (k : Kept) (j position : ℕ) → IsUndecided o told k →
+    IsPick k.sums k.floor j o.width position → position ≡ pick (setup_of o) told o.width j
+undecided-pick o told k j position u picks =
     let ready = is_ready o told k u in
-    ArePicks-plan (setup_of o) told k.sums positions o.width ready.sums ready.total ready.left
-    (subst (λ (n : ℕ). ArePicks k.sums n o.width positions) ready.floor_is picks)
+    IsPick-pick (setup_of o) told k.sums j o.width position ready.sums ready.total ready.left
+    (subst (λ (n : ℕ). IsPick k.sums n j o.width position) ready.floor_is picks)
+
+-- The plan pick by pick.
+
+-- the picks by those before one, that one and those after it
+picks-at : (s : Setup) (runs : List Run) (k n j : ℕ) → j < n →
+    (after : List ℕ) × (picks s runs k n ≡ picks s runs k j ++ pick s runs k (j + 1) ∷ after)
+picks-at s runs k zero j less = absurd (omega arith)
+picks-at s runs k (suc n) j less =
+    ⊎_elim
+    (λ (before : j < n).
+    let rest = picks-at s runs k n j before in (
+      rest.0 ++ pick s runs k (suc n) ∷ [],
+      ap (λ (xs : List ℕ). xs ++ pick s runs k (suc n) ∷ []) rest.1
+          ∙ append_assoc (picks s runs k j) (pick s runs k (j + 1) ∷ rest.0) (pick s runs k (suc n) ∷ []),
+    ))
+    (λ (last : n ≤ j).
+    let here : j ≡ n = omega arith in
+    ([], rw (here, add-one n) refl))
+    (cases_lt j n)
+
+-- fewer runs are out than the plan has places
+due-room : (s : Setup) (runs : List Run) (k : ℕ) (out : List ℕ) → length out < k →
+    due_search (plan s runs k) out ≡ first_entry (struck (plan s runs k) out)
+due-room s runs k out room =
+    let places : List ℕ = plan s runs k in
+    let long : length places ≡ k = length-plan s runs k in
+    ap (λ (b : Bool). if b then first_entry (struck places out) else None)
+    (lt-ltb (length out) (length places) (omega (arith, room, long)))
+
+-- a pick that is left whatever comes after it is due
+pub pick-due : (s : Setup) (runs : List Run) (k j : ℕ) (out : List ℕ) (position : ℕ) → length out < k → j < k →
+    position ≡ pick s runs k (j + 1) →
+    ((after : List ℕ) → first_entry (struck (picks s runs k j ++ position ∷ after) out) ≡ Some position) →
+    Some position ≡ due_search (plan s runs k) out
+pick-due s runs k j out position room within here left =
+    let rest = picks-at s runs k k j within in
+    sym
+    (due-room s runs k out room
+    ∙ ap (λ (xs : List ℕ). first_entry (struck xs out)) rest.1
+    ∙ ap (λ (x : ℕ). first_entry (struck (picks s runs k j ++ x ∷ rest.0) out)) (sym here)
+    ∙ left rest.0)
 
 -- nothing is due where as many runs are out as the plan has places
 pub full-none : (o : Opening) (told : List Run) (out : List ℕ) → o.width ≤ length out →

@@ -3,7 +3,7 @@
 ghost use Rattle.std.specs.Prelude.{ℕ, ◌≡◌, ◌⊎◌, ◌+◌, ◌<◌, ◌≤◌, [], true, false, length, IfOk};
 ghost use Rattle.std.specs.Option.{option_map};
 ghost use Rattle.flake_rate.specs.Miss.{FitsRate};
-ghost use Rattle.weight_exact.specs.Plan.{plan};
+ghost use Rattle.weight_exact.specs.Plan.{pick};
 ghost use Rattle.weight_exact.specs.Weights.{hypotheses};
 ghost use Rattle.posterior.specs.StandsFor.{StandsFor};
 ghost use Rattle.farm_entry.specs.Setup.{budget_of_search, setup_of};
@@ -16,11 +16,11 @@ use crate::decided::{first_standing, first_verification, next_standing};
 use farm_entry::{DueRun, Fate, Opening, Shares, Standing};
 use farm_types::{Memory, Stage};
 use posterior::Belief;
-use run_plan::{due_search, due_verify};
+use run_plan::{due_verify, is_left};
 use std::alloc::Global;
 use std::marker::Model;
 use std::snapshot::Snapshot;
-use threshold_pick::plan_uncounted;
+use threshold_pick::pick_uncounted;
 use told_list::ToldList;
 use verify_flow::Verify;
 use weight_exact::{Factors, MAX_WIDTH, Run};
@@ -154,18 +154,25 @@ impl SearchState {
         }
     }
 
-    /// Where a search that is searching is to run next.
+    /// Where a search that is searching is to run next. Its plan is made pick by pick, up to the first that no
+    /// outstanding run stands for.
     fn position_searching(&self, outstanding: &[u16]) -> Option<u16>
         requires { standing_in self.now ≡ Searching }
         ensures { result ≡ position_searching self.now outstanding.now }
     {
-        let places = usize::from(self.width);
-        if places <= outstanding.len() {
+        if usize::from(self.width) <= outstanding.len() {
             return None;
         }
         let mut plan = [0; MAX_WIDTH as usize];
-        self.write_plan(&mut plan[..places]);
-        due_search(&plan[..places], outstanding)
+        for index in 0..self.width {
+            let position = self.pick(index + 1);
+            let place = usize::from(index);
+            if is_left(position, &plan[..place], outstanding) {
+                return Some(position);
+            }
+            plan[place] = position;
+        }
+        None
     }
 
     /// Where a search that verifies a suspect is to run next.
@@ -177,18 +184,14 @@ impl SearchState {
         due_verify(culprit, at_culprit, at_parent, outstanding, self.asked)
     }
 
-    /// Writes the plan of a search that is searching.
-    fn write_plan(&self, positions: &mut [u16])
+    /// The j-th position of the plan of a search that is searching.
+    fn pick(&self, j: u8) -> u16
         requires searching { standing_in self.now ≡ Searching }
-        requires room { length positions.old ≡ self.now.opening.width }
-        ensures { positions.new ≡ plan (setup_of self.now.opening) self.now.runs self.now.opening.width }
+        requires first { 1 ≤ j }
+        requires last { j ≤ self.now.opening.width }
+        ensures { result ≡ pick (setup_of self.now.opening) self.now.runs self.now.opening.width j }
     {
-        plan_uncounted(
-            self.belief.sums(),
-            self.belief.floor(),
-            self.width,
-            positions,
-        );
+        pick_uncounted(self.belief.sums(), self.belief.floor(), j, self.width)
     }
 
     // What a report does.

@@ -89,7 +89,7 @@ pub fn plan_into<L: Ledger>(sums: &Sums, floor: u16, k: u8, out: &mut [u16], ste
     }
 }
 
-/// The same for a caller that counts no steps.
+/// The plan of width `k` for a caller that counts no steps.
 pub fn plan_uncounted(sums: &Sums, floor: u16, k: u8, out: &mut [u16])
     requires sums { CanPick floor sums.now }
     requires narrow { k ≤ MAX_WIDTH }
@@ -108,4 +108,27 @@ fn plan_on<L: Ledger>(sums: &Sums, floor: u16, k: u8, out: &mut [u16], blank: Bl
     ensures { ArePicks sums.now floor k out.new }
 {
     plan_into(sums, floor, k, out, &mut Steps::<L>::new(blank));
+}
+
+/// One [`pick`] for a caller that counts no steps.
+pub fn pick_uncounted(sums: &Sums, floor: u16, j: u8, k: u8) -> u16
+    requires sums { CanPick floor sums.now }
+    requires first { 1 ≤ j }
+    requires last { j ≤ k }
+    requires narrow { k ≤ MAX_WIDTH }
+    ensures { IsPick sums.now floor j k result }
+{
+    pick_on::<Brand>(sums, floor, j, k, Blank::new(1))
+}
+
+/// The same on a counter of its own, which nobody reads.
+fn pick_on<L: Ledger>(sums: &Sums, floor: u16, j: u8, k: u8, blank: Blank) -> u16
+    requires blank { CanCount blank L.name L.parts }
+    requires sums { CanPick floor sums.now }
+    requires first { 1 ≤ j }
+    requires last { j ≤ k }
+    requires narrow { k ≤ MAX_WIDTH }
+    ensures { IsPick sums.now floor j k result }
+{
+    pick(sums, floor, j, k, &mut Steps::<L>::new(blank))
 }
