@@ -6,9 +6,9 @@ ghost use Rattle.farm_entry.specs.Playing.{after};
 ghost use Rattle.farm_store.specs.Answering.{IsAnswer};
 ghost use Rattle.farm_answers.specs.Texts.{AnswerHasDates};
 
-use farm_core::{CoreFault, Farm, Prepared};
+use farm_core::Farm;
 use farm_entry::{Command, Entry};
-use farm_store::Answer;
+use farm_store::{Answer, answer};
 use farm_types::{Memory, Moment};
 
 /// Answers a command at a moment. A new entry is in the history before its reply is given.
@@ -23,14 +23,5 @@ pub fn answer_in_memory(farm: &mut Farm, command: &Command, at: Moment) -> Resul
     ensures kept { OnErr result (farm.new.history ≡ farm.old.history) }
     ensures longer { (more : List Entry) × (farm.new.history ≡ farm.old.history ++ more) }
 {
-    match farm.prepare(command, at) {
-        Ok(Prepared::Repeat(reply)) => Ok(Answer::Done(reply)),
-        Ok(Prepared::Shown(reply)) => Ok(Answer::Done(reply)),
-        Ok(Prepared::New(entry, reply)) => {
-            farm.commit(entry);
-            Ok(Answer::Done(reply))
-        }
-        Err(CoreFault::Refused(refusal)) => Ok(Answer::Refused(refusal)),
-        Err(CoreFault::Memory) => Err(Memory),
-    }
+    answer(farm, command, at)
 }

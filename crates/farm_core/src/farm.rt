@@ -156,6 +156,7 @@ impl Farm {
         ensures history { OnOk result
             (self.new.history ≡ after self.old.history (decide self.old.history command.now at)) }
         ensures kept { OnErr result (self.new.history ≡ self.old.history) }
+        ensures legal { IsLegal self.new.history }
         ensures ready { self.new.ready ≡ [] }
     {
         self.forget_ready();

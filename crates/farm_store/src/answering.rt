@@ -1,7 +1,8 @@
-//! Answering commands by the farm in memory, which then is ahead of its journal by what it added.
+//! Answering commands by a farm in memory. That of a store is then ahead of its journal by what was added.
 
 ghost use Rattle.std.specs.Prelude.{◌≡◌, ◌≤◌, ◌+◌, ◌++◌, List, length, IfOk, OnOk, OnErr};
 ghost use Rattle.farm_entry.specs.Decision.{decide};
+ghost use Rattle.farm_entry.specs.Legal.{IsLegal};
 ghost use Rattle.farm_entry.specs.Playing.{after};
 ghost use Rattle.farm_store.specs.Answering.{AreAnswers, IsAnswer, history_after};
 
@@ -11,11 +12,17 @@ use farm_entry::{Command, Entry};
 use farm_types::{Memory, Moment};
 use std::alloc::Global;
 
-/// Answers a command. Its new entry, where it makes one, stands at the end of the history.
+/// Answers a command at a moment by a farm in memory alone. Its new entry, where it makes one, stands at the end of the
+/// history.
+///
+/// # Errors
+///
+/// [`Memory`]. The history stays.
 pub fn answer(farm: &mut Farm, command: &Command, at: Moment) -> Result<Answer, Memory>
     ensures answer { IfOk result (IsAnswer farm.old.history (decide farm.old.history command.now at)) }
     ensures history { OnOk result (farm.new.history ≡ after farm.old.history (decide farm.old.history command.now at)) }
     ensures kept { OnErr result (farm.new.history ≡ farm.old.history) }
+    ensures legal { IsLegal farm.new.history }
 {
     match farm.answer(command, at) {
         Ok(reply) => Ok(Answer::Done(reply)),

@@ -20,6 +20,7 @@ mod showing;
 mod store;
 
 pub use admitting::farm_of;
+pub use answering::answer;
 pub use asking::{Answer, Answers, Ask, CallFault, MAX_BATCH};
 pub use farm_journal::{CreateFault, OpeningFault};
 pub use store::Store;

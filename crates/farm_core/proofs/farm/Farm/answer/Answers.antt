@@ -1,4 +1,6 @@
-use Rattle.std.proofs.Common.{sym, ◌∙◌}
+use Rattle.std.proofs.Common.{◌≡◌, ◌++◌, ◌∷◌, [], List, take, sym, ap, subst, ◌∙◌}
+use Rattle.farm_entry.specs.Legal.{IsLegal}
+use Rattle.farm_entry.specs.declared.entry.Entry.{Entry}
 use Rattle.farm_laws.proofs.Induct.{IsLegal-push}
 use Rattle.farm_laws.proofs.Recorded.{recorded}
 use Rattle.farm_core.proofs.farm.Farm.answer.Goals as goal
@@ -9,3 +11,15 @@ prepare_new-requires-clause-next c =
     let e = c.in-New.entry in
     let said = c.in_ok-refusal.ensures in
     IsLegal-push H e said.legal (recorded H c.args.command.now c.args.at e (sym said.decided ∙ c.in-New.is))
+
+pub returns-in_ok-reply-in-New-clause-legal : goal.returns-in_ok-reply-in-New-clause-legal
+returns-in_ok-reply-in-New-clause-legal c =
+    let H = c.forget_ready.new.self.history in
+    let e = c.in-New.entry in
+    let said = c.in_ok-refusal.ensures in
+    let made = c.in_ok-reply-in-New.ensures in
+    let is : c.commit_next.new.self.history ≡ H ++ e ∷ [] =
+    c.commit_next.ensures.history ∙ ap (λ (K : List Entry). K ++ take 1 c.prepare_new.new.self.ready) made.history
+    ∙ ap (λ (ready : List Entry). H ++ take 1 ready) made.ready in
+    subst IsLegal (sym is)
+    (IsLegal-push H e said.legal (recorded H c.args.command.now c.args.at e (sym said.decided ∙ c.in-New.is)))
