@@ -1,7 +1,7 @@
 //! Commands, read from the text of a line or of a body.
 
 ghost use Rattle.std.specs.Prelude.{◌≡◌, ◌≢◌, Err, IfErr, IfOk, Ok};
-ghost use Rattle.serde_json.specs.View.{view};
+ghost use Rattle.json_tape.specs.Views.{document_data};
 ghost use Rattle.farm_wire.specs.Reading.{body_reading, line_reading, object_of};
 ghost use Rattle.farm_wire.specs.Reading.{cancel_in, cancel_line_in, command_in, lease_in, open_in, report_in, report_line_in};
 ghost use Rattle.farm_wire.specs.Reading.{revert_in, search_in};
@@ -15,7 +15,8 @@ use crate::verb::Verb;
 use crate::{Field, Route, WireFault};
 use farm_entry::{Command, OpenAsk};
 use farm_types::Moment;
-use serde_json::Value;
+use json::Scratch;
+use json_tape::{Document, Unread};
 use std::alloc::Global;
 
 /// What a script line asks for, and when: the line is one JSON object of at most [`MAX_COMMAND_BYTES`], without its
@@ -25,7 +26,8 @@ pub fn line_of(alloc: Global, line: &[u8]) -> Result<(Moment, Command), WireFaul
     ensures read { IfOk result (λ asked. line_reading line.now ≡ Ok asked) }
     ensures refused { IfErr result (λ fault. fault ≢ WireFault.Memory → line_reading line.now ≡ Err fault) }
 {
-    let object = object_of(alloc, line)?;
+    let mut scratch = Scratch::new(alloc);
+    let object = object_of(alloc, line, &mut scratch)?;
     let at = moment_in(&object)?;
     let verb = verb_in(&object)?;
     let command = command_in(alloc, verb, &object)?;
@@ -40,12 +42,13 @@ pub fn command_of(alloc: Global, route: &Route, body: &[u8]) -> Result<Command, 
     ensures read { IfOk result (λ command. body_reading route.now body.now ≡ Ok command) }
     ensures refused { IfErr result (λ fault. fault ≢ WireFault.Memory → body_reading route.now body.now ≡ Err fault) }
 {
+    let mut scratch = Scratch::new(alloc);
     match route {
-        Route::Open => open_in(alloc, &object_of(alloc, body)?),
-        Route::Lease => lease_in(alloc, &object_of(alloc, body)?),
-        Route::Report(run) => report_in(*run, &object_of(alloc, body)?),
-        Route::Cancel(search) => cancel_in(*search, &object_of(alloc, body)?),
-        Route::Revert => revert_in(alloc, &object_of(alloc, body)?),
+        Route::Open => open_in(alloc, &object_of(alloc, body, &mut scratch)?),
+        Route::Lease => lease_in(alloc, &object_of(alloc, body, &mut scratch)?),
+        Route::Report(run) => report_in(*run, &object_of(alloc, body, &mut scratch)?),
+        Route::Cancel(search) => cancel_in(*search, &object_of(alloc, body, &mut scratch)?),
+        Route::Revert => revert_in(alloc, &object_of(alloc, body, &mut scratch)?),
         Route::Search(search) => Ok(Command::ShowSearch { search: *search }),
         Route::Farm => Ok(Command::ShowFarm),
         Route::Orders => Ok(Command::ShowOrders),
@@ -54,35 +57,34 @@ pub fn command_of(alloc: Global, route: &Route, body: &[u8]) -> Result<Command, 
 
 /// The JSON object that a text is.
 #[tactic(auto, unfolding(crate::specs::Reading::object_of, crate::specs::Reading::object_in))]
-fn object_of(alloc: Global, text: &[u8]) -> Result<Value, WireFault>
-    ensures read { IfOk result (λ value. object_of text.now ≡ Ok (view value)) }
+fn object_of<'a>(
+    alloc: Global,
+    text: &'a [u8],
+    scratch: &'a mut Scratch,
+) -> Result<Document<'a>, WireFault>
+    ensures read { IfOk result (λ object. object_of text.now ≡ Ok (document_data object)) }
     ensures refused { IfErr result (λ fault. fault ≢ WireFault.Memory → object_of text.now ≡ Err fault) }
 {
     if text.len() > MAX_COMMAND_BYTES {
         return Err(WireFault::TooLong);
     }
-    match Value::from_slice(alloc, text) {
-        Ok(value) => {
-            if value.is_object() {
-                Ok(value)
+    match Document::read(alloc, text, scratch) {
+        Ok(object) => {
+            if object.is_object() {
+                Ok(object)
             } else {
                 Err(WireFault::BadJson)
             }
         }
-        Err(error) => {
-            if error.is_memory() {
-                Err(WireFault::Memory)
-            } else {
-                Err(WireFault::BadJson)
-            }
-        }
+        Err(Unread::Malformed) => Err(WireFault::BadJson),
+        Err(Unread::Memory) => Err(WireFault::Memory),
     }
 }
 
 /// The command that a line's object asks for.
-fn command_in(alloc: Global, verb: Verb, object: &Value) -> Result<Command, WireFault>
-    ensures read { IfOk result (λ command. command_in verb (view object.now) ≡ Ok command) }
-    ensures refused { IfErr result (λ fault. fault ≢ WireFault.Memory → command_in verb (view object.now) ≡ Err fault) }
+fn command_in(alloc: Global, verb: Verb, object: &Document<'_>) -> Result<Command, WireFault>
+    ensures read { IfOk result (λ command. command_in verb (document_data object.now) ≡ Ok command) }
+    ensures refused { IfErr result (λ fault. fault ≢ WireFault.Memory → command_in verb (document_data object.now) ≡ Err fault) }
 {
     match verb {
         Verb::Open => open_in(alloc, object),
@@ -97,9 +99,9 @@ fn command_in(alloc: Global, verb: Verb, object: &Value) -> Result<Command, Wire
 }
 
 #[tactic(auto, unfolding(crate::specs::Reading::open_in))]
-fn open_in(alloc: Global, object: &Value) -> Result<Command, WireFault>
-    ensures read { IfOk result (λ command. open_in (view object.now) ≡ Ok command) }
-    ensures refused { IfErr result (λ fault. fault ≢ WireFault.Memory → open_in (view object.now) ≡ Err fault) }
+fn open_in(alloc: Global, object: &Document<'_>) -> Result<Command, WireFault>
+    ensures read { IfOk result (λ command. open_in (document_data object.now) ≡ Ok command) }
+    ensures refused { IfErr result (λ fault. fault ≢ WireFault.Memory → open_in (document_data object.now) ≡ Err fault) }
 {
     let key = key_in(object)?;
     let test = name_in(alloc, object, Field::Test)?;
@@ -126,9 +128,9 @@ fn open_in(alloc: Global, object: &Value) -> Result<Command, WireFault>
 }
 
 #[tactic(auto, unfolding(crate::specs::Reading::lease_in))]
-fn lease_in(alloc: Global, object: &Value) -> Result<Command, WireFault>
-    ensures read { IfOk result (λ command. lease_in (view object.now) ≡ Ok command) }
-    ensures refused { IfErr result (λ fault. fault ≢ WireFault.Memory → lease_in (view object.now) ≡ Err fault) }
+fn lease_in(alloc: Global, object: &Document<'_>) -> Result<Command, WireFault>
+    ensures read { IfOk result (λ command. lease_in (document_data object.now) ≡ Ok command) }
+    ensures refused { IfErr result (λ fault. fault ≢ WireFault.Memory → lease_in (document_data object.now) ≡ Err fault) }
 {
     let key = key_in(object)?;
     let worker = name_in(alloc, object, Field::Worker)?;
@@ -136,32 +138,32 @@ fn lease_in(alloc: Global, object: &Value) -> Result<Command, WireFault>
 }
 
 #[tactic(auto, unfolding(crate::specs::Reading::report_in))]
-fn report_in(run: u32, object: &Value) -> Result<Command, WireFault>
-    ensures { result ≡ report_in run (view object.now) }
+fn report_in(run: u32, object: &Document<'_>) -> Result<Command, WireFault>
+    ensures { result ≡ report_in run (document_data object.now) }
 {
     let verdict = verdict_in(object)?;
     Ok(Command::Report { run, verdict })
 }
 
 #[tactic(auto, unfolding(crate::specs::Reading::report_line_in))]
-fn report_line_in(object: &Value) -> Result<Command, WireFault>
-    ensures { result ≡ report_line_in (view object.now) }
+fn report_line_in(object: &Document<'_>) -> Result<Command, WireFault>
+    ensures { result ≡ report_line_in (document_data object.now) }
 {
     let run = ordinal_in(object, Field::Run)?;
     report_in(run, object)
 }
 
 #[tactic(auto, unfolding(crate::specs::Reading::cancel_in))]
-fn cancel_in(search: u32, object: &Value) -> Result<Command, WireFault>
-    ensures { result ≡ cancel_in search (view object.now) }
+fn cancel_in(search: u32, object: &Document<'_>) -> Result<Command, WireFault>
+    ensures { result ≡ cancel_in search (document_data object.now) }
 {
     let key = key_in(object)?;
     Ok(Command::Cancel { key, search })
 }
 
 #[tactic(auto, unfolding(crate::specs::Reading::cancel_line_in))]
-fn cancel_line_in(object: &Value) -> Result<Command, WireFault>
-    ensures { result ≡ cancel_line_in (view object.now) }
+fn cancel_line_in(object: &Document<'_>) -> Result<Command, WireFault>
+    ensures { result ≡ cancel_line_in (document_data object.now) }
 {
     let key = key_in(object)?;
     let search = ordinal_in(object, Field::Search)?;
@@ -169,9 +171,9 @@ fn cancel_line_in(object: &Value) -> Result<Command, WireFault>
 }
 
 #[tactic(auto, unfolding(crate::specs::Reading::revert_in))]
-fn revert_in(alloc: Global, object: &Value) -> Result<Command, WireFault>
-    ensures read { IfOk result (λ command. revert_in (view object.now) ≡ Ok command) }
-    ensures refused { IfErr result (λ fault. fault ≢ WireFault.Memory → revert_in (view object.now) ≡ Err fault) }
+fn revert_in(alloc: Global, object: &Document<'_>) -> Result<Command, WireFault>
+    ensures read { IfOk result (λ command. revert_in (document_data object.now) ≡ Ok command) }
+    ensures refused { IfErr result (λ fault. fault ≢ WireFault.Memory → revert_in (document_data object.now) ≡ Err fault) }
 {
     let key = key_in(object)?;
     let agent = name_in(alloc, object, Field::Agent)?;
@@ -179,8 +181,8 @@ fn revert_in(alloc: Global, object: &Value) -> Result<Command, WireFault>
 }
 
 #[tactic(auto, unfolding(crate::specs::Reading::search_in))]
-fn search_in(object: &Value) -> Result<Command, WireFault>
-    ensures { result ≡ search_in (view object.now) }
+fn search_in(object: &Document<'_>) -> Result<Command, WireFault>
+    ensures { result ≡ search_in (document_data object.now) }
 {
     let search = ordinal_in(object, Field::Search)?;
     Ok(Command::ShowSearch { search })

@@ -1,9 +1,9 @@
 //! The members of a command's object, each read in its form.
 
 ghost use Rattle.std.specs.Prelude.{◌≡◌, ◌≢◌, Err, IfErr, IfOk, IsErrOf, IsOk, Ok};
-ghost use Rattle.serde_json.specs.View.{view};
 ghost use Rattle.farm_wire.specs.Forms as form;
 ghost use Rattle.farm_wire.specs.Reading.{field_in, miss_in};
+ghost use Rattle.json_tape.specs.Views.{document_data};
 
 use crate::forms::{commit, fraction, key, moment, ordinal, small, verb, verdict};
 use crate::texts::{name, suspects};
@@ -11,13 +11,13 @@ use crate::verb::Verb;
 use crate::{Field, WireFault};
 use farm_entry::Suspects;
 use farm_types::{CommitId, Key, Moment, Name};
-use serde_json::Value;
+use json_tape::Document;
 use std::alloc::Global;
 use weight_exact::Verdict;
 
 #[tactic(auto, unfolding(crate::specs::Reading::field_in))]
-pub(crate) fn moment_in(object: &Value) -> Result<Moment, WireFault>
-    ensures { result ≡ field_in Field.At form.moment (view object.now) }
+pub(crate) fn moment_in(object: &Document<'_>) -> Result<Moment, WireFault>
+    ensures { result ≡ field_in Field.At form.moment (document_data object.now) }
 {
     let field = Field::At;
     object
@@ -27,8 +27,8 @@ pub(crate) fn moment_in(object: &Value) -> Result<Moment, WireFault>
 }
 
 #[tactic(auto, unfolding(crate::specs::Reading::field_in))]
-pub(crate) fn verb_in(object: &Value) -> Result<Verb, WireFault>
-    ensures { result ≡ field_in Field.Do form.verb (view object.now) }
+pub(crate) fn verb_in(object: &Document<'_>) -> Result<Verb, WireFault>
+    ensures { result ≡ field_in Field.Do form.verb (document_data object.now) }
 {
     let field = Field::Do;
     object
@@ -38,8 +38,8 @@ pub(crate) fn verb_in(object: &Value) -> Result<Verb, WireFault>
 }
 
 #[tactic(auto, unfolding(crate::specs::Reading::field_in))]
-pub(crate) fn key_in(object: &Value) -> Result<Key, WireFault>
-    ensures { result ≡ field_in Field.Key form.key (view object.now) }
+pub(crate) fn key_in(object: &Document<'_>) -> Result<Key, WireFault>
+    ensures { result ≡ field_in Field.Key form.key (document_data object.now) }
 {
     let field = Field::Key;
     object
@@ -49,8 +49,8 @@ pub(crate) fn key_in(object: &Value) -> Result<Key, WireFault>
 }
 
 #[tactic(auto, unfolding(crate::specs::Reading::field_in))]
-pub(crate) fn base_in(object: &Value) -> Result<CommitId, WireFault>
-    ensures { result ≡ field_in Field.Base form.commit (view object.now) }
+pub(crate) fn base_in(object: &Document<'_>) -> Result<CommitId, WireFault>
+    ensures { result ≡ field_in Field.Base form.commit (document_data object.now) }
 {
     let field = Field::Base;
     object
@@ -60,8 +60,8 @@ pub(crate) fn base_in(object: &Value) -> Result<CommitId, WireFault>
 }
 
 #[tactic(auto, unfolding(crate::specs::Reading::field_in))]
-pub(crate) fn verdict_in(object: &Value) -> Result<Verdict, WireFault>
-    ensures { result ≡ field_in Field.Verdict form.verdict (view object.now) }
+pub(crate) fn verdict_in(object: &Document<'_>) -> Result<Verdict, WireFault>
+    ensures { result ≡ field_in Field.Verdict form.verdict (document_data object.now) }
 {
     let field = Field::Verdict;
     object
@@ -72,8 +72,8 @@ pub(crate) fn verdict_in(object: &Value) -> Result<Verdict, WireFault>
 
 /// A whole number below 2^32.
 #[tactic(auto, unfolding(crate::specs::Reading::field_in))]
-pub(crate) fn small_in(object: &Value, field: Field) -> Result<u32, WireFault>
-    ensures { result ≡ field_in field form.small (view object.now) }
+pub(crate) fn small_in(object: &Document<'_>, field: Field) -> Result<u32, WireFault>
+    ensures { result ≡ field_in field form.small (document_data object.now) }
 {
     object
         .get(field.name())
@@ -83,8 +83,8 @@ pub(crate) fn small_in(object: &Value, field: Field) -> Result<u32, WireFault>
 
 /// The number of a run or a search.
 #[tactic(auto, unfolding(crate::specs::Reading::field_in))]
-pub(crate) fn ordinal_in(object: &Value, field: Field) -> Result<u32, WireFault>
-    ensures { result ≡ field_in field form.ordinal (view object.now) }
+pub(crate) fn ordinal_in(object: &Document<'_>, field: Field) -> Result<u32, WireFault>
+    ensures { result ≡ field_in field form.ordinal (document_data object.now) }
 {
     object
         .get(field.name())
@@ -93,8 +93,8 @@ pub(crate) fn ordinal_in(object: &Value, field: Field) -> Result<u32, WireFault>
 }
 
 #[tactic(auto, unfolding(crate::specs::Reading::field_in))]
-pub(crate) fn fraction_in(object: &Value, field: Field) -> Result<(u32, u32), WireFault>
-    ensures { result ≡ field_in field form.fraction (view object.now) }
+pub(crate) fn fraction_in(object: &Document<'_>, field: Field) -> Result<(u32, u32), WireFault>
+    ensures { result ≡ field_in field form.fraction (document_data object.now) }
 {
     object
         .get(field.name())
@@ -104,8 +104,8 @@ pub(crate) fn fraction_in(object: &Value, field: Field) -> Result<(u32, u32), Wi
 
 /// The miss rate, which may be left out.
 #[tactic(auto, unfolding(crate::specs::Reading::miss_in))]
-pub(crate) fn miss_in(object: &Value) -> Result<(u32, u32), WireFault>
-    ensures { result ≡ miss_in (view object.now) }
+pub(crate) fn miss_in(object: &Document<'_>) -> Result<(u32, u32), WireFault>
+    ensures { result ≡ miss_in (document_data object.now) }
 {
     let field = Field::Miss;
     match object.get(field.name()) {
@@ -116,11 +116,11 @@ pub(crate) fn miss_in(object: &Value) -> Result<(u32, u32), WireFault>
 
 /// A name. Running out of memory is answered only where the member is one.
 #[tactic(auto, unfolding(crate::specs::Reading::field_in))]
-pub(crate) fn name_in(alloc: Global, object: &Value, field: Field) -> Result<Name, WireFault>
-    ensures read { IfOk result (λ name. field_in field form.name (view object.now) ≡ Ok name) }
+pub(crate) fn name_in(alloc: Global, object: &Document<'_>, field: Field) -> Result<Name, WireFault>
+    ensures read { IfOk result (λ name. field_in field form.name (document_data object.now) ≡ Ok name) }
     ensures refused { IfErr result (λ fault. fault ≢ WireFault.Memory
-        → field_in field form.name (view object.now) ≡ Err fault) }
-    ensures short { IsErrOf result WireFault.Memory → IsOk (field_in field form.name (view object.now)) }
+        → field_in field form.name (document_data object.now) ≡ Err fault) }
+    ensures short { IsErrOf result WireFault.Memory → IsOk (field_in field form.name (document_data object.now)) }
 {
     let Some(value) = object.get(field.name()) else {
         return Err(WireFault::BadField(field));
@@ -133,10 +133,10 @@ pub(crate) fn name_in(alloc: Global, object: &Value, field: Field) -> Result<Nam
 }
 
 #[tactic(auto, unfolding(crate::specs::Reading::field_in))]
-pub(crate) fn suspects_in(alloc: Global, object: &Value) -> Result<Suspects, WireFault>
-    ensures read { IfOk result (λ found. field_in Field.Suspects form.suspects (view object.now) ≡ Ok found) }
+pub(crate) fn suspects_in(alloc: Global, object: &Document<'_>) -> Result<Suspects, WireFault>
+    ensures read { IfOk result (λ found. field_in Field.Suspects form.suspects (document_data object.now) ≡ Ok found) }
     ensures refused { IfErr result (λ fault. fault ≢ WireFault.Memory
-        → field_in Field.Suspects form.suspects (view object.now) ≡ Err fault) }
+        → field_in Field.Suspects form.suspects (document_data object.now) ≡ Err fault) }
 {
     let field = Field::Suspects;
     let Some(value) = object.get(field.name()) else {

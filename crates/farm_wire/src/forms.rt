@@ -1,29 +1,29 @@
 //! The forms of a command's members.
 
 ghost use Rattle.std.specs.Prelude.{◌≡◌, option_map};
-ghost use Rattle.serde_json.specs.View.{view};
+ghost use Rattle.json_tape.specs.Views.{data_of};
 ghost use Rattle.farm_wire.specs.Forms as form;
 ghost use Rattle.farm_wire.specs.Made as made;
 
 use crate::verb::Verb;
 use farm_types::{CommitId, Key, Moment};
-use serde_json::Value;
+use json_tape::Parsed;
 use suspect_range::Suspect;
 use uuid::Uuid;
 use weight_exact::Verdict;
 
 /// A whole number below 2^32.
 #[tactic(auto, unfolding(crate::specs::Forms::small, crate::specs::Forms::whole))]
-pub(crate) fn small(value: &Value) -> Option<u32>
-    ensures { result ≡ form.small (view value.now) }
+pub(crate) fn small(value: Parsed<'_, '_>) -> Option<u32>
+    ensures { result ≡ form.small (data_of value.entry) }
 {
     u32::try_from(value.as_u64()?).ok()
 }
 
 /// A number of a run or a search, from 1.
 #[tactic(auto, unfolding(crate::specs::Forms::ordinal))]
-pub(crate) fn ordinal(value: &Value) -> Option<u32>
-    ensures { result ≡ form.ordinal (view value.now) }
+pub(crate) fn ordinal(value: Parsed<'_, '_>) -> Option<u32>
+    ensures { result ≡ form.ordinal (data_of value.entry) }
 {
     let number = small(value)?;
     if number == 0 { None } else { Some(number) }
@@ -31,8 +31,8 @@ pub(crate) fn ordinal(value: &Value) -> Option<u32>
 
 /// A moment, in milliseconds since 1970-01-01 in UTC.
 #[tactic(auto, unfolding(crate::specs::Forms::moment, crate::specs::Forms::whole))]
-pub(crate) fn moment(value: &Value) -> Option<Moment>
-    ensures { result ≡ form.moment (view value.now) }
+pub(crate) fn moment(value: Parsed<'_, '_>) -> Option<Moment>
+    ensures { result ≡ form.moment (data_of value.entry) }
 {
     moment_at(value.as_u64()?)
 }
@@ -45,8 +45,8 @@ fn moment_at(ms: u64) -> Option<Moment>
 
 /// A key, in one of the forms of a UUID.
 #[tactic(auto, unfolding(crate::specs::Forms::key))]
-pub(crate) fn key(value: &Value) -> Option<Key>
-    ensures { result ≡ form.key (view value.now) }
+pub(crate) fn key(value: Parsed<'_, '_>) -> Option<Key>
+    ensures { result ≡ form.key (data_of value.entry) }
 {
     key_named(value.as_str()?)
 }
@@ -62,8 +62,8 @@ fn key_named(text: &str) -> Option<Key>
 
 /// The id of a commit.
 #[tactic(auto, unfolding(crate::specs::Forms::commit))]
-pub(crate) fn commit(value: &Value) -> Option<CommitId>
-    ensures { result ≡ form.commit (view value.now) }
+pub(crate) fn commit(value: Parsed<'_, '_>) -> Option<CommitId>
+    ensures { result ≡ form.commit (data_of value.entry) }
 {
     id_named(value.as_str()?)
 }
@@ -76,8 +76,8 @@ fn id_named(text: &str) -> Option<CommitId>
 
 /// What a test said.
 #[tactic(auto, unfolding(crate::specs::Forms::verdict))]
-pub(crate) fn verdict(value: &Value) -> Option<Verdict>
-    ensures { result ≡ form.verdict (view value.now) }
+pub(crate) fn verdict(value: Parsed<'_, '_>) -> Option<Verdict>
+    ensures { result ≡ form.verdict (data_of value.entry) }
 {
     verdict_named(value.as_str()?)
 }
@@ -94,8 +94,8 @@ fn verdict_named(text: &str) -> Option<Verdict>
 
 /// What a line asks for.
 #[tactic(auto, unfolding(crate::specs::Forms::verb))]
-pub(crate) fn verb(value: &Value) -> Option<Verb>
-    ensures { result ≡ form.verb (view value.now) }
+pub(crate) fn verb(value: Parsed<'_, '_>) -> Option<Verb>
+    ensures { result ≡ form.verb (data_of value.entry) }
 {
     verb_named(value.as_str()?)
 }
@@ -118,21 +118,22 @@ fn verb_named(text: &str) -> Option<Verb>
 
 /// The items of an array of two.
 #[tactic(auto, unfolding(crate::specs::Forms::two_in))]
-fn two_in(value: &Value) -> Option<(&Value, &Value)>
-    ensures { option_map (λ p. (view p.0.now, view p.1.now)) result ≡ form.two_in (view value.now) }
+fn two_in<'t, 'a>(value: Parsed<'t, 'a>) -> Option<(Parsed<'t, 'a>, Parsed<'t, 'a>)>
+    ensures { option_map (λ p. (data_of p.0, data_of p.1)) result ≡ form.two_in (data_of value.entry) }
 {
-    let list = value.as_array()?;
-    if list.len() == 2 {
-        Some((&list[0], &list[1]))
-    } else {
-        None
+    let mut items = value.items()?;
+    let first = items.next()?;
+    let second = items.next()?;
+    match items.next() {
+        Some(_) => None,
+        None => Some((first, second)),
     }
 }
 
 /// A fraction, as its numerator and its denominator.
 #[tactic(auto, unfolding(crate::specs::Forms::fraction))]
-pub(crate) fn fraction(value: &Value) -> Option<(u32, u32)>
-    ensures { result ≡ form.fraction (view value.now) }
+pub(crate) fn fraction(value: Parsed<'_, '_>) -> Option<(u32, u32)>
+    ensures { result ≡ form.fraction (data_of value.entry) }
 {
     let (numerator, denominator) = two_in(value)?;
     Some((small(numerator)?, small(denominator)?))
@@ -140,8 +141,8 @@ pub(crate) fn fraction(value: &Value) -> Option<(u32, u32)>
 
 /// A suspect, as its commit and its weight.
 #[tactic(auto, unfolding(crate::specs::Forms::suspect))]
-pub(crate) fn suspect(value: &Value) -> Option<Suspect>
-    ensures { result ≡ form.suspect (view value.now) }
+pub(crate) fn suspect(value: Parsed<'_, '_>) -> Option<Suspect>
+    ensures { result ≡ form.suspect (data_of value.entry) }
 {
     let (id, weight) = two_in(value)?;
     let commit = commit(id)?;
