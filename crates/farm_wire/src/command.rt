@@ -42,17 +42,68 @@ pub fn command_of(alloc: Global, route: &Route, body: &[u8]) -> Result<Command, 
     ensures read { IfOk result (λ command. body_reading route.now body.now ≡ Ok command) }
     ensures refused { IfErr result (λ fault. fault ≢ WireFault.Memory → body_reading route.now body.now ≡ Err fault) }
 {
-    let mut scratch = Scratch::new(alloc);
     match route {
-        Route::Open => open_in(alloc, &object_of(alloc, body, &mut scratch)?),
-        Route::Lease => lease_in(alloc, &object_of(alloc, body, &mut scratch)?),
-        Route::Report(run) => report_in(*run, &object_of(alloc, body, &mut scratch)?),
-        Route::Cancel(search) => cancel_in(*search, &object_of(alloc, body, &mut scratch)?),
-        Route::Revert => revert_in(alloc, &object_of(alloc, body, &mut scratch)?),
+        Route::Open => open_of(alloc, body),
+        Route::Lease => lease_of(alloc, body),
+        Route::Report(run) => report_of(alloc, *run, body),
+        Route::Cancel(search) => cancel_of(alloc, *search, body),
+        Route::Revert => revert_of(alloc, body),
         Route::Search(search) => Ok(Command::ShowSearch { search: *search }),
         Route::Farm => Ok(Command::ShowFarm),
         Route::Orders => Ok(Command::ShowOrders),
     }
+}
+
+// The commands that have a body. Each makes the room to read it, so that a command without one clears none.
+
+#[tactic(auto, unfolding(crate::specs::Reading::body_reading))]
+fn open_of(alloc: Global, body: &[u8]) -> Result<Command, WireFault>
+    ensures read { IfOk result (λ command. body_reading Route.Open body.now ≡ Ok command) }
+    ensures refused { IfErr result (λ fault. fault ≢ WireFault.Memory
+        → body_reading Route.Open body.now ≡ Err fault) }
+{
+    let mut scratch = Scratch::new(alloc);
+    open_in(alloc, &object_of(alloc, body, &mut scratch)?)
+}
+
+#[tactic(auto, unfolding(crate::specs::Reading::body_reading))]
+fn lease_of(alloc: Global, body: &[u8]) -> Result<Command, WireFault>
+    ensures read { IfOk result (λ command. body_reading Route.Lease body.now ≡ Ok command) }
+    ensures refused { IfErr result (λ fault. fault ≢ WireFault.Memory
+        → body_reading Route.Lease body.now ≡ Err fault) }
+{
+    let mut scratch = Scratch::new(alloc);
+    lease_in(alloc, &object_of(alloc, body, &mut scratch)?)
+}
+
+#[tactic(auto, unfolding(crate::specs::Reading::body_reading))]
+fn report_of(alloc: Global, run: u32, body: &[u8]) -> Result<Command, WireFault>
+    ensures read { IfOk result (λ command. body_reading (Route.Report run) body.now ≡ Ok command) }
+    ensures refused { IfErr result (λ fault. fault ≢ WireFault.Memory
+        → body_reading (Route.Report run) body.now ≡ Err fault) }
+{
+    let mut scratch = Scratch::new(alloc);
+    report_in(run, &object_of(alloc, body, &mut scratch)?)
+}
+
+#[tactic(auto, unfolding(crate::specs::Reading::body_reading))]
+fn cancel_of(alloc: Global, search: u32, body: &[u8]) -> Result<Command, WireFault>
+    ensures read { IfOk result (λ command. body_reading (Route.Cancel search) body.now ≡ Ok command) }
+    ensures refused { IfErr result (λ fault. fault ≢ WireFault.Memory
+        → body_reading (Route.Cancel search) body.now ≡ Err fault) }
+{
+    let mut scratch = Scratch::new(alloc);
+    cancel_in(search, &object_of(alloc, body, &mut scratch)?)
+}
+
+#[tactic(auto, unfolding(crate::specs::Reading::body_reading))]
+fn revert_of(alloc: Global, body: &[u8]) -> Result<Command, WireFault>
+    ensures read { IfOk result (λ command. body_reading Route.Revert body.now ≡ Ok command) }
+    ensures refused { IfErr result (λ fault. fault ≢ WireFault.Memory
+        → body_reading Route.Revert body.now ≡ Err fault) }
+{
+    let mut scratch = Scratch::new(alloc);
+    revert_in(alloc, &object_of(alloc, body, &mut scratch)?)
 }
 
 /// The JSON object that a text is.
@@ -84,7 +135,8 @@ fn object_of<'a>(
 /// The command that a line's object asks for.
 fn command_in(alloc: Global, verb: Verb, object: &Document<'_>) -> Result<Command, WireFault>
     ensures read { IfOk result (λ command. command_in verb (document_data object.now) ≡ Ok command) }
-    ensures refused { IfErr result (λ fault. fault ≢ WireFault.Memory → command_in verb (document_data object.now) ≡ Err fault) }
+    ensures refused { IfErr result (λ fault. fault ≢ WireFault.Memory
+        → command_in verb (document_data object.now) ≡ Err fault) }
 {
     match verb {
         Verb::Open => open_in(alloc, object),
@@ -101,7 +153,8 @@ fn command_in(alloc: Global, verb: Verb, object: &Document<'_>) -> Result<Comman
 #[tactic(auto, unfolding(crate::specs::Reading::open_in))]
 fn open_in(alloc: Global, object: &Document<'_>) -> Result<Command, WireFault>
     ensures read { IfOk result (λ command. open_in (document_data object.now) ≡ Ok command) }
-    ensures refused { IfErr result (λ fault. fault ≢ WireFault.Memory → open_in (document_data object.now) ≡ Err fault) }
+    ensures refused { IfErr result (λ fault. fault ≢ WireFault.Memory
+        → open_in (document_data object.now) ≡ Err fault) }
 {
     let key = key_in(object)?;
     let test = name_in(alloc, object, Field::Test)?;
@@ -130,7 +183,8 @@ fn open_in(alloc: Global, object: &Document<'_>) -> Result<Command, WireFault>
 #[tactic(auto, unfolding(crate::specs::Reading::lease_in))]
 fn lease_in(alloc: Global, object: &Document<'_>) -> Result<Command, WireFault>
     ensures read { IfOk result (λ command. lease_in (document_data object.now) ≡ Ok command) }
-    ensures refused { IfErr result (λ fault. fault ≢ WireFault.Memory → lease_in (document_data object.now) ≡ Err fault) }
+    ensures refused { IfErr result (λ fault. fault ≢ WireFault.Memory
+        → lease_in (document_data object.now) ≡ Err fault) }
 {
     let key = key_in(object)?;
     let worker = name_in(alloc, object, Field::Worker)?;
@@ -173,7 +227,8 @@ fn cancel_line_in(object: &Document<'_>) -> Result<Command, WireFault>
 #[tactic(auto, unfolding(crate::specs::Reading::revert_in))]
 fn revert_in(alloc: Global, object: &Document<'_>) -> Result<Command, WireFault>
     ensures read { IfOk result (λ command. revert_in (document_data object.now) ≡ Ok command) }
-    ensures refused { IfErr result (λ fault. fault ≢ WireFault.Memory → revert_in (document_data object.now) ≡ Err fault) }
+    ensures refused { IfErr result (λ fault. fault ≢ WireFault.Memory
+        → revert_in (document_data object.now) ≡ Err fault) }
 {
     let key = key_in(object)?;
     let agent = name_in(alloc, object, Field::Agent)?;

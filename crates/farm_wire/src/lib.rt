@@ -8,10 +8,10 @@
 //! and `weight_exact` for the values in them, on `http_words` for routes, on `revert_orders` and `jiff` for dates, on
 //! `json_tape` for what is read, on `serde_json` and `json` for what is written, on `itoa` for digits, on `uuid` for
 //! keys, on `hex` for ids, and on `thiserror` for the texts of its faults. The layers above may use every name below.
-//! What a text says is defined by `line_reading` and `body_reading` of `specs/`, over the value that `serde_json` reads;
-//! what is written is `serde_json`'s text of `reply_data`, `refusal_data` and `fault_data`. Replies are written member
-//! by member into one text (`JsonText`), as `serde_json` writes their values; log pages and refusals, which are rare or
-//! long, go through a map of members (`JsonObject`).
+//! What a text says is defined by `line_reading` and `body_reading` of `specs/`, over the value that `serde_json`
+//! reads; what is written is `serde_json`'s text of `reply_data`, `refusal_data` and `fault_data`. Replies are written
+//! member by member into one text (`JsonText`), as `serde_json` writes their values; log pages and refusals, which are
+//! rare or long, go through a map of members (`JsonObject`).
 #![tactic(auto)]
 
 mod command;

@@ -43,7 +43,8 @@ module _ (ts : List Token) (read : is_some (data_at ts) ≡ true) where
       → o ≡ as_str (known (data_at ts))
   as_str-seen o seen = let r = Reads-known ts read in seen r.0 r.1 ∙ as_str-of_json r.0 _ r.2
 
-  pub as_number-none : ((j : json.Json) → BeginsWith ts j → None ≡ find.as_number j) → as_number (known (data_at ts)) ≡ None
+  pub as_number-none : ((j : json.Json) → BeginsWith ts j → None ≡ find.as_number j)
+      → as_number (known (data_at ts)) ≡ None
   as_number-none none =
       let r = Reads-known ts read in
       sym (as_number-of_json r.0 _ r.2) ∙ ap (option_and_then number_of) (sym (none r.0 r.1))
@@ -54,7 +55,8 @@ module _ (ts : List Token) (read : is_some (data_at ts) ≡ true) where
       let r = Reads-known ts read in
       sym (as_number-of_json r.0 _ r.2) ∙ ap (option_and_then number_of) (sym (some r.0 r.1))
 
-  pub as_array-none : ((j : json.Json) → BeginsWith ts j → find.as_array j ≡ None) → as_array (known (data_at ts)) ≡ None
+  pub as_array-none : ((j : json.Json) → BeginsWith ts j → find.as_array j ≡ None)
+      → as_array (known (data_at ts)) ≡ None
   as_array-none none =
       let r = Reads-known ts read in
       sym (as_array-of_json r.0 _ r.2) ∙ ap (option_and_then of_items) (none r.0 r.1)

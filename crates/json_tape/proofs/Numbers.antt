@@ -5,7 +5,8 @@ use Rattle.serde_json.specs.Data.{float, negative}
 use Rattle.serde_json.specs.Find.{as_u64}
 use Rattle.serde_json.specs.Read.{number_from, number_of}
 
-pub number_of-minus : (s : List ℕ) → (slice_index s 0 == minus) ≡ true → number_of s ≡ number_from true (scan (drop 1 s))
+pub number_of-minus : (s : List ℕ) → (slice_index s 0 == minus) ≡ true
+    → number_of s ≡ number_from true (scan (drop 1 s))
 unfolding number_of
 number_of-minus s e = rw e refl
 

@@ -64,8 +64,8 @@ no_items-item j js e =
     let found : json.Items → Option json.Json = λ is. find.get_item 0 is in
     not_found j (ap found e)
 
-items_spelled_at : (js : json.Items) (ts : List Token) (o : Option (List Token)) → after_end_array ts ≡ o → InItems ts js
-    → (r : List Token) × (ts ≡ items_tokens js ++ r)
+items_spelled_at : (js : json.Items) (ts : List Token) (o : Option (List Token)) → after_end_array ts ≡ o
+    → InItems ts js → (r : List Token) × (ts ≡ items_tokens js ++ r)
 items_spelled_at json.no_items ts (Some r) e h = (r, closed_array ts r e)
 items_spelled_at json.no_items ts None e h =
     let parts = items_go_on ts json.no_items e h in
@@ -77,7 +77,9 @@ items_spelled_at (json.item j js) ts None e h =
     let parts = items_go_on ts (json.item j js) e h in
     let head : j ≡ parts.1 = Some_inj _ _ (ap (λ is. find.get_item 0 is) parts.5) in
     let tail : js ≡ parts.3 = ap behind parts.5 in
-    let more = items_spelled_at js parts.2 (after_end_array parts.2) refl (subst (InItems parts.2) (sym tail) parts.6) in (
+    let more =
+    items_spelled_at js parts.2 (after_end_array parts.2) refl
+    (subst (InItems parts.2) (sym tail) parts.6) in (
       more.0,
       value-json_tokens_back parts.0 ts parts.2 parts.1 parts.4
           ∙ ap (λ i. json_tokens i ++ parts.2) (sym head)

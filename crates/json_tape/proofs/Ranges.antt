@@ -31,8 +31,8 @@ number_kept : (d : ℕ) (o : Option Num) (ts : List Token) → is_some o ≡ tru
 number_kept d o ts e = rw e refl
 
 mutual
-  depths-read : (j : json.Json) (x : Data) (d k : ℕ) (r : List Token) → d + k ≡ max_depth → depth j ≤ k → of_json j ≡ Some x
-      → depths d (json_tokens j ++ r) ≡ depths d r
+  depths-read : (j : json.Json) (x : Data) (d k : ℕ) (r : List Token) → d + k ≡ max_depth → depth j ≤ k
+      → of_json j ≡ Some x → depths d (json_tokens j ++ r) ≡ depths d r
   depths-read json.null x d k r room within e = refl
   depths-read (json.boolean b) x d k r room within e = refl
   depths-read (json.number s) x d k r room within e =
@@ -81,8 +81,8 @@ number_accepted d e None ts h = not_found e h
 number_accepted d e (Some n) ts h = (n, refl, h)
 
 mutual
-  read-depths : (j : json.Json) (d k e : ℕ) (r : List Token) → d + k ≡ max_depth → depths d (json_tokens j ++ r) ≡ Some e
-      → (depth j ≤ k) × (x : Data) × (of_json j ≡ Some x) × (depths d r ≡ Some e)
+  read-depths : (j : json.Json) (d k e : ℕ) (r : List Token) → d + k ≡ max_depth
+      → depths d (json_tokens j ++ r) ≡ Some e → (depth j ≤ k) × (x : Data) × (of_json j ≡ Some x) × (depths d r ≡ Some e)
   read-depths json.null d k e r room h = (omega arith, _, refl, h)
   read-depths (json.boolean b) d k e r room h = (omega arith, _, refl, h)
   read-depths (json.number s) d k e r room h =
@@ -149,7 +149,8 @@ unread_at text None e nothing = refl
 unread_at text (Some (i, [])) e nothing = nothing i e
 unread_at text (Some (i, t ∷ ts)) e nothing = refl
 
-unread : (text : List ℕ) → ((i : json.Json) → value max_depth (tokens text) ≡ Some (i, []) → of_json i ≡ None) → read text ≡ None
+unread : (text : List ℕ) → ((i : json.Json) → value max_depth (tokens text) ≡ Some (i, []) → of_json i ≡ None)
+    → read text ≡ None
 unread text nothing = unread_at text (value max_depth (tokens text)) refl nothing
 
 not_some : {A : Type 0} (o : Option A) → ((a : A) → o ≡ Some a → ⊥) → o ≡ None

@@ -38,7 +38,8 @@ get_member-of_members name (json.member k j ms) found out e =
     (get_member-of_members name ms (put k first.0 found) out first.2)
 
 -- a look-up in a value finds what the one in its JSON finds
-pub get-of_json : (name : List ℕ) (j : json.Json) (d : Data) → of_json j ≡ Some d → FoundIn (find.get name j) None (get name d)
+pub get-of_json : (name : List ℕ) (j : json.Json) (d : Data) → of_json j ≡ Some d
+    → FoundIn (find.get name j) None (get name d)
 get-of_json name json.null d e = ap (get name) (sym (Some_inj _ _ e))
 get-of_json name (json.boolean b) d e = ap (get name) (sym (Some_inj _ _ e))
 get-of_json name (json.number s) d e = ap (get name) (mapped_some number (number_of s) d e).2

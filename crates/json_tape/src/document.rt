@@ -39,7 +39,7 @@ impl<'a> Document<'a> {
         ensures ok { IfOk result (λ d. IsUtf8 bytes.now × (read bytes.now ≡ Some (document_data d))) }
         ensures refused { IfErr result (λ e. e ≢ Unread.Memory → IsUtf8 bytes.now → read bytes.now ≡ None) }
     {
-        let Ok(text) = std::str::from_utf8(bytes) else {
+        let Ok(text) = simdutf8::compat::from_utf8(bytes) else {
             return Err(Unread::Malformed);
         };
         let tape = match Tape::parse(text, scratch, Vec::new(alloc)) {

@@ -8,11 +8,13 @@ returns-then-has_minus c =
     let s = c.as_bytes-bytes.result.now in
     c.is_below_zero.ensures
     ∙ ap (λ p. is_some (number_from true p)) (c.scan.ensures.parts ∙ scan-behind s)
-    ∙ ap is_some (sym (number_of-minus s (sym c.if-has_minus.ensures.value)) ∙ ap number_of c.as_bytes-bytes.ensures.value)
+    ∙ ap is_some
+    (sym (number_of-minus s (sym c.if-has_minus.ensures.value)) ∙ ap number_of c.as_bytes-bytes.ensures.value)
 
 pub returns-else-has_minus : goal.returns-else-has_minus
 returns-else-has_minus c =
     let s = c.as_bytes-bytes.result.now in
     c.is_above_zero.ensures
     ∙ ap (λ p. is_some (number_from false p)) c.scan-else-has_minus.ensures.parts
-    ∙ ap is_some (sym (number_of-digits s (sym c.if-has_minus.ensures.value)) ∙ ap number_of c.as_bytes-bytes.ensures.value)
+    ∙ ap is_some
+    (sym (number_of-digits s (sym c.if-has_minus.ensures.value)) ∙ ap number_of c.as_bytes-bytes.ensures.value)

@@ -12,7 +12,8 @@ returns-in-Err-Invalid c =
       ok = tt;
       refused =
           λ _ _. subst (λ t. read t ≡ None) c.in-Ok.ensures.cases.0
-          (read-invalid c.in-Ok.text.now (c.in-Err-Invalid.ensures.invalid (ap (λ e. Err e) c.in-Err-Invalid.field-0-is)));
+          (read-invalid c.in-Ok.text.now
+          (c.in-Err-Invalid.ensures.invalid (ap (λ e. Err e) c.in-Err-Invalid.field-0-is)));
     }
 
 pub invariant_of-result : goal.invariant_of-result
