@@ -28,6 +28,14 @@ asked-append clock [] item (other ∷ asks) ask q a = absurd q
 asked-append clock (i ∷ items) item [] ask q a = absurd q
 asked-append clock (i ∷ items) item (other ∷ asks) ask q a = (q.0, asked-append clock items item asks ask q.1 a)
 
+-- a batch has a command
+pub batch-some : (clock : Moment → Type 0) (complete : Bool) (held : List ℕ) (b : BatchState) → IsBatch clock complete held b → 1 ≤ length b.asks
+batch-some clock complete held b is = some b.asks is.asked
+  where
+    some : (asks : List Ask) → AreAsked clock (is.first ∷ is.others) asks → 1 ≤ length asks
+    some [] asked = absurd asked
+    some (ask ∷ asks) asked = omega arith
+
 put_as-append : (items : List Item) (item : Item) (requests : List Request) (request : Request) → ArePutAs items requests
     → IsPutAs item request → ArePutAs (items ++ item ∷ []) (requests ++ request ∷ [])
 put_as-append [] item [] request p a = (a, tt)

@@ -10,3 +10,4 @@ pub mod Receiving
 pub mod Single
 pub mod LogPage
 pub mod Handed
+pub mod SameTotals

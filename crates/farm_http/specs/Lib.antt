@@ -6,3 +6,4 @@ pub mod Batches
 pub mod Turns
 pub mod Faults
 pub mod Connection
+pub mod Told

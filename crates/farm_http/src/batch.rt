@@ -11,12 +11,13 @@ use farm_store::{Ask, MAX_BATCH};
 use farm_wire::command_of;
 use http_requests::{Next, Reading, Request, next_of};
 use http_routes::Pages;
-use http_words::Endpoint;
+use http_words::{Endpoint, Fault};
 use link_io::Clock;
 use std::alloc::Global;
 use std::marker::Model;
 
-/// The commands of a batch, at least one, the request of each, and how many of the bytes held the requests take.
+/// The commands of a batch, the request of each, and how many of the bytes held the requests take. A connection keeps one,
+/// so that its room is made once: it has no commands before the first batch.
 #[derive(Drop)]
 pub(crate) struct Batch {
     asks: Vec<Ask>,
@@ -39,35 +40,57 @@ impl Model for Batch {
       closes = b.last.closes;
     } };
 
-    ghost invariant = { λ b. (1 ≤ length b.asks.items) × (length b.asks.items ≤ MAX_BATCH) };
+    ghost invariant = { λ b. length b.asks.items ≤ MAX_BATCH };
 }
 
+/// What stands where a batch has no request.
+const NO_REQUEST: Request = Request {
+    interim: false,
+    withheld: false,
+    closes: true,
+    asks: Err(Fault::BadRequest),
+    body: 0,
+    size: 0,
+};
+
 impl Batch {
-    /// A batch of one command, unless memory runs out for it.
-    pub fn of(alloc: Global, first: &Request, ask: Ask) -> Option<Batch>
-        ensures { IfSome result (λ batch. batch ≡ record {
+    /// No command yet.
+    pub fn new(alloc: Global) -> Batch {
+        Batch {
+            asks: Vec::new(alloc),
+            requests: [NO_REQUEST; MAX_BATCH],
+            last: NO_REQUEST,
+            size: 0,
+        }
+    }
+
+    /// Begins a batch of one command in the place of the last one, and says whether there was memory for it.
+    pub fn begin(&mut self, first: &Request, ask: Ask) -> bool
+        ensures { result ≡ true → self.new ≡ record {
           asks = ask ∷ [];
           requests = first.now ∷ [];
           size = first.now.size;
           closes = first.now.closes;
-        }) }
+        } }
     {
-        let mut asks = Vec::new(alloc);
-        if asks.push(ask).is_err() {
-            return None;
+        self.asks.clear();
+        if self.asks.push(ask).is_err() {
+            return false;
         }
-        Some(Batch {
-            asks,
-            requests: [*first; MAX_BATCH],
-            last: *first,
-            size: first.size,
-        })
+        self.requests[0] = *first;
+        self.last = *first;
+        self.size = first.size;
+        true
+    }
+
+    /// Lets the commands go, whose memory isn't kept while more bytes are waited for.
+    pub fn clear(&mut self) {
+        self.asks.clear();
     }
 
     /// The commands, with their moments.
     pub fn asks(&self) -> &[Ask]
         ensures value { result.now ≡ self.now.asks }
-        ensures some { 1 ≤ length result.now }
         ensures few { length result.now ≤ MAX_BATCH }
     {
         &self.asks

@@ -41,6 +41,7 @@ pub(crate) fn answer_commands<R: Wait, L: Link, D: Disk, B: Beginning, C: Clock>
     pages: &Pages,
     shared: &SharedFarm<D, B>,
     pass: &mut Pass,
+    batch: &mut Batch,
     out: &mut Gathered,
     link: &mut L,
     clock: &C,
@@ -72,17 +73,19 @@ pub(crate) fn answer_commands<R: Wait, L: Link, D: Disk, B: Beginning, C: Clock>
         }
     };
     let at = clock.now();
-    let Some(mut batch) = Batch::of(alloc, first, Ask { command, at }) else {
+    if !batch.begin(first, Ask { command, at }) {
         put_response(out, link, first, &Says::no_memory())?;
         return Ok(Answered::one(first));
-    };
+    }
     batch.gather(alloc, pages, clock, held, received.is_complete());
-    answer_batch(rt, alloc, shared, pass, out, link, &batch)?;
-    Ok(Answered {
+    answer_batch(rt, alloc, shared, pass, out, link, batch)?;
+    let done = Answered {
         requests: batch.asks().len() as u64,
         size: batch.size(),
         closes: batch.closes(),
-    })
+    };
+    batch.clear();
+    Ok(done)
 }
 
 /// Answers a request whose body is no command, or for whose reading memory ran out.
@@ -127,6 +130,7 @@ fn answer_batch<R: Wait, L: Link, D: Disk, B: Beginning>(
     batch: &Batch,
 ) -> Result<(), ServeFault>
     requires ready { IsReady shared.now pass.old }
+    requires some { 1 ≤ length batch.now.asks }
     requires empty { out.old ≡ [] }
     ensures ready { IsReady shared.now pass.new }
     ensures empty { OnOk result (out.new ≡ []) }

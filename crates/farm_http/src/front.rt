@@ -16,12 +16,12 @@ ghost use Rattle.farm_http.specs.Fronts.{FrontSays};
 ghost use Rattle.farm_http.specs.Received.{is_complete};
 
 use crate::commands::answer_commands;
+use crate::kept::{Kept, ToldTotals, tell};
 use crate::log_page::answer_log;
 use crate::received::Received;
 use crate::responses::{Says, put_response};
 use connection_laws::ServeFault;
 use farm_disk::Disk;
-use farm_wire::totals_text;
 use gathered_sink::Gathered;
 use http_answers::{fault_allow, fault_status, fault_text};
 use http_requests::Request;
@@ -66,6 +66,7 @@ pub(crate) fn answer_front<R: Wait, L: Link, D: Disk, B: Beginning, C: Clock>(
     shared: &SharedFarm<D, B>,
     pass: &mut Pass,
     reader: &mut TotalsReader,
+    kept: &mut Kept,
     out: &mut Gathered,
     link: &mut L,
     clock: &C,
@@ -88,10 +89,21 @@ pub(crate) fn answer_front<R: Wait, L: Link, D: Disk, B: Beginning, C: Clock>(
 {
     match first.asks {
         Ok(Endpoint::Command(route)) => answer_commands(
-            rt, alloc, pages, shared, pass, out, link, clock, received, first, route,
+            rt,
+            alloc,
+            pages,
+            shared,
+            pass,
+            &mut kept.batch,
+            out,
+            link,
+            clock,
+            received,
+            first,
+            route,
         ),
         Ok(Endpoint::Totals) => {
-            answer_totals(alloc, reader, out, link, first)?;
+            answer_totals(alloc, reader, &mut kept.told, out, link, first)?;
             Ok(Answered::one(first))
         }
         Ok(Endpoint::Log(from)) => {
@@ -132,6 +144,7 @@ fn answer_fault<K: Sink>(
 fn answer_totals<K: Sink>(
     alloc: Global,
     reader: &mut TotalsReader,
+    told: &mut Option<ToldTotals>,
     out: &mut Gathered,
     link: &mut K,
     request: &Request,
@@ -147,12 +160,12 @@ fn answer_totals<K: Sink>(
     ensures cause { OnLinkFault result (Rose (K.count link.old) (K.count link.new)) }
     ensures never_falls { K.count link.old ≤ K.count link.new }
 {
-    let totals = reader.totals();
-    match totals_text(alloc, &totals) {
-        Ok(text) => {
-            let says = Says::plain(StatusCode::Ok, text.as_bytes());
+    tell(alloc, told, reader.totals());
+    match told {
+        Some(last) => {
+            let says = Says::plain(StatusCode::Ok, last.text().as_bytes());
             put_response(out, link, request, &says)
         }
-        Err(_) => put_response(out, link, request, &Says::no_memory()),
+        None => put_response(out, link, request, &Says::no_memory()),
     }
 }

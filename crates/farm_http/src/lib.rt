@@ -13,6 +13,7 @@ mod batch;
 mod commands;
 mod fault_answers;
 mod front;
+mod kept;
 mod log_page;
 mod received;
 mod responses;

@@ -17,6 +17,7 @@ ghost use Rattle.farm_http.specs.Faults.{OnLinkFault};
 ghost use Rattle.farm_http.specs.Received.{AsksInterim, is_complete, nothing_received};
 
 use crate::front::answer_front;
+use crate::kept::Kept;
 use crate::received::Received;
 use connection_laws::{ServeFault, Served, Why};
 use farm_disk::Disk;
@@ -61,6 +62,7 @@ pub fn serve_link<R: Wait, L: Link, D: Disk, B: Beginning, C: Clock>(
     ensures never_falls { L.Source.count link.old ≤ L.Source.count link.new }
 {
     let mut received = Received::new(alloc);
+    let mut kept = Kept::new(alloc);
     let mut out = Gathered::new();
     let result = serve_all(
         rt,
@@ -69,6 +71,7 @@ pub fn serve_link<R: Wait, L: Link, D: Disk, B: Beginning, C: Clock>(
         shared,
         pass,
         reader,
+        &mut kept,
         &mut out,
         link,
         clock,
@@ -91,6 +94,7 @@ fn serve_all<R: Wait, L: Link, D: Disk, B: Beginning, C: Clock>(
     shared: &SharedFarm<D, B>,
     pass: &mut Pass,
     reader: &mut TotalsReader,
+    kept: &mut Kept,
     out: &mut Gathered,
     link: &mut L,
     clock: &C,
@@ -117,6 +121,7 @@ fn serve_all<R: Wait, L: Link, D: Disk, B: Beginning, C: Clock>(
             shared,
             pass,
             reader,
+            kept,
             out,
             link,
             clock,
@@ -138,6 +143,7 @@ fn serve_next<R: Wait, L: Link, D: Disk, B: Beginning, C: Clock>(
     shared: &SharedFarm<D, B>,
     pass: &mut Pass,
     reader: &mut TotalsReader,
+    kept: &mut Kept,
     out: &mut Gathered,
     link: &mut L,
     clock: &C,
@@ -175,7 +181,7 @@ fn serve_next<R: Wait, L: Link, D: Disk, B: Beginning, C: Clock>(
         Next::Request(first) => {
             received.put_interim(first.interim, link)?;
             answer_next(
-                rt, alloc, pages, shared, pass, reader, out, link, clock, received, requests,
+                rt, alloc, pages, shared, pass, reader, kept, out, link, clock, received, requests,
                 &first,
             )
         }
@@ -190,6 +196,7 @@ fn answer_next<R: Wait, L: Link, D: Disk, B: Beginning, C: Clock>(
     shared: &SharedFarm<D, B>,
     pass: &mut Pass,
     reader: &mut TotalsReader,
+    kept: &mut Kept,
     out: &mut Gathered,
     link: &mut L,
     clock: &C,
@@ -216,7 +223,7 @@ fn answer_next<R: Wait, L: Link, D: Disk, B: Beginning, C: Clock>(
     ensures never_falls { L.Source.count link.old ≤ L.Source.count link.new }
 {
     let done = answer_front(
-        rt, alloc, pages, shared, pass, reader, out, link, clock, received, first,
+        rt, alloc, pages, shared, pass, reader, kept, out, link, clock, received, first,
     )?;
     *requests += done.requests;
     if done.closes {

@@ -1,4 +1,4 @@
-use Rattle.std.proofs.Common.{◌∙◌, List, ap, subst, sym, length}
+use Rattle.std.proofs.Common.{◌∙◌, ◌≤◌, List, ap, subst, sym, length}
 use Rattle.std.specs.List.{All}
 use Rattle.farm_answers.specs.Texts.{AnswerHasDates}
 use Rattle.farm_store.specs.declared.asking.Answer.{Answer}
@@ -17,3 +17,6 @@ put_answers-requires-clause-dates g c =
     subst (λ (l : List Answer). All AnswerHasDates l) (sym c.as_slice.ensures)
     (turn-dates g.D.Disk.count c.asks.result.now c.in-Ok.answers c.args.pass.now c.call_batch.new.pass c.in-Ok.ensures.turn
     c.in-Ok.ensures.legal)
+
+pub call_batch-requires-clause-some : goal.call_batch-requires-clause-some
+call_batch-requires-clause-some g c = subst (λ (l : List Ask). 1 ≤ length l) (sym c.asks.ensures.value) c.requires.some

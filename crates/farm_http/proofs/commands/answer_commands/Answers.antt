@@ -16,7 +16,7 @@ use Rattle.farm_http.specs.Bytes.{PutSays, request_bytes}
 use Rattle.farm_http.specs.Received.{is_complete}
 use Rattle.farm_http.specs.declared.front.Answered.{Answered}
 use Rattle.farm_http.proofs.BatchSteps.{batch-put_err, batch-put_ok, batch-says}
-use Rattle.farm_http.proofs.Gathering.{batch-one}
+use Rattle.farm_http.proofs.Gathering.{batch-one, batch-some}
 use Rattle.farm_http.proofs.Single.{answered-all, answered-one, batch-shown, next-bytes, no-answer, ok-answer, one_answered, put-as_err, unasked-says, unread-says}
 use Rattle.farm_http.proofs.commands.answer_commands.Goals as goal
 
@@ -85,16 +85,19 @@ gather-requires g c =
     let read : body_reading c.args.route (slice_range r.held first.body first.size) ≡ Ok c.in-Ok.command =
     subst (λ (l : List ℕ). body_reading c.args.route (slice_range l first.body first.size) ≡ Ok c.in-Ok.command)
     c.held-held.ensures c.in-Ok.ensures.read in
-    let whole = batch-one clock (is_complete r) r.held first ask c.in-Some.batch c.requires.next
+    let whole = batch-one clock (is_complete r) r.held first ask c.begin.new.self c.requires.next
     (next-bytes (is_complete r) r.held first c.requires.next)
     (record {
       command =
           ap (λ (a : Result Endpoint Fault). kind_by a (item_in r.held first).body) c.requires.asks
           ∙ ap (λ (x : Result Command WireFault). commands x) read;
       moment = (c.now-at.ensures.shown, c.now-at.ensures.told);
-    }) c.in-Some.ensures in
-    subst (λ (b : Bool). IsBatch clock b c.held-held.result.now c.in-Some.batch) (sym c.is_complete.ensures)
-    (subst (λ (l : List ℕ). IsBatch clock (is_complete r) l c.in-Some.batch) (sym c.held-held.ensures) whole)
+    }) (c.begin.ensures c.if-not-begin.false) in
+    subst (λ (b : Bool). IsBatch clock b c.held-held.result.now c.begin.new.self) (sym c.is_complete.ensures)
+    (subst (λ (l : List ℕ). IsBatch clock (is_complete r) l c.begin.new.self) (sym c.held-held.ensures) whole)
+
+pub answer_batch-requires-clause-some : goal.answer_batch-requires-clause-some
+answer_batch-requires-clause-some g c = batch-some _ _ _ c.gather.new.self c.gather.ensures
 
 pub returns-in_err-answer_batch-clause-says : goal.returns-in_err-answer_batch-clause-says
 returns-in_err-answer_batch-clause-says g c = λ prog w.
