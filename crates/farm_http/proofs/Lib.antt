@@ -11,3 +11,4 @@ pub mod Single
 pub mod LogPage
 pub mod Handed
 pub mod SameTotals
+pub mod Telling

@@ -22,8 +22,9 @@ use std::marker::Model;
 pub(crate) struct Batch {
     asks: Vec<Ask>,
     requests: [Request; MAX_BATCH],
-    last: Request,
     size: usize,
+    /// Whether the last request closes the connection.
+    closes: bool,
 }
 
 impl Model for Batch {
@@ -37,7 +38,7 @@ impl Model for Batch {
       asks = b.asks.items;
       requests = take (length b.asks.items) b.requests;
       size = b.size;
-      closes = b.last.closes;
+      closes = b.closes;
     } };
 
     ghost invariant = { λ b. length b.asks.items ≤ MAX_BATCH };
@@ -59,8 +60,8 @@ impl Batch {
         Batch {
             asks: Vec::new(alloc),
             requests: [NO_REQUEST; MAX_BATCH],
-            last: NO_REQUEST,
             size: 0,
+            closes: false,
         }
     }
 
@@ -74,12 +75,13 @@ impl Batch {
         } }
     {
         self.asks.clear();
-        if self.asks.push(ask).is_err() {
+        if self.asks.reserve(MAX_BATCH).is_err() {
             return false;
         }
+        self.asks.push_reserved(ask);
         self.requests[0] = *first;
-        self.last = *first;
         self.size = first.size;
+        self.closes = first.closes;
         true
     }
 
@@ -115,14 +117,14 @@ impl Batch {
     pub fn closes(&self) -> bool
         ensures { result ≡ self.now.closes }
     {
-        self.last.closes
+        self.closes
     }
 
     /// Whether one more command may be in it.
     fn is_open(&self) -> bool
         ensures { result ≡ true → (length self.now.asks + 1 ≤ MAX_BATCH) × (self.now.closes ≡ false) }
     {
-        self.asks.len() < MAX_BATCH && !self.last.closes
+        self.asks.len() < MAX_BATCH && !self.closes
     }
 
     /// Adds a command, and says whether there was memory for it.
@@ -138,13 +140,51 @@ impl Batch {
         ensures kept { result ≡ false → self.new ≡ self.old }
     {
         let place = self.asks.len();
-        if self.asks.push(ask).is_err() {
+        if self.asks.reserve(1).is_err() {
             return false;
         }
+        self.asks.push_reserved(ask);
         self.requests[place] = *request;
-        self.last = *request;
         self.size += request.size;
+        self.closes = request.closes;
         true
+    }
+
+    /// Adds the command that stands whole in the bytes held behind those of the batch, and says whether there is one: a
+    /// request whose interim answer has to be put is none, nor is a body that is no command or for which memory runs
+    /// out. It is asked at a moment that the clock gives now.
+    fn add_next<C: Clock>(
+        &mut self,
+        alloc: Global,
+        pages: &Pages,
+        clock: &C,
+        held: &[u8],
+        complete: bool,
+    ) -> bool
+        requires batch { IsBatch (MayGive C.Clock clock.now) complete held.now self.old }
+        requires room { length self.old.asks + 1 ≤ MAX_BATCH }
+        requires open { self.old.closes ≡ false }
+        ensures batch { IsBatch (MayGive C.Clock clock.now) complete held.now self.new }
+        ensures more { result ≡ true → length self.new.asks ≡ length self.old.asks + 1 }
+    {
+        let rest = &held[self.size..];
+        let next = next_of(pages, &mut Reading::new(), rest, complete);
+        let Next::Request(request) = &next else {
+            return false;
+        };
+        if request.interim {
+            return false;
+        }
+        let Ok(Endpoint::Command(route)) = &request.asks else {
+            return false;
+        };
+        match command_of(alloc, route, &rest[request.body..request.size]) {
+            Ok(command) => {
+                let at = clock.now();
+                self.add(request, Ask { command, at })
+            }
+            Err(_) => false,
+        }
     }
 
     /// Adds the commands that stand whole in the bytes held behind those of the batch, as many as may share a turn: it
@@ -163,40 +203,9 @@ impl Batch {
         ensures { IsBatch (MayGive C.Clock clock.now) complete held.now self.new }
     {
         while self.is_open() {
-            let rest = &held[self.size..];
-            let Some((request, command)) = next_command(alloc, pages, rest, complete) else {
-                return;
-            };
-            let at = clock.now();
-            if !self.add(&request, Ask { command, at }) {
+            if !self.add_next(alloc, pages, clock, held, complete) {
                 return;
             }
         }
-    }
-}
-
-/// The request at the front of the bytes, where it is whole, has no interim answer, and its body is a command.
-fn next_command(
-    alloc: Global,
-    pages: &Pages,
-    held: &[u8],
-    complete: bool,
-) -> Option<(Request, Command)>
-    ensures next { IfSome result (λ found. IsNextFor complete held.now found.0) }
-    ensures at_once { IfSome result (λ found. found.0.interim ≡ false) }
-    ensures asks { IfSome result (λ found. kind_of (item_in held.now found.0) ≡ commands (Ok found.1)) }
-{
-    let Next::Request(request) = next_of(pages, &mut Reading::new(), held, complete) else {
-        return None;
-    };
-    if request.interim {
-        return None;
-    }
-    let Ok(Endpoint::Command(route)) = request.asks else {
-        return None;
-    };
-    match command_of(alloc, &route, &held[request.body..request.size]) {
-        Ok(command) => Some((request, command)),
-        Err(_) => None,
     }
 }

@@ -16,17 +16,18 @@ ghost use Rattle.farm_http.specs.Fronts.{FrontSays};
 ghost use Rattle.farm_http.specs.Received.{is_complete};
 
 use crate::commands::answer_commands;
-use crate::kept::{Kept, ToldTotals, tell};
+use crate::kept::Kept;
 use crate::log_page::answer_log;
 use crate::received::Received;
-use crate::responses::{Says, put_response};
+use crate::responses::{Says, put_bytes, put_response};
+use crate::told::{ToldTotals, tell};
 use connection_laws::ServeFault;
 use farm_disk::Disk;
 use gathered_sink::Gathered;
 use http_answers::{fault_allow, fault_status, fault_text};
 use http_requests::Request;
 use http_routes::Pages;
-use http_words::{Endpoint, Fault, StatusCode};
+use http_words::{Endpoint, Fault};
 use link_io::{Clock, Link, Sink};
 use shared_farm::{Beginning, Pass, SharedFarm, TotalsReader};
 use std::alloc::Global;
@@ -160,12 +161,10 @@ fn answer_totals<K: Sink>(
     ensures cause { OnLinkFault result (Rose (K.count link.old) (K.count link.new)) }
     ensures never_falls { K.count link.old ≤ K.count link.new }
 {
-    tell(alloc, told, reader.totals());
+    let totals = reader.totals();
+    tell(alloc, told, &totals, request);
     match told {
-        Some(last) => {
-            let says = Says::plain(StatusCode::Ok, last.text().as_bytes());
-            put_response(out, link, request, &says)
-        }
+        Some(last) => put_bytes(link, last.bytes()),
         None => put_response(out, link, request, &Says::no_memory()),
     }
 }

@@ -14,10 +14,12 @@ mod commands;
 mod fault_answers;
 mod front;
 mod kept;
+mod kept_bytes;
 mod log_page;
 mod received;
 mod responses;
 mod serve;
+mod told;
 
 pub use connection_laws::{ServeFault, Served, Why};
 pub use http_routes::Pages;

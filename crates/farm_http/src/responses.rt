@@ -12,7 +12,7 @@ use gathered_sink::Gathered;
 use http_answers::{Answer, memory_text, put_answer};
 use http_requests::Request;
 use http_words::{Allow, StatusCode};
-use link_io::Sink;
+use link_io::{Sink, put_all};
 
 /// What an answer says, apart from how it is put.
 #[derive(Clone, Copy)]
@@ -44,7 +44,7 @@ impl<'b> Says<'b> {
     }
 
     /// The answer to a request.
-    fn answer_to(&self, request: &Request) -> Answer<'b>
+    pub fn answer_to(&self, request: &Request) -> Answer<'b>
         ensures { answer_bytes result ≡ request_bytes request.now (said self.now) }
     {
         Answer {
@@ -110,6 +110,19 @@ pub(crate) fn put_behind<K: Sink>(
         return Ok(());
     }
     match put_answer(link, &answer) {
+        Ok(()) => Ok(()),
+        Err(fault) => Err(unput(fault)),
+    }
+}
+
+/// Puts bytes to a link.
+pub(crate) fn put_bytes<K: Sink>(link: &mut K, bytes: &[u8]) -> Result<(), ServeFault>
+    ensures says { PutSays bytes.now (K.written link.old) (K.written link.new) result }
+    ensures aside { K.aside link.new ≡ K.aside link.old }
+    ensures cause { OnLinkFault result (Rose (K.count link.old) (K.count link.new)) }
+    ensures never_falls { K.count link.old ≤ K.count link.new }
+{
+    match put_all(link, bytes) {
         Ok(()) => Ok(()),
         Err(fault) => Err(unput(fault)),
     }
