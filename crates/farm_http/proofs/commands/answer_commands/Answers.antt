@@ -63,13 +63,13 @@ returns-in_err-put_response-clause-says g c = λ prog w.
     (subst (λ (x : Response). PutSays (request_bytes first x) before last result) c.no_memory.ensures
     (put-as_err _ before last result p.0 p.1 c.in_err-put_response.ensures.says))
 
-pub returns-in_default-clause-says : goal.returns-in_default-clause-says
-returns-in_default-clause-says g c = λ prog w.
+pub returns-then-not-begin-clause-says : goal.returns-then-not-begin-clause-says
+returns-then-not-begin-clause-says g c = λ prog w.
     let first = c.args.first.now in
     let r = c.args.received.now in
     let before = g.L.Sink.written c.args.link.now in
     let last = g.L.Sink.written c.put_response.new.link in
-    let one = c.one-in_default in
+    let one = c.one-then-not-begin in
     unread-says (MayGive g.C.Clock c.args.clock.now) prog (is_complete r) r.held r.interim before last c.args.pass.now first
     c.requires.next c.requires.interim w c.args.route c.requires.asks (Ok one.result)
     (ok-answer (one_answered first) one.result (answered-one one.result first one.ensures.requests one.ensures.size one.ensures.closes))
