@@ -16,8 +16,8 @@ use link_io::Clock;
 use std::alloc::Global;
 use std::marker::Model;
 
-/// The commands of a batch, the request of each, and how many of the bytes held the requests take. A connection keeps one,
-/// so that its room is made once: it has no commands before the first batch.
+/// The commands of a batch, the request of each, and how many of the bytes held the requests take. A connection keeps
+/// one, so that its room is made once: it has no commands before the first batch.
 #[derive(Drop)]
 pub(crate) struct Batch {
     asks: Vec<Ask>,
