@@ -22,7 +22,7 @@ pub enum StatedLength {
 
 /// The length that a value of `Content-Length` states.
 #[tactic(auto, using(std::proofs::lemmas::Bool::Decides::nat_tests))]
-fn length_in(value: &[u8]) -> StatedLength
+pub fn length_in(value: &[u8]) -> StatedLength
     ensures { result ≡ length_in value.now }
 {
     if !are_digits(value) {

@@ -13,5 +13,6 @@ mod named;
 mod text;
 
 pub use fields::Fields;
-pub use lengths::StatedLength;
+pub use lengths::{StatedLength, length_in};
+pub use named::lists_close;
 pub use text::{cut, is_same, trimmed};

@@ -82,7 +82,7 @@ impl<'b> Fields<'b> {
 }
 
 /// Whether `close` stands between the commas of a value.
-fn lists_close(value: &[u8]) -> bool
+pub fn lists_close(value: &[u8]) -> bool
     ensures { result ≡ lists_close value.now }
 {
     let mut rest = Some(value);

@@ -1,9 +1,12 @@
 -- The facts of fields, gathered of some and of those behind them.
-use Rattle.std.proofs.Common.{ℕ, zero, suc, ◌≡◌, ◌≤◌, ◌<◌, take, drop, get_or, arith, Bool, true, false, cond, List, [], ◌∷◌, ◌++◌, length, map, filter, codes, refl, sym, ap, subst, ◌∙◌, nat_lt}
+use Rattle.std.proofs.Common.{ℕ, zero, suc, ◌≡◌, ◌≤◌, ◌<◌, drop, get_or, arith, Bool, true, false, cond, List, [], ◌∷◌, ◌++◌, length, map, filter, codes, refl, sym, ap, subst, ◌∙◌, nat_lt, ⊎_elim}
 use Rattle.std.specs.Prelude.{◌||◌, ◌==◌}
 use Rattle.std.specs.List.{All, list_any}
-use Rattle.std.proofs.Math.Bool.{or-false}
-use Rattle.std.proofs.lemmas.Bool.{ltb-false, lt-ltb, ne_eqb}
+use Rattle.std.specs.Char.{to_ascii_lowercase}
+use Rattle.std.proofs.Math.Bool.{or-false, or-true}
+use Rattle.std.proofs.lemmas.Bool.{cases_Bool, eqb-false, ltb-false, lt-ltb, ne_eqb}
+use Rattle.std.proofs.lemmas.List.{length-map}
+use Rattle.std.proofs.lemmas.Slice.Eq.{bytes_eq-Decides}
 use Rattle.std.proofs.lemmas.List.Elements.{All-tail}
 use Rattle.std.proofs.lemmas.List.Folds.{list_any-append}
 use Rattle.http_words.specs.declared.limits.TheConstants.{MAX_BODY_BYTES}
@@ -12,10 +15,12 @@ use Rattle.http_fields.specs.Lengths.{StatesWithin, length_by, length_in, stated
 use Rattle.http_fields.specs.Texts.{same_text}
 use Rattle.http_fields.specs.declared.lengths.StatedLength.{StatedLength}
 use Rattle.http_fields.specs.declared.lengths.StatedLength.TheVariants.{Absent, Bytes, TooLong, Malformed}
-use Rattle.httparse.specs.Spans.{IsHeaderWithin, header_bytes, span_bytes}
+use Rattle.httparse.specs.Spans.{IsHeaderWithin, header_bytes}
 use Rattle.httparse.specs.declared.spans.HeaderSpan.{HeaderSpan}
-use Rattle.http_requests.specs.Facts.{IsOne, facts_of, is_once, joined, seen_both, seen_of, stated_again, stated_both}
+use Rattle.http_requests.specs.Facts.{IsAsked, facts_of, is_once, joined, seen_both, seen_of, stated_again, stated_both, with_field}
 use Rattle.http_requests.specs.Framing.{has_coding}
+use Rattle.http_requests.specs.declared.facts.Asked.{Asked}
+use Rattle.http_requests.specs.declared.facts.Asked.TheVariants as asked
 use Rattle.http_requests.specs.declared.facts.Facts.{Facts}
 use Rattle.http_requests.specs.declared.facts.Seen.{Seen}
 use Rattle.http_requests.specs.declared.facts.Seen.TheVariants as seen
@@ -226,16 +231,20 @@ facts-within facts fields is =
 
 -- ---- the first of some spans
 
-pub one-first : (bytes : List ℕ) (spans : List HeaderSpan) (d : HeaderSpan) → 1 ≤ length spans
-    → IsOne (span_bytes bytes (get_or spans 0 d).name) (map (header_bytes bytes) (take 1 spans))
-one-first bytes [] d some = absurd (omega (arith, some))
-one-first bytes (s ∷ spans) d some = (span_bytes bytes s.value, refl)
-
-pub on-first : (bytes : List ℕ) (facts : Facts) (spans : List HeaderSpan) (all : List FieldText) → 1 ≤ length spans
+-- the facts with those of the first field, and the fields behind it
+pub on-first : (bytes : List ℕ) (facts now : Facts) (spans rest : List HeaderSpan) (d : HeaderSpan)
+    (all : List FieldText) → 1 ≤ length spans
+    → now ≡ joined facts (facts_of (header_bytes bytes (get_or spans 0 d) ∷ [])) → rest ≡ drop 1 spans
     → joined facts (facts_of (map (header_bytes bytes) spans)) ≡ facts_of all
-    → joined (joined facts (facts_of (map (header_bytes bytes) (take 1 spans)))) (facts_of (map (header_bytes bytes) (drop 1 spans))) ≡ facts_of all
-on-first bytes facts [] all some is = absurd (omega (arith, some))
-on-first bytes facts (s ∷ spans) all some is = facts-on facts (header_bytes bytes s) (map (header_bytes bytes) spans) all is
+    → joined now (facts_of (map (header_bytes bytes) rest)) ≡ facts_of all
+on-first bytes facts now [] rest d all some reads behind is = absurd (omega (arith, some))
+on-first bytes facts now (s ∷ spans) rest d all some reads behind is =
+    ap (λ (f : Facts). joined f (facts_of (map (header_bytes bytes) rest))) reads
+    ∙ ap
+    (λ (l : List HeaderSpan).
+    joined (joined facts (facts_of (header_bytes bytes s ∷ []))) (facts_of (map (header_bytes bytes) l)))
+    behind
+    ∙ facts-on facts (header_bytes bytes s) (map (header_bytes bytes) spans) all is
 
 -- ---- the facts of one field
 
@@ -252,51 +261,186 @@ named-one word name value =
     ]
 
 -- what the values of a name come to, by whether the one field has it
-named-by : {X : Type 0} (f : List (List ℕ) → X) (word name value : List ℕ) (fields : List FieldText) (r b : Bool) → r ≡ same_text name word → r ≡ b
-    → fields ≡ (name, value) ∷ [] → f (one_named b value) ≡ f (named_values word fields)
-named-by f word name value fields r b tells is one =
-    ap (λ (t : Bool). f (one_named t value)) (sym is ∙ tells)
-    ∙ sym (ap f (ap (named_values word) one ∙ named-one word name value))
+named-by : {X : Type 0} (f : List (List ℕ) → X) (word name value : List ℕ) (b : Bool) → same_text name word ≡ b
+    → f (named_values word ((name, value) ∷ [])) ≡ f (one_named b value)
+named-by f word name value b tells = ap f (named-one word name value) ∙ ap (λ (t : Bool). f (one_named t value)) tells
 
-pub one-hosts : (name value : List ℕ) (fields : List FieldText) (r b : Bool) → r ≡ same_text name (codes "host") → r ≡ b
-    → fields ≡ (name, value) ∷ [] → seen_of (length (one_named b value)) ≡ seen_of (length (named_values (codes "host") fields))
-one-hosts name value fields r b = named-by (λ values. seen_of (length values)) (codes "host") name value fields r b
-
-test-coding : (b : Bool) (value : List ℕ) → b ≡ nat_lt 0 (length (one_named b value))
-test-coding true value = refl
-test-coding false value = refl
-
-pub one-coding : (name value : List ℕ) (fields : List FieldText) (r : Bool) → r ≡ same_text name (codes "transfer-encoding")
-    → fields ≡ (name, value) ∷ [] → r ≡ has_coding fields
-one-coding name value fields r tells one =
-    test-coding r value ∙ named-by (λ values. nat_lt 0 (length values)) (codes "transfer-encoding") name value fields r r tells refl one
-
-pub other-stated : (name value : List ℕ) (fields : List FieldText) (r : Bool) → r ≡ same_text name (codes "content-length") → r ≡ false
-    → fields ≡ (name, value) ∷ [] → Absent ≡ stated_length fields
-unfolding stated_length
-other-stated name value fields r tells is one = named-by length_by (codes "content-length") name value fields r false tells is one
-
-pub other-expects : (name value : List ℕ) (fields : List FieldText) (r : Bool) → r ≡ same_text name (codes "expect") → r ≡ false
-    → fields ≡ (name, value) ∷ [] → false ≡ expects_continue fields
-unfolding expects_continue
-other-expects name value fields r tells is one =
-    named-by (list_any (λ text. same_text text (codes "100-continue"))) (codes "expect") name value fields r false tells is one
-
-pub other-closes : (name value : List ℕ) (fields : List FieldText) (r : Bool) → r ≡ same_text name (codes "connection") → r ≡ false
-    → fields ≡ (name, value) ∷ [] → false ≡ has_close fields
-unfolding has_close
-other-closes name value fields r tells is one = named-by (list_any lists_close) (codes "connection") name value fields r false tells is one
-
-pub facts-made : (facts : Facts) (fields : List FieldText) → facts.hosts ≡ seen_of (length (named_values (codes "host") fields))
-    → facts.coding ≡ has_coding fields → facts.stated ≡ stated_length fields → facts.expects ≡ expects_continue fields
-    → facts.closes ≡ has_close fields → facts ≡ facts_of fields
-facts-made facts fields hosts coding stated expects closes = λ k. record {
-  hosts = hosts k;
-  coding = coding k;
-  stated = stated k;
-  expects = expects k;
-  closes = closes k;
+-- the facts of one field, by which of the words is its name
+abbrev one_facts : Bool → Bool → Bool → Bool → Bool → List ℕ → Facts
+one_facts host coding stated expect connection value = record {
+  hosts = seen_of (length (one_named host value));
+  coding = nat_lt 0 (length (one_named coding value));
+  stated = length_by (one_named stated value);
+  expects = list_any (λ text. same_text text (codes "100-continue")) (one_named expect value);
+  closes = list_any lists_close (one_named connection value);
 }
+
+facts-one : (name value : List ℕ) (h t l e c : Bool) → same_text name (codes "host") ≡ h
+    → same_text name (codes "transfer-encoding") ≡ t
+    → same_text name (codes "content-length") ≡ l → same_text name (codes "expect") ≡ e
+    → same_text name (codes "connection") ≡ c
+    → facts_of ((name, value) ∷ []) ≡ one_facts h t l e c value
+unfolding has_close expects_continue stated_length
+facts-one name value h t l e c host coding stated expect connection = λ k. record {
+  hosts = named-by (λ values. seen_of (length values)) (codes "host") name value h host k;
+  coding = named-by (λ values. nat_lt 0 (length values)) (codes "transfer-encoding") name value t coding k;
+  stated = named-by length_by (codes "content-length") name value l stated k;
+  expects = named-by (list_any (λ text. same_text text (codes "100-continue"))) (codes "expect") name value e expect k;
+  closes = named-by (list_any lists_close) (codes "connection") name value c connection k;
+}
+
+-- ---- what is asked of the fields of a name
+
+-- texts of two lengths are two
+other-length : (name word : List ℕ) → (length name ≡ length word → ⊥) → same_text name word ≡ false
+unfolding same_text
+other-length name word differ =
+    ⊎_elim
+    (λ (same : same_text name word ≡ true).
+    let all = (bytes_eq-Decides (map to_ascii_lowercase name) (map to_ascii_lowercase word)).0 same in
+    absurd (differ (sym (length-map name to_ascii_lowercase) ∙ ap length all ∙ length-map word to_ascii_lowercase)))
+    (λ (other : same_text name word ≡ false). other)
+    (cases_Bool (same_text name word))
+
+-- the same, of a word whose length isn't this
+not-word : (name word : List ℕ) (n : ℕ) → length name ≡ n → (length word == n) ≡ false → same_text name word ≡ false
+not-word name word n is other = other-length name word (λ same. eqb-false (length word) n other (sym same ∙ is))
+
+on-none : (facts : Facts) (value : List ℕ) → joined facts (one_facts false false false false false value) ≡ facts
+on-none facts value = λ k. record {
+  hosts = seen_both-none facts.hosts k;
+  coding = or-false facts.coding k;
+  stated = stated_both-absent facts.stated k;
+  expects = or-false facts.expects k;
+  closes = or-false facts.closes k;
+}
+
+on-host : (b : Bool) (facts : Facts) (value : List ℕ)
+    → joined facts (one_facts b false false false false value)
+    ≡ with_field (cond b asked.Host asked.Nothing) facts value
+on-host false facts value = on-none facts value
+on-host true facts value = λ k. record {
+  hosts = seen_both facts.hosts seen.Once;
+  coding = or-false facts.coding k;
+  stated = stated_both-absent facts.stated k;
+  expects = or-false facts.expects k;
+  closes = or-false facts.closes k;
+}
+
+on-coding : (b : Bool) (facts : Facts) (value : List ℕ)
+    → joined facts (one_facts false b false false false value)
+    ≡ with_field (cond b asked.Coding asked.Nothing) facts value
+on-coding false facts value = on-none facts value
+on-coding true facts value = λ k. record {
+  hosts = seen_both-none facts.hosts k;
+  coding = or-true facts.coding k;
+  stated = stated_both-absent facts.stated k;
+  expects = or-false facts.expects k;
+  closes = or-false facts.closes k;
+}
+
+on-length : (b : Bool) (facts : Facts) (value : List ℕ)
+    → joined facts (one_facts false false b false false value)
+    ≡ with_field (cond b asked.Length asked.Nothing) facts value
+on-length false facts value = on-none facts value
+on-length true facts value = λ k. record {
+  hosts = seen_both-none facts.hosts k;
+  coding = or-false facts.coding k;
+  stated = stated_both facts.stated (length_in value);
+  expects = or-false facts.expects k;
+  closes = or-false facts.closes k;
+}
+
+on-expect : (b : Bool) (facts : Facts) (value : List ℕ)
+    → joined facts (one_facts false false false b false value)
+    ≡ with_field (cond b asked.Expect asked.Nothing) facts value
+on-expect false facts value = on-none facts value
+on-expect true facts value = λ k. record {
+  hosts = seen_both-none facts.hosts k;
+  coding = or-false facts.coding k;
+  stated = stated_both-absent facts.stated k;
+  expects = facts.expects || or-false (same_text value (codes "100-continue")) k;
+  closes = or-false facts.closes k;
+}
+
+on-connection : (b : Bool) (facts : Facts) (value : List ℕ)
+    → joined facts (one_facts false false false false b value)
+    ≡ with_field (cond b asked.Connection asked.Nothing) facts value
+on-connection false facts value = on-none facts value
+on-connection true facts value = λ k. record {
+  hosts = seen_both-none facts.hosts k;
+  coding = or-false facts.coding k;
+  stated = stated_both-absent facts.stated k;
+  expects = or-false facts.expects k;
+  closes = facts.closes || or-false (lists_close value) k;
+}
+
+-- what is asked by the facts of a field and by the word that its name may be
+asked-by : (name : List ℕ) (r a : Asked) (some : List ℕ → Facts)
+    → ((value : List ℕ) → facts_of ((name, value) ∷ []) ≡ some value)
+    → ((facts : Facts) (value : List ℕ) → joined facts (some value) ≡ with_field a facts value) → r ≡ a → IsAsked r name
+asked-by name r a some are on is facts value =
+    ap (joined facts) (are value) ∙ on facts value ∙ ap (λ (x : Asked). with_field x facts value) (sym is)
+
+pub asked-host : (name : List ℕ) (r : Asked) → length name ≡ 4
+    → r ≡ cond (same_text name (codes "host")) asked.Host asked.Nothing → IsAsked r name
+asked-host name r len =
+    let b = same_text name (codes "host") in
+    asked-by name r (cond b asked.Host asked.Nothing) (one_facts b false false false false)
+    (λ value. facts-one name value b false false false false refl (not-word name _ 4 len refl)
+    (not-word name _ 4 len refl)
+    (not-word name _ 4 len refl) (not-word name _ 4 len refl))
+    (on-host b)
+
+pub asked-coding : (name : List ℕ) (r : Asked) → length name ≡ 17
+    → r ≡ cond (same_text name (codes "transfer-encoding")) asked.Coding asked.Nothing → IsAsked r name
+asked-coding name r len =
+    let b = same_text name (codes "transfer-encoding") in
+    asked-by name r (cond b asked.Coding asked.Nothing) (one_facts false b false false false)
+    (λ value. facts-one name value false b false false false (not-word name _ 17 len refl) refl
+    (not-word name _ 17 len refl)
+    (not-word name _ 17 len refl) (not-word name _ 17 len refl))
+    (on-coding b)
+
+pub asked-length : (name : List ℕ) (r : Asked) → length name ≡ 14
+    → r ≡ cond (same_text name (codes "content-length")) asked.Length asked.Nothing → IsAsked r name
+asked-length name r len =
+    let b = same_text name (codes "content-length") in
+    asked-by name r (cond b asked.Length asked.Nothing) (one_facts false false b false false)
+    (λ value. facts-one name value false false b false false (not-word name _ 14 len refl)
+    (not-word name _ 14 len refl) refl
+    (not-word name _ 14 len refl) (not-word name _ 14 len refl))
+    (on-length b)
+
+pub asked-expect : (name : List ℕ) (r : Asked) → length name ≡ 6
+    → r ≡ cond (same_text name (codes "expect")) asked.Expect asked.Nothing
+    → IsAsked r name
+asked-expect name r len =
+    let b = same_text name (codes "expect") in
+    asked-by name r (cond b asked.Expect asked.Nothing) (one_facts false false false b false)
+    (λ value. facts-one name value false false false b false (not-word name _ 6 len refl) (not-word name _ 6 len refl)
+    (not-word name _ 6 len refl) refl (not-word name _ 6 len refl))
+    (on-expect b)
+
+pub asked-connection : (name : List ℕ) (r : Asked) → length name ≡ 10
+    → r ≡ cond (same_text name (codes "connection")) asked.Connection asked.Nothing → IsAsked r name
+asked-connection name r len =
+    let b = same_text name (codes "connection") in
+    asked-by name r (cond b asked.Connection asked.Nothing) (one_facts false false false false b)
+    (λ value. facts-one name value false false false false b (not-word name _ 10 len refl) (not-word name _ 10 len refl)
+    (not-word name _ 10 len refl) (not-word name _ 10 len refl) refl)
+    (on-connection b)
+
+-- a name of another length
+pub asked-nothing : (name : List ℕ) → (length name ≡ 4 → ⊥) → (length name ≡ 6 → ⊥) → (length name ≡ 10 → ⊥)
+    → (length name ≡ 14 → ⊥)
+    → (length name ≡ 17 → ⊥) → IsAsked asked.Nothing name
+asked-nothing name four six ten fourteen seventeen =
+    asked-by name asked.Nothing asked.Nothing (one_facts false false false false false)
+    (λ value. facts-one name value false false false false false (other-length name _ four)
+    (other-length name _ seventeen)
+    (other-length name _ fourteen) (other-length name _ six) (other-length name _ ten))
+    on-none refl
 
 pub all-gathered : (bytes : List ℕ) (facts : Facts) (spans : List HeaderSpan) (all : List FieldText) → length spans < 1
     → joined facts (facts_of (map (header_bytes bytes) spans)) ≡ facts_of all → facts ≡ facts_of all

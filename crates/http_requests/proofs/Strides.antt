@@ -1,11 +1,13 @@
 -- Several bytes of a head at once.
-use Rattle.std.proofs.Common.{ℕ, zero, suc, ◌≡◌, ◌+◌, ◌-◌, ◌<◌, ◌≤◌, true, false, List, [], ◌∷◌, length, take, drop, get_or, refl, sym, ap, ◌∙◌, arith, ⊎_elim}
-use Rattle.std.specs.Prelude.{◌==◌}
+use Rattle.std.proofs.Common.{ℕ, zero, suc, ◌≡◌, ◌+◌, ◌-◌, ◌<◌, ◌≤◌, Bool, true, false, List, [], ◌∷◌, length, take, drop, get_or, refl, sym, ap, ◌∙◌, arith, ⊎_elim}
+use Rattle.std.specs.Prelude.{◌==◌, ◌||◌}
 use Rattle.std.specs.List.{slice_index}
+use Rattle.std.proofs.Math.Bool.{or-true}
 use Rattle.std.proofs.Math.Seq.{take-add}
-use Rattle.std.proofs.lemmas.Bool.{cases_Bool, cases_lt, cond-false, cond-true}
+use Rattle.std.proofs.lemmas.Bool.{false≢true, cases_Bool, cases_lt, cond-false, cond-true}
 use Rattle.std.proofs.lemmas.List.{take-take, take_more}
-use Rattle.httparse.specs.Ascii.{line_feed}
+use Rattle.httparse.specs.Ascii.{carriage_return, line_feed}
+use Rattle.http_requests.specs.Items.{is_line_end}
 use Rattle.http_requests.specs.Places.{place_behind, place_from, place_of, is_end}
 use Rattle.http_requests.specs.declared.place.Place.{Place}
 use Rattle.http_requests.specs.declared.place.Place.TheVariants as place
@@ -35,6 +37,56 @@ line-feed bytes n inside none feed =
     ∙ place_from-append place.Line (take n bytes) (get_or bytes n 0 ∷ [])
     ∙ ap (λ (at : Place). place_behind at (get_or bytes n 0)) (line-on bytes n none)
     ∙ cond-true (get_or bytes n 0 == line_feed) place.Start place.Line feed
+
+-- ---- a line that begins
+
+abbrev in_line : Place → Bool
+in_line place.Blank = false
+in_line place.Line = true
+in_line place.Start = false
+in_line place.Return = false
+in_line place.End = false
+
+out_of_line : (at there : Place) → at ≡ there → in_line there ≡ false → at ≡ place.Line → ⊥
+out_of_line at there is out line = false≢true (sym out ∙ sym (ap in_line is) ∙ ap in_line line)
+
+-- no line goes on behind a line feed
+feed-ends : (at : Place) (b : ℕ) → (b == line_feed) ≡ true → place_behind at b ≡ place.Line → ⊥
+feed-ends place.Blank b feed =
+    let ends : is_line_end b ≡ true =
+    ap (λ (t : Bool). (b == carriage_return) || t) feed ∙ or-true (b == carriage_return)
+    in
+    out_of_line _ place.Blank (cond-true (is_line_end b) place.Blank place.Line ends) refl
+feed-ends place.Line b feed = out_of_line _ place.Start (cond-true (b == line_feed) place.Start place.Line feed) refl
+feed-ends place.Start b feed = out_of_line _ place.End (cond-true (b == line_feed) place.End _ feed) refl
+feed-ends place.Return b feed = out_of_line _ place.End (cond-true (b == line_feed) place.End place.Line feed) refl
+feed-ends place.End b feed = out_of_line _ place.End refl refl
+
+-- a byte that begins a line goes on in one
+line-goes : (at : Place) (b : ℕ) → place_behind at b ≡ place.Line → place_behind place.Line b ≡ place.Line
+line-goes at b begins =
+    ⊎_elim
+    (λ (feed : (b == line_feed) ≡ true). absurd (feed-ends at b feed begins))
+    (λ (other : (b == line_feed) ≡ false). cond-false (b == line_feed) place.Start place.Line other)
+    (cases_Bool (b == line_feed))
+
+-- a line that begins with the first byte leads where one leads that goes on there
+pub line-begins : (at : Place) (bytes : List ℕ) (d n : ℕ) → 0 < length bytes
+    → place_behind at (get_or bytes 0 d) ≡ place.Line → 0 < n
+    → place_from place.Line (take n bytes) ≡ place_from at (take n bytes)
+line-begins at [] d n some begins more = absurd (omega (arith, some))
+line-begins at (b ∷ bytes) d zero some begins more = absurd (omega (arith, more))
+line-begins at (b ∷ bytes) d (suc n) some begins more =
+    ap (λ (p : Place). place_from p (take n bytes)) (line-goes at b begins ∙ sym begins)
+
+-- and no head ends there
+pub line-first : (at : Place) (bytes : List ℕ) (d count : ℕ) → 0 < length bytes → is_end at ≡ false
+    → place_behind at (get_or bytes 0 d) ≡ place.Line
+    → ((n : ℕ) → n < count → is_end (place_from place.Line (take n bytes)) ≡ false)
+    → (n : ℕ) → n < count → is_end (place_from at (take n bytes)) ≡ false
+line-first at bytes d count some open_ begins first zero below = open_
+line-first at bytes d count some open_ begins first (suc n) below =
+    ap is_end (sym (line-begins at bytes d (suc n) some begins (omega arith))) ∙ first (suc n) below
 
 -- one byte
 pub place_from-one : (at : Place) (bytes : List ℕ) (d : ℕ) → 0 < length bytes → place_from at (take 1 bytes) ≡ place_behind at (get_or bytes 0 d)

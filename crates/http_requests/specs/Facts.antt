@@ -1,10 +1,13 @@
 -- What the rules ask of the fields of a head, and how it is gathered of some fields and of those behind them.
 use Rattle.std.specs.Prelude.{ℕ, zero, suc, ◌≡◌, Bool, true, false, ◌||◌, List, [], ◌∷◌, length, codes}
-use Rattle.http_fields.specs.Fields.{FieldText, named_values, has_close, expects_continue}
-use Rattle.http_fields.specs.Lengths.{stated_length}
+use Rattle.http_fields.specs.Fields.{FieldText, named_values, has_close, expects_continue, lists_close}
+use Rattle.http_fields.specs.Lengths.{length_in, stated_length}
+use Rattle.http_fields.specs.Texts.{same_text}
 use Rattle.http_fields.specs.declared.lengths.StatedLength.{StatedLength}
 use Rattle.http_fields.specs.declared.lengths.StatedLength.TheVariants.{Absent, Bytes, TooLong, Malformed}
 use Rattle.http_requests.specs.Framing.{has_coding}
+use Rattle.http_requests.specs.declared.facts.Asked.{Asked}
+use Rattle.http_requests.specs.declared.facts.Asked.TheVariants as asked
 use Rattle.http_requests.specs.declared.facts.Facts.{Facts}
 use Rattle.http_requests.specs.declared.facts.Seen.{Seen}
 use Rattle.http_requests.specs.declared.facts.Seen.TheVariants as seen
@@ -63,6 +66,46 @@ joined some others = record {
   closes = some.closes || others.closes;
 }
 
--- there is one field, of this name
-abbrev pub IsOne : List ℕ → List FieldText → Type 0
-IsOne name fields = (value : List ℕ) × (fields ≡ (name, value) ∷ [])
+-- these facts with a field of such a value, where this is asked of those that have its name
+abbrev pub with_field : Asked → Facts → List ℕ → Facts
+with_field asked.Nothing facts value = facts
+with_field asked.Host facts value = record {
+  hosts = seen_both facts.hosts seen.Once;
+  coding = facts.coding;
+  stated = facts.stated;
+  expects = facts.expects;
+  closes = facts.closes;
+}
+with_field asked.Coding facts value = record {
+  hosts = facts.hosts;
+  coding = true;
+  stated = facts.stated;
+  expects = facts.expects;
+  closes = facts.closes;
+}
+with_field asked.Length facts value = record {
+  hosts = facts.hosts;
+  coding = facts.coding;
+  stated = stated_both facts.stated (length_in value);
+  expects = facts.expects;
+  closes = facts.closes;
+}
+with_field asked.Expect facts value = record {
+  hosts = facts.hosts;
+  coding = facts.coding;
+  stated = facts.stated;
+  expects = facts.expects || same_text value (codes "100-continue");
+  closes = facts.closes;
+}
+with_field asked.Connection facts value = record {
+  hosts = facts.hosts;
+  coding = facts.coding;
+  stated = facts.stated;
+  expects = facts.expects;
+  closes = facts.closes || lists_close value;
+}
+
+-- this is asked of the fields that have the name
+abbrev pub IsAsked : Asked → List ℕ → Type 0
+IsAsked asked name =
+    (facts : Facts) (value : List ℕ) → joined facts (facts_of ((name, value) ∷ [])) ≡ with_field asked facts value

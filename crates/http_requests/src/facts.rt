@@ -1,10 +1,13 @@
 //! What the fields of a head say, gathered in one pass.
-ghost use Rattle.std.specs.Prelude.{◌≡◌, []};
+ghost use Rattle.std.specs.Prelude.{◌≡◌, ◌∷◌, cond, length, []};
 ghost use Rattle.http_fields.specs.Fields.{field_texts};
 ghost use Rattle.http_fields.specs.Lengths.{StatesWithin};
-ghost use Rattle.http_requests.specs.Facts.{IsOne, facts_of, is_once, joined, seen_both, stated_both};
+ghost use Rattle.http_fields.specs.Texts.{same_text};
+ghost use Rattle.http_requests.specs.Facts.{IsAsked, facts_of, is_once, joined, seen_both, stated_both, with_field};
+ghost use Rattle.httparse.specs.Spans.{IsHeaderWithin, header_bytes};
 
-use http_fields::{Fields, StatedLength, is_same};
+use http_fields::{Fields, StatedLength, is_same, length_in, lists_close};
+use httparse::spans::HeaderSpan;
 
 /// How many fields have a name.
 #[derive(Clone, Copy, Debug, PartialEq, Eq)]
@@ -52,15 +55,58 @@ fn stated_both(some: StatedLength, others: StatedLength) -> StatedLength
     }
 }
 
+/// What the rules ask of the fields that have a name.
+#[derive(Clone, Copy)]
+pub(crate) enum Asked {
+    Nothing,
+    /// How many there are.
+    Host,
+    /// Whether there is one.
+    Coding,
+    /// The length that they state.
+    Length,
+    /// Whether one asks for the interim answer.
+    Expect,
+    /// Whether one lists `close`.
+    Connection,
+}
+
+impl Asked {
+    /// What is asked of the fields of a name: this, if the name is that word.
+    fn where_same(self, name: &[u8], word: &[u8]) -> Asked
+        ensures { result ≡ cond (same_text name.now word.now) self Asked.Nothing }
+    {
+        if is_same(name, word) {
+            self
+        } else {
+            Asked::Nothing
+        }
+    }
+
+    /// What is asked of the fields of this name. By its length at most one word has to be compared.
+    fn of(name: &[u8]) -> Asked
+        ensures { IsAsked result name.now }
+    {
+        match name.len() {
+            4 => Asked::Host.where_same(name, b"host"),
+            6 => Asked::Expect.where_same(name, b"expect"),
+            10 => Asked::Connection.where_same(name, b"connection"),
+            14 => Asked::Length.where_same(name, b"content-length"),
+            17 => Asked::Coding.where_same(name, b"transfer-encoding"),
+            _ => Asked::Nothing,
+        }
+    }
+}
+
 /// What the rules ask of the fields of a head.
 #[derive(Clone, Copy)]
 pub(crate) struct Facts {
+    /// What the `Content-Length` fields state.
+    pub(crate) stated: StatedLength,
     /// How many `Host` fields there are.
     pub(crate) hosts: Seen,
     /// Whether a transfer coding is named.
     pub(crate) coding: bool,
-    /// What the `Content-Length` fields state.
-    pub(crate) stated: StatedLength,
     /// Whether an `Expect` field asks for the interim answer.
     pub(crate) expects: bool,
     /// Whether a `Connection` field lists `close`.
@@ -81,43 +127,28 @@ impl Facts {
         }
     }
 
-    /// The facts of these fields and of others.
-    fn and(self, others: Facts) -> Facts
-        ensures { result ≡ joined self others }
+    /// Takes up a field, where this is asked of those that have its name.
+    fn take(&mut self, asked: Asked, value: &[u8])
+        ensures { self.new ≡ with_field asked self.old value.now }
     {
-        Facts {
-            hosts: self.hosts.and(others.hosts),
-            coding: self.coding || others.coding,
-            stated: stated_both(self.stated, others.stated),
-            expects: self.expects || others.expects,
-            closes: self.closes || others.closes,
+        match asked {
+            Asked::Nothing => {}
+            Asked::Host => self.hosts = self.hosts.and(Seen::Once),
+            Asked::Coding => self.coding = true,
+            Asked::Length => self.stated = stated_both(self.stated, length_in(value)),
+            Asked::Expect => self.expects = self.expects || is_same(value, b"100-continue"),
+            Asked::Connection => self.closes = self.closes || lists_close(value),
         }
     }
 
-    /// The facts of one field, which has this name.
-    fn of_one(field: &Fields, name: &[u8]) -> Facts
-        requires { IsOne name.now (field_texts field.now) }
-        ensures { result ≡ facts_of (field_texts field.now) }
+    /// Takes up a field, whose value is looked at where the rules ask for it.
+    fn read(&mut self, bytes: &[u8], span: &HeaderSpan)
+        requires { IsHeaderWithin (length bytes.now) span.now }
+        ensures { self.new ≡ joined self.old (facts_of (header_bytes bytes.now span.now ∷ [])) }
     {
-        let hosts = if is_same(name, b"host") {
-            Seen::Once
-        } else {
-            Seen::Never
-        };
-        let stated = if is_same(name, b"content-length") {
-            field.stated_length()
-        } else {
-            StatedLength::Absent
-        };
-        let expects = is_same(name, b"expect") && field.expects_continue();
-        let closes = is_same(name, b"connection") && field.has_close();
-        let coding = is_same(name, b"transfer-encoding");
-        Facts {
-            hosts,
-            coding,
-            stated,
-            expects,
-            closes,
+        match Asked::of(span.name.of(bytes)) {
+            Asked::Nothing => {}
+            asked => self.take(asked, span.value.of(bytes)),
         }
     }
 
@@ -130,11 +161,7 @@ impl Facts {
         let mut spans = fields.spans;
         let mut facts = Facts::none();
         while let [span, behind @ ..] = spans {
-            let one = Fields {
-                bytes,
-                spans: &spans[..1],
-            };
-            facts = facts.and(Facts::of_one(&one, span.name.of(bytes)));
+            facts.read(bytes, span);
             spans = behind;
         }
         facts

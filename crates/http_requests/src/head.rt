@@ -7,9 +7,9 @@ use crate::facts::Facts;
 pub(crate) struct Head<'b> {
     pub(crate) method: &'b [u8],
     pub(crate) target: &'b [u8],
-    pub(crate) minor: u8,
-    /// What its fields say.
-    pub(crate) facts: Facts,
     /// How many bytes the head has.
     pub(crate) size: usize,
+    /// What its fields say.
+    pub(crate) facts: Facts,
+    pub(crate) minor: u8,
 }

@@ -6,6 +6,10 @@ ghost use Rattle.http_requests.specs.Places.{is_end, place_from};
 use crate::place::Place;
 use memchr::memchr;
 
+/// How many bytes are searched for a line's end at once. Most lines have fewer, and the search of more is set up for
+/// far more.
+const NEAR: usize = 191;
+
 /// How many lines end with a byte.
 fn line_ends(b: u8) -> usize
     ensures lines { feeds (b ∷ []) ≤ result }
@@ -24,7 +28,7 @@ pub(crate) struct Stride {
 }
 
 impl Stride {
-    /// From a place where no head ends: the rest of a line up to its end, or one byte.
+    /// From a place where no head ends: a line, or what is left of it, up to its end, or one byte.
     #[tactic(auto, using(crate::proofs::Feeds::feeds_one))]
     pub(crate) fn of(place: Place, bytes: &[u8]) -> Stride
         requires some { 0 < length bytes.now }
@@ -36,17 +40,17 @@ impl Stride {
         ensures leads { result.place ≡ place_from place (take result.count bytes.now) }
         ensures first { (n : ℕ) → n < result.count → is_end (place_from place (take n bytes.now)) ≡ false }
     {
-        match place {
+        match place.behind(bytes[0]) {
             Place::Line => Stride::in_line(bytes),
-            _ => Stride {
+            next => Stride {
                 count: 1,
                 lines: line_ends(bytes[0]),
-                place: place.behind(bytes[0]),
+                place: next,
             },
         }
     }
 
-    /// The rest of a line, with its line feed where that is there.
+    /// The rest of a line, with its line feed where that is there, or so many bytes of it.
     fn in_line(bytes: &[u8]) -> Stride
         requires some { 0 < length bytes.now }
         ensures some { 0 < result.count }
@@ -56,14 +60,15 @@ impl Stride {
         ensures leads { result.place ≡ place_from Place.Line (take result.count bytes.now) }
         ensures first { (n : ℕ) → n < result.count → is_end (place_from Place.Line (take n bytes.now)) ≡ false }
     {
-        match memchr(b'\n', bytes) {
+        let front = &bytes[..bytes.len().min(NEAR)];
+        match memchr(b'\n', front) {
             Some(at) => Stride {
                 count: at + 1,
                 lines: 1,
                 place: Place::Start,
             },
             None => Stride {
-                count: bytes.len(),
+                count: front.len(),
                 lines: 0,
                 place: Place::Line,
             },

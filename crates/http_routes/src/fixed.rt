@@ -1,15 +1,34 @@
 //! The rows of the path table whose paths are fixed.
-ghost use Rattle.std.specs.Prelude.{◌≡◌, Some, IfSome};
+ghost use Rattle.std.specs.Prelude.{◌≡◌, true, Some, IfSome};
 ghost use Rattle.http_routes.specs.Routes.{page_of};
 
 use crate::page::Page;
+
+/// Whether a path is the fixed one.
+fn is_fixed(path: &[u8], fixed: &[u8]) -> bool
+    ensures { result ≡ true → path.now ≡ fixed.now }
+{
+    if path.len() != fixed.len() {
+        return false;
+    }
+    for i in 0..fixed.len() {
+        if path[i] != fixed[i] {
+            return false;
+        }
+    }
+    true
+}
 
 /// A row, where this path is the fixed one that stands in it.
 fn page_at(path: &[u8], fixed: &[u8], page: Page) -> Option<Page>
     requires { page_of fixed.now ≡ Some page }
     ensures { IfSome result (λ found. page_of path.now ≡ Some found) }
 {
-    if path == fixed { Some(page) } else { None }
+    if is_fixed(path, fixed) {
+        Some(page)
+    } else {
+        None
+    }
 }
 
 /// The row that has a path as it stands, without a number, where there is one. Most requests ask for such a row, and
