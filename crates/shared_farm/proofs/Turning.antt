@@ -29,17 +29,21 @@ own_places-told left history recorded same as_many =
     subst (λ (h : List Entry). range_with_len (length h - recorded) recorded ≡ own_places left) (sym same)
     (subst (λ (n : ℕ). range_with_len (length left.history - n) n ≡ own_places left) (sym as_many) refl)
 
+-- what a turn of a caller took: a store that went on from what the caller had seen
+pub record IsTaken {D : Type 0} (count : D → ℕ) (old : Known) (held : Before) (found : StoreState D) : Type 0 where
+  pub took : held.taken ≡ record { entries = found.history; count = count found.disk; pending = found.pending }
+  pub settled : IsSettled old.pending old.faults (count found.disk) found.pending
+  pub begins : IsPrefix old.seen found.history
+  pub faults : old.faults ≤ count found.disk
+
 -- a turn of a caller, in which a store answered
 pub record IsServed {D : Type 0} (count : D → ℕ) (old new : Known) (held : Before) (found left : StoreState D)
     (own : List ℕ) : Type 0 where
   pub held_is : held.pass ≡ old
-  pub took : held.taken ≡ record { entries = found.history; count = count found.disk; pending = found.pending }
-  pub settled : IsSettled old.pending old.faults (count found.disk) found.pending
+  pub taken : IsTaken count old held found
   pub answered : count found.disk ≡ count left.disk → MayRise (count left.disk) → left.pending ≡ []
   pub at_least : count found.disk ≤ count left.disk
   pub legal : IsLegal found.history
-  pub begins : IsPrefix old.seen found.history
-  pub faults : old.faults ≤ count found.disk
   pub places : ArePlaces 0 (length old.seen) old.mine
   pub longer : IsPrefix found.history left.history
   pub room : length found.history + left.recorded ≤ length left.history
@@ -68,7 +72,7 @@ module _ {D : Type 0} {count : D → ℕ} {old new : Known} {held : Before} {fou
       ∙ (ap (λ (k : Known). k.mine ++ own) s.held_is ∙ ap (λ (l : List ℕ). old.mine ++ l) s.own_is)
 
   abbrev took_is : new.last ≡ record { entries = found.history; count = count found.disk; pending = found.pending }
-  took_is = ap (λ (k : Known). k.last) s.new_is ∙ s.took
+  took_is = ap (λ (k : Known). k.last) s.new_is ∙ s.taken.took
 
   -- all that is new is the caller's own
   pub served-own : AreOwn old new
@@ -86,12 +90,12 @@ module _ {D : Type 0} {count : D → ℕ} {old new : Known} {held : Before} {fou
 
   pub served-settled : StaysSettled old new
   served-settled nothing same rises =
-      let low = s.faults in
+      let low = s.taken.faults in
       let high = s.at_least in
       let last : new.faults ≡ count left.disk = ap (λ (k : Known). k.faults) s.new_is in
       let then_is : old.faults ≡ count found.disk = omega (arith, low, high, last, same) in
       let now_is : count found.disk ≡ count left.disk = omega (arith, low, high, last, same) in (
-        ap (λ (t : Taken). t.pending) took_is ∙ s.settled nothing then_is (omega (arith, then_is, same, rises)),
+        ap (λ (t : Taken). t.pending) took_is ∙ s.taken.settled nothing then_is (omega (arith, then_is, same, rises)),
         ap (λ (k : Known). k.pending) s.new_is
             ∙ ap (λ (l : List Entry). Some l) (s.answered now_is (omega (arith, last, rises))),
       )
@@ -103,10 +107,10 @@ module _ {D : Type 0} {count : D → ℕ} {old new : Known} {held : Before} {fou
     left = left;
     used = ap (λ (k : Known). k.uses) s.new_is ∙ ap (λ (k : Known). k.uses + 1) s.held_is;
     took = took_is;
-    settled = s.settled;
+    settled = s.taken.settled;
     legal = s.legal;
-    begins = s.begins;
-    faults = s.faults;
+    begins = s.taken.begins;
+    faults = s.taken.faults;
     says = says;
     cause = cause;
     seen = seen_is;
@@ -118,11 +122,11 @@ module _ {D : Type 0} {count : D → ℕ} {old new : Known} {held : Before} {fou
   pub served-longer : IsPrefix old.seen new.seen
   served-longer =
       subst (λ (l : List Entry). IsPrefix old.seen l) (sym seen_is)
-      (IsPrefix-trans old.seen found.history left.history s.begins s.longer)
+      (IsPrefix-trans old.seen found.history left.history s.taken.begins s.longer)
 
   pub served-places : ArePlaces 0 (length new.seen) new.mine
   served-places =
-      let le = IsPrefix-length old.seen found.history s.begins in
+      let le = IsPrefix-length old.seen found.history s.taken.begins in
       subst (λ (l : List Entry). ArePlaces 0 (length l) new.mine) (sym seen_is)
       (subst (λ (l : List ℕ). ArePlaces 0 (length left.history) l) (sym mine_is)
       (ArePlaces-append 0 (length found.history) (length left.history) old.mine (own_places left) (omega arith)
@@ -137,7 +141,7 @@ pub served-keeps : {D : Type 0} (meant : disk.Ghosts D) {old new : Known} {held 
 served-keeps meant {found = found} {left = left} s leaves = record {
   found = found;
   left = left;
-  took = ap (λ (k : Known). k.last) s.new_is ∙ s.took;
+  took = ap (λ (k : Known). k.last) s.new_is ∙ s.taken.took;
   seen = ap (λ (k : Known). k.seen) s.new_is;
   pending = ap (λ (k : Known). k.pending) s.new_is;
   faults = ap (λ (k : Known). k.faults) s.new_is;

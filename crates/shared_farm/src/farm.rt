@@ -28,7 +28,8 @@ use turn_lock::{Pass, Places, TurnLock};
 /// which a pass is known to be its own. `B` is what it began with.
 #[derive(Drop)]
 pub struct SharedFarm<D: Disk, B: Beginning = Brand> {
-    lock: TurnLock<Locked<D, B>>,
+    // In a box, so that a turn takes and gives back a pointer, and moves neither the store nor the board.
+    lock: TurnLock<Box<Locked<D, B>>>,
 }
 
 impl<D: Disk, B: Beginning> Model for SharedFarm<D, B> {
@@ -66,16 +67,13 @@ impl<D: Disk, B: Beginning> SharedFarm<D, B> {
             board,
             posting,
         };
+        let locked = match Box::new(alloc, locked) {
+            Ok(boxed) => boxed,
+            Err(failed) => return Err(failed.value.into_store()),
+        };
         match TurnLock::new(alloc, locked) {
             Ok((lock, pass)) => Ok((SharedFarm { lock }, pass)),
-            Err(locked) => {
-                let Locked {
-                    store,
-                    board: _,
-                    posting: _,
-                } = locked;
-                Err(store.into_store())
-            }
+            Err(locked) => Err(Box::into_inner(locked).into_store()),
         }
     }
 
@@ -244,11 +242,6 @@ impl<D: Disk, B: Beginning> SharedFarm<D, B> {
         ensures came { IfSome B.begun (λ begun. CameBy D.Disk begun result) }
     {
         let SharedFarm { lock } = self;
-        let Locked {
-            store,
-            board: _,
-            posting: _,
-        } = lock.close(rt, pass);
-        store.into_store()
+        Box::into_inner(lock.close(rt, pass)).into_store()
     }
 }

@@ -1,5 +1,5 @@
 //! What the lock of a shared farm holds.
-ghost use Rattle.std.specs.Prelude.{◌≡◌, ◌≤◌, ◌<◌, ◌↔◌, ◌+◌, [], true, List, ℕ, IfOk, length};
+ghost use Rattle.std.specs.Prelude.{◌≡◌, ◌≤◌, ◌<◌, ◌↔◌, ◌+◌, [], true, List, ℕ, IfOk, IfSome, length};
 ghost use Rattle.std.specs.Arc.{arc_value};
 ghost use Rattle.entry_codec.specs.LogPage.{log_page};
 ghost use Rattle.farm_entry.specs.Legal.{IsLegal};
@@ -9,7 +9,7 @@ ghost use Rattle.farm_store.specs.Faults.{HasCallCause};
 ghost use Rattle.farm_store.specs.declared.asking.TheConstants.{MAX_BATCH};
 ghost use Rattle.list_prefix.specs.Prefix.{IsPrefix};
 ghost use Rattle.turn_lock.specs.Known.{MayRise};
-ghost use Rattle.shared_farm.specs.Rests.{TurnLeaves, rest_of};
+ghost use Rattle.shared_farm.specs.Rests.{CameBy, TurnLeaves, rest_of};
 
 use crate::beginning::Beginning;
 use crate::reader::TotalsReader;
@@ -18,7 +18,7 @@ use entry_codec::write_log_page;
 use farm_board::{Board, BoardPass};
 use farm_disk::Disk;
 use farm_entry::{Command, Reply};
-use farm_store::{Answers, Ask, CallFault};
+use farm_store::{Answers, Ask, CallFault, Store};
 use farm_types::{Memory, Moment};
 use std::alloc::Global;
 use std::sync::Arc;
@@ -119,5 +119,18 @@ impl<D: Disk, B: Beginning> Locked<D, B> {
             }),
             Err(_) => Err(Memory),
         }
+    }
+
+    /// The store again.
+    pub fn into_store(self) -> Store<D>
+        ensures same { result ≡ self.store }
+        ensures came { IfSome B.begun (λ begun. CameBy D.Disk begun result) }
+    {
+        let Locked {
+            store,
+            board: _,
+            posting: _,
+        } = self;
+        store.into_store()
     }
 }

@@ -8,7 +8,7 @@ use Rattle.shared_farm.proofs.farm.SharedFarm.tail.Goals as goal
 pub back-requires-clause-grown : goal.back-requires-clause-grown
 back-requires-clause-grown g c =
     let turn = c.turn-turn.result in
-    IsPrefix-equal turn.before.taken.entries turn.value.store.history
+    IsPrefix-equal turn.before.taken.entries turn.value.value.store.history
     (ap (λ (t : Taken). t.entries) c.turn-turn.ensures.taken)
 
 pub returns-clause-look : goal.returns-clause-look
@@ -26,7 +26,7 @@ pub returns-clause-settled : goal.returns-clause-settled
 returns-clause-settled g c nothing same rises =
     let new = c.back.ensures.pass in
     let count = g.D.Disk.count in
-    let found = c.turn-turn.result.value.store in
+    let found = c.turn-turn.result.value.value.store in
     let at : c.back.new.pass.faults ≡ count found.disk = ap (λ (k : Known). k.faults) new in
     let none = c.turn-turn.ensures.settled nothing (same ∙ at) (subst (λ (n : ℕ). MayRise n) at rises) in (
       ap (λ (k : Known). k.last.pending) new ∙ (ap (λ (t : Taken). t.pending) c.turn-turn.ensures.taken ∙ none),
