@@ -1,9 +1,12 @@
-use Rattle.std.proofs.Common.{◌≡◌, List, Result, Ok, Err, IfOk, OnOk, refl, subst}
+use Rattle.std.proofs.Common.{◌≡◌, ◌++◌, ◌∷◌, List, [], Result, Ok, Err, IfOk, OnErr, OnOk, refl, sym, subst, ◌∙◌}
+use Rattle.std.proofs.lemmas.List.{append-nil}
 use Rattle.farm_types.specs.declared.moment.Moment.{Moment}
 use Rattle.farm_entry.specs.Decision.{decide}
 use Rattle.farm_entry.specs.Legal.{IsLegal}
 use Rattle.farm_entry.specs.Playing.{after}
 use Rattle.farm_entry.specs.declared.command.Command.{Command}
+use Rattle.farm_entry.specs.declared.decision.Decision.{Decision}
+use Rattle.farm_entry.specs.declared.decision.Decision.TheVariants.{Refuse, Repeat, Show, New}
 use Rattle.farm_entry.specs.declared.entry.Entry.{Entry}
 use Rattle.farm_store.specs.Answering.{IsAnswer}
 use Rattle.farm_store.specs.declared.asking.Answer.{Answer}
@@ -17,6 +20,24 @@ dates_of : {E : Type 0} (H K : List Entry) (q : Command) (m : Moment) (result : 
     → IfOk result AnswerHasDates
 dates_of H K q m (Ok a) said is legal = answer-dates H q m (decide H q m) a (subst IsLegal is legal) refl said
 dates_of H K q m (Err e) said is legal = tt
+
+-- what a decision adds to a history
+added : (H : List Entry) (d : Decision) → (more : List Entry) × (after H d ≡ H ++ more)
+added H (Refuse cause) = ([], sym (append-nil H))
+added H (Repeat place) = ([], sym (append-nil H))
+added H (Show page) = ([], sym (append-nil H))
+added H (New e) = (e ∷ [], refl)
+
+-- what is new of the history, which stays where there is no answer
+longer_of : {E : Type 0} (H K : List Entry) (d : Decision) (result : Result Answer E)
+    → OnOk result (K ≡ after H d) → OnErr result (K ≡ H) → (more : List Entry) × (K ≡ H ++ more)
+longer_of H K d (Ok a) is kept = let new = added H d in (new.0, is ∙ new.1)
+longer_of H K d (Err e) is kept = ([], kept ∙ sym (append-nil H))
+
+pub returns-clause-longer : goal.returns-clause-longer
+returns-clause-longer c =
+    longer_of c.args.farm.now.history c.answer.new.farm.history (decide c.args.farm.now.history c.args.command.now c.args.at)
+    c.answer.result c.answer.ensures.history c.answer.ensures.kept
 
 pub returns-clause-dates : goal.returns-clause-dates
 returns-clause-dates c =
