@@ -5,7 +5,7 @@ use Rattle.std.specs.Prelude.{ℕ, zero, suc, ◌+◌, List, [], ◌∷◌, ◌+
 use Rattle.farm_entry.specs.declared.entry.Entry.{Entry}
 use Rattle.farm_journal.specs.Layout.{Opening, unborn as no_journal, damaged, holds, opens}
 use Rattle.farm_journal.specs.declared.layout.TheConstants.{FIRST_GATE}
-use Rattle.entry_codec.specs.Reading.{entry_at}
+use Rattle.entry_codec.specs.Reading.{◌>>=◌, entry_at}
 
 pub data Told : Type 0 where
   unborn : Told
