@@ -6,8 +6,13 @@ ghost use Rattle.report_inbox.specs.Bucket.{home_of, mixed_of};
 /// One more than the greatest word of 64 bits.
 const WORD: u128 = 1 << 64;
 
-/// The bucket of a key among so many: the low bits of all its bits mixed. Two keys that share one half have different
-/// mixed words, so that keys which count up in either half are spread over the buckets.
+/// How many keys that differ in the last bits of their low half alone have buckets beside one another.
+const RUN: u64 = 1 << 12;
+
+/// The bucket of a key among so many: the low bits of its low half and of all its other bits mixed. Keys that count up
+/// in their low half have buckets beside one another, so that the next one is found where the last one was put, but for
+/// each run of them, which stands elsewhere. Keys that count up in other steps or in the high half are spread over all
+/// buckets, since two that share their low half, or their high half and their run, have different words.
 pub(crate) fn home(size: usize, key: u128) -> usize
     requires { 0 < size }
     ensures home { result ≡ home_of size key }
@@ -15,7 +20,7 @@ pub(crate) fn home(size: usize, key: u128) -> usize
 {
     let low = (key % WORD) as u64;
     let high = (key / WORD) as u64;
-    mixed(mixed(low) ^ high) as usize & (size - 1)
+    (low ^ mixed(mixed(low / RUN) ^ high)) as usize & (size - 1)
 }
 
 /// A word with each of its bits spread over all of it. No two words are mixed to the same one. These are the last steps
