@@ -112,7 +112,7 @@ impl LeaseBook {
             return 0;
         }
         let from = find_out(&self.heads, &self.rows, search as usize, stage, moment, out);
-        out.rotate_left(from);
+        out.copy_within(from.., 0);
         OUT_MAX - from
     }
 
