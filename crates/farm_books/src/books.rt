@@ -137,7 +137,8 @@ impl Books {
         let lease = entry.what.lease();
         reserve_places(&mut self.inbox, report)?;
         reserve_lease(&mut self.leases, lease)?;
-        self.entries.push(entry)?;
+        self.entries.reserve(1)?;
+        self.entries.push_reserved(entry);
         put_key(&mut self.inbox, key, place);
         put_report(&mut self.inbox, report, place);
         put_lease(&mut self.leases, lease);

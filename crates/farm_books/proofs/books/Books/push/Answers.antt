@@ -62,7 +62,7 @@ invariant_of-self-2 c =
     let at : place ≡ length H = omega (arith, c.len-place.ensures) in
     pushed-books s _ e place b step
     (subst (λ (X : List Entry). IsLegal (X ++ e ∷ [])) (sym c.self.view_is) c.requires) at
-    c.in_ok-push.ensures.items
+    (c.push_reserved.ensures.items ∙ ap (λ (xs : List Entry). xs ++ e ∷ []) c.in_ok-reserve.ensures.items)
     (c.put_report.ensures.keys ∙ c.put_key.ensures.keys
     ∙ ap (λ (keys : Places). with_key keys c.key-key.result place) c.in_ok-reserve_places.ensures.keys
     ∙ ap (λ (part : Option Key). with_key s.inbox.keys part place) c.key-key.ensures)
