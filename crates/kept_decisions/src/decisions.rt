@@ -82,13 +82,8 @@ fn own_decision(
     }
 }
 
-/// The decision on a command at a farm's history and a moment: the first that is there. First stands the shape of an
-/// open, which needs no history; its search is made once, under the number that it would have.
-///
-/// # Errors
-///
-/// [`Memory`].
-pub fn decide(
+/// What any command comes to, with room for the search that it may open.
+fn decision_on_any(
     alloc: Global,
     farm: &KeptFarm,
     command: &Command,
@@ -112,5 +107,49 @@ pub fn decide(
     match asked {
         Some(opening) => open_decision(alloc, farm, opening, used),
         None => own_decision(alloc, farm, command, used),
+    }
+}
+
+/// What a command comes to that opens no search.
+fn decision_on_other(
+    alloc: Global,
+    farm: &KeptFarm,
+    command: &Command,
+    at: Moment,
+) -> Result<Decision, Memory>
+    requires { IsNoOpen command.now }
+    ensures { IfOk result (λ found. found ≡ decide farm.now command.now at) }
+{
+    let history = farm.history();
+    // (a decision is large, so it is moved where there is one, and not by `?` where there is none)
+    match known_decision(alloc, farm, command) {
+        Ok(None) => {}
+        Ok(Some(found)) => return Ok(found),
+        Err(memory) => return Err(memory),
+    }
+    if let Some(found) = full_decision(farm, command) {
+        return Ok(found);
+    }
+    own_decision(alloc, farm, command, moment_used(history, at))
+}
+
+/// The decision on a command at a farm's history and a moment: the first that is there. First stands the shape of an
+/// open, which needs no history; its search is made once, under the number that it would have.
+///
+/// # Errors
+///
+/// [`Memory`].
+pub fn decide(
+    alloc: Global,
+    farm: &KeptFarm,
+    command: &Command,
+    at: Moment,
+) -> Result<Decision, Memory>
+    ensures { IfOk result (λ found. found ≡ decide farm.now command.now at) }
+{
+    // A search that is opened takes much room, which the other commands needn't clear and move.
+    match command {
+        Command::Open(_) => decision_on_any(alloc, farm, command, at),
+        _ => decision_on_other(alloc, farm, command, at),
     }
 }

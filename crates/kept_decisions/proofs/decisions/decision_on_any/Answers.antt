@@ -6,7 +6,7 @@ use Rattle.farm_entry.specs.declared.entry.Entry.{Entry}
 use Rattle.farm_laws.specs.Laws.{IsNotBefore}
 use Rattle.farm_laws.proofs.Bounds.{openings-bounded}
 use Rattle.kept_decisions.proofs.Moments.{used-not_before}
-use Rattle.kept_decisions.proofs.decisions.decide.Goals as goal
+use Rattle.kept_decisions.proofs.decisions.decision_on_any.Goals as goal
 
 pub overflow_cast-number : goal.overflow_cast-number
 overflow_cast-number c =
