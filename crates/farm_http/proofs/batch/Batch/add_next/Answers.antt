@@ -1,4 +1,4 @@
-use Rattle.std.proofs.Common.{rules, ℕ, ◌≡◌, ◌-◌, ◌∙◌, ⊎_elim, Bool, true, false, List, Result, Ok, ap, subst, sym, take, drop, length}
+use Rattle.std.proofs.Common.{rules, ℕ, ◌≡◌, ◌-◌, ◌∙◌, ⊎_elim, true, false, Result, Ok, ap, subst, sym, take, drop, length}
 use Rattle.std.proofs.lemmas.Bool.{cases_Bool}
 use Rattle.std.proofs.lemmas.List.{take_rest}
 use Rattle.connection_laws.specs.Kinds.{commands, kind_by, kind_of}
