@@ -28,6 +28,7 @@ returns-in-Ok-clause-batch g c =
     let rest = take (length held - c.self.inside.size) (drop c.self.inside.size held) in
     let next : IsNextFor complete rest request =
     subst (λ (n : Next). Says complete rest n) c.in-Request.is c.next_of-next.ensures.says in
+    let at_once : request.interim ≡ false = search rules in
     let asks : request.asks ≡ Ok (endpoint.Command c.in-Ok-Command.route) = search rules in
     let asked : kind_of (item_in rest request) ≡ commands (Ok c.in-Ok.command) =
     ap (λ (a : Result Endpoint Fault). kind_by a (item_in rest request).body) asks
@@ -35,7 +36,7 @@ returns-in-Ok-clause-batch g c =
     ⊎_elim
     (λ (done : c.add.result ≡ true).
     batch-gathers clock complete held rest old new request ask c.requires.batch c.requires.open c.requires.room next
-    (take_rest held c.self.inside.size ∙ ap (λ (k : ℕ). drop k held) size) c.if-request.false
+    (take_rest held c.self.inside.size ∙ ap (λ (k : ℕ). drop k held) size) at_once
     (record { command = asked; moment = (c.now-at.ensures.shown, c.now-at.ensures.told) }) (c.add.ensures.added done))
     (λ (kept : c.add.result ≡ false).
     subst (λ (b : BatchState). IsBatch clock complete held b) (sym (c.add.ensures.kept kept)) c.requires.batch)
