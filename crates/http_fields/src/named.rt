@@ -1,6 +1,6 @@
 //! What the fields of a head say.
-ghost use Rattle.std.specs.Prelude.{◌≡◌, ◌<◌, ◌==◌, length, MatchOption, IfSome, [], ◌∷◌, nat_lt};
-ghost use Rattle.http_fields.specs.Fields.{named_values, lists_close, has_close, expects_continue, field_texts};
+ghost use Rattle.std.specs.Prelude.{◌≡◌, ◌<◌, length, MatchOption, IfSome, [], ◌∷◌};
+ghost use Rattle.http_fields.specs.Fields.{named_values, lists_close, field_texts};
 
 use crate::fields::Fields;
 use crate::text::{cut, is_same, trimmed};
@@ -25,59 +25,6 @@ impl<'b> Fields<'b> {
             spans = behind;
         }
         None
-    }
-
-    /// Whether a field has this name.
-    pub fn has(&self, name: &[u8]) -> bool
-        ensures { result ≡ nat_lt 0 (length (named_values name.now (field_texts self.now))) }
-    {
-        match self.find(name) {
-            Some(_) => true,
-            None => false,
-        }
-    }
-
-    /// Whether exactly one field has this name.
-    pub fn has_one(&self, name: &[u8]) -> bool
-        ensures { result ≡ (length (named_values name.now (field_texts self.now)) == 1) }
-    {
-        let Some((_, behind)) = self.find(name) else {
-            return false;
-        };
-        match behind.find(name) {
-            Some(_) => false,
-            None => true,
-        }
-    }
-
-    /// Whether a `Connection` field lists `close`.
-    #[tactic(auto, unfolding(crate::specs::Fields::has_close))]
-    pub fn has_close(&self) -> bool
-        ensures { result ≡ has_close (field_texts self.now) }
-    {
-        let mut fields = *self;
-        while let Some((value, behind)) = fields.find(b"connection") {
-            if lists_close(value) {
-                return true;
-            }
-            fields = behind;
-        }
-        false
-    }
-
-    /// Whether an `Expect` field asks for the interim answer.
-    #[tactic(auto, unfolding(crate::specs::Fields::expects_continue))]
-    pub fn expects_continue(&self) -> bool
-        ensures { result ≡ expects_continue (field_texts self.now) }
-    {
-        let mut fields = *self;
-        while let Some((value, behind)) = fields.find(b"expect") {
-            if is_same(value, b"100-continue") {
-                return true;
-            }
-            fields = behind;
-        }
-        false
     }
 }
 
