@@ -4,7 +4,7 @@
 //! [`Pages`] is filled once and then shared. Which row a path stands in, which methods the row allows and which number
 //! the path has to hold is defined over the path's parts in `specs/Routes`, and `specs/Paths` says what of a target is
 //! its path. A new row is a line of `path_table`, one of `Pages::new` and one of `endpoint_at`; where its path is
-//! fixed, it may be one of `fixed_page` too, which spares the router.
+//! fixed, it may be one of `fixed_page` too, which spares the cut of the target and the router.
 //!
 //! The crate stands on `matchit` for the router, on `path_table` for what a router of a table finds, on `http_words`
 //! for what is asked for and refused, on `http_fields` for texts without regard to case, on `decimal_text` for numbers,

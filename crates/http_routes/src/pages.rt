@@ -1,10 +1,10 @@
 //! The path table in a router.
-ghost use Rattle.std.specs.Prelude.{◌≡◌};
+ghost use Rattle.std.specs.Prelude.{◌≡◌, Some};
 ghost use Rattle.std.specs.Str.{IsUtf8};
 ghost use Rattle.path_table.specs.Apart.{in_order};
 ghost use Rattle.path_table.specs.Filled.{values_of};
 ghost use Rattle.path_table.specs.Walk.{rows_for};
-ghost use Rattle.http_routes.specs.Routes.{endpoint_at, endpoint_of, number_in, page_of, path_table};
+ghost use Rattle.http_routes.specs.Routes.{endpoint_at, endpoint_by, endpoint_of, number_in, page_of, path_table};
 
 use crate::fixed::fixed_page;
 use crate::numbers::number_of;
@@ -68,15 +68,26 @@ impl Pages {
         requires { IsUtf8 target.now }
         ensures { result ≡ endpoint_of method.now target.now }
     {
+        if let Some(page) = fixed_page(target) {
+            return endpoint_in(page, target, method);
+        }
         let path = path_of(target);
         let Some(page) = self.page_of(path) else {
             return Err(Fault::NotFound);
         };
-        if !allows(page.allow(), method) {
-            return Err(Fault::MethodNotAllowed(page.allow()));
-        }
-        endpoint_at(page, path)
+        endpoint_in(page, path, method)
     }
+}
+
+/// What a request asks for by its method, where its path stands in a row.
+fn endpoint_in(page: Page, path: &[u8], method: &[u8]) -> Result<Endpoint, Fault>
+    requires { IsUtf8 path.now }
+    ensures { result ≡ endpoint_by (Some page) (number_in path.now) method.now }
+{
+    if !allows(page.allow(), method) {
+        return Err(Fault::MethodNotAllowed(page.allow()));
+    }
+    endpoint_at(page, path)
 }
 
 /// What a path asks for that stands in a row.
