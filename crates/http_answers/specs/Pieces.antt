@@ -18,7 +18,10 @@ parts_joined status size allow close body =
 abbrev pub ending_of : (allow close : List ℕ) → List ℕ
 ending_of allow close = crlf_bytes ++ (allow ++ (close ++ crlf_bytes))
 
+-- what stands before those digits, with the status line
+abbrev pub opening_of : List ℕ → List ℕ
+opening_of status = status ++ (content_type ++ length_name)
+
 -- the same answer by fewer parts
 unfoldable pub by_parts : List ℕ → List ℕ → List ℕ → List ℕ → List ℕ
-by_parts status size ending body =
-    flat_map (λ part. part) (status ∷ (content_type ++ length_name) ∷ size ∷ ending ∷ body ∷ [])
+by_parts opening size ending body = flat_map (λ part. part) (opening ∷ size ∷ ending ∷ body ∷ [])

@@ -6,7 +6,7 @@ ghost use Rattle.http_answers.specs.Answers.{answer_bytes, body_put, interim_byt
 
 use crate::lines::{ending, interim};
 use crate::pieces::put_parts;
-use crate::status::status_line;
+use crate::status::opening;
 use http_words::{Allow, StatusCode};
 use itoa::Buffer;
 use link_io::{PutFault, Sink, put_all};
@@ -48,7 +48,7 @@ pub fn put_answer<K: Sink>(output: &mut K, answer: &Answer) -> Result<(), PutFau
     let length = digits.format(answer.body.len()).as_bytes();
     let ending = ending(answer.allow, answer.closes);
     let body = body_put(answer.withheld, answer.body);
-    put_parts(output, status_line(answer.status), length, ending, body)
+    put_parts(output, opening(answer.status), length, ending, body)
 }
 
 /// Puts the interim answer, which says that the body may be sent.

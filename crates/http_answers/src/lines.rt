@@ -1,19 +1,11 @@
-//! The lines of answers behind the status line.
-ghost use Rattle.std.specs.Prelude.{◌≡◌, ◌++◌};
+//! The lines of answers behind the length of the body.
+ghost use Rattle.std.specs.Prelude.{◌≡◌};
 ghost use Rattle.http_answers.specs.Answers.{allow_line, close_line, interim_bytes, methods_line};
-ghost use Rattle.http_answers.specs.Lines.{content_type, length_name};
 ghost use Rattle.http_answers.specs.Pieces.{ending_of};
 
 use http_words::Allow;
 
-/// What stands between the status line and the number of the body's length.
-pub(crate) fn middle<'p>() -> &'p [u8]
-    ensures { result.now ≡ content_type ++ length_name }
-{
-    b"Content-Type: application/json\r\nContent-Length: "
-}
-
-/// What stands between that number and the body: the end of its line, the methods that are named, that the connection
+/// What stands between the number of the body's length and the body: the end of its line, the methods that are named, that the connection
 /// closes, and the empty line.
 pub(crate) fn ending(allow: Option<Allow>, closes: bool) -> &'static [u8]
     ensures { result.now ≡ ending_of (allow_line allow) (close_line closes) }

@@ -4,7 +4,6 @@ ghost use Rattle.std.specs.Io.KnownBytes.{append_known};
 ghost use Rattle.fault_types.specs.Counts.{Rose};
 ghost use Rattle.http_answers.specs.Pieces.{by_parts, joined};
 
-use crate::lines::middle;
 use link_io::{PutFault, Sink, put_all};
 
 /// Puts the pieces in their order, and stops at the first put that moves nothing. What was put by then stays put: a
@@ -26,25 +25,25 @@ pub(crate) fn put_pieces<K: Sink>(output: &mut K, pieces: &[&[u8]]) -> Result<()
     Ok(())
 }
 
-/// Puts an answer by its status line, the digits of its length, what stands behind them, and its body.
+/// Puts an answer by what it opens with, the digits of its length, what stands behind them, and its body.
 #[tactic(auto, unfolding(crate::specs::Pieces::by_parts))]
 pub(crate) fn put_parts<'p, K: Sink>(
     output: &mut K,
-    status: &'p [u8],
+    opening: &'p [u8],
     size: &'p [u8],
     ending: &'p [u8],
     body: &'p [u8],
 ) -> Result<(), PutFault>
     ensures done { OnOk result
-        (K.written output.new ≡ append_known (K.written output.old) (by_parts status.now size.now ending.now body.now)) }
+        (K.written output.new ≡ append_known (K.written output.old) (by_parts opening.now size.now ending.now body.now)) }
     ensures stopped { OnErr result
-        ((n : ℕ) × (n < length (by_parts status.now size.now ending.now body.now))
+        ((n : ℕ) × (n < length (by_parts opening.now size.now ending.now body.now))
         × (K.written output.new ≡ append_known (K.written output.old)
-        (take n (by_parts status.now size.now ending.now body.now)))) }
+        (take n (by_parts opening.now size.now ending.now body.now)))) }
     ensures aside { K.aside output.new ≡ K.aside output.old }
     ensures rises { IsErrOf result PutFault.Failed → Rose (K.count output.old) (K.count output.new) }
     ensures never_falls { K.count output.old ≤ K.count output.new }
 {
-    let pieces = [status, middle(), size, ending, body];
+    let pieces = [opening, size, ending, body];
     put_pieces(output, &pieces)
 }

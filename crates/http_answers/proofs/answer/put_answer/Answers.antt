@@ -10,7 +10,7 @@ unfolding answer_bytes
 returns-clause-done g c =
     let a = c.args.answer.now in
     let size : c.as_bytes-length.result.now ≡ decimal (length a.body.now) = search rules in
-    let same = (λ k. by_parts (c.status_line.ensures k) (size k) (c.ending-ending.ensures k) (c.body_put-body.ensures k))
+    let same = (λ k. by_parts (c.opening.ensures k) (size k) (c.ending-ending.ensures k) (c.body_put-body.ensures k))
     ∙ by_parts-joined (status_line a.status) (decimal (length a.body.now)) (allow_line a.allow) (close_line a.closes)
     (body_put a.withheld a.body.now) in
     subst (λ (l : List ℕ). OnOk c.put_parts.result
@@ -21,7 +21,7 @@ unfolding answer_bytes
 returns-clause-stopped g c =
     let a = c.args.answer.now in
     let size : c.as_bytes-length.result.now ≡ decimal (length a.body.now) = search rules in
-    let same = (λ k. by_parts (c.status_line.ensures k) (size k) (c.ending-ending.ensures k) (c.body_put-body.ensures k))
+    let same = (λ k. by_parts (c.opening.ensures k) (size k) (c.ending-ending.ensures k) (c.body_put-body.ensures k))
     ∙ by_parts-joined (status_line a.status) (decimal (length a.body.now)) (allow_line a.allow) (close_line a.closes)
     (body_put a.withheld a.body.now) in
     subst (λ (l : List ℕ). OnErr c.put_parts.result ((n : ℕ) × (n < length l)

@@ -1,47 +1,33 @@
-use Rattle.std.proofs.Common.{sym, ap}
+use Rattle.std.proofs.Common.{ℕ, ◌≡◌, ◌+◌, ◌-◌, ◌∙◌, ◌++◌, List, ap, arith, length, length-append, refl, sym, take}
+use Rattle.std.proofs.Math.Seq.{take-append_seam}
+use Rattle.std.proofs.lemmas.List.{length-take-le}
 use Rattle.http_answers.specs.Answers.{status_line}
+use Rattle.http_answers.specs.Lines.{content_type, length_name}
+use Rattle.http_answers.specs.Pieces.{opening_of}
 use Rattle.http_answers.proofs.status.status_line.Goals as goal
 
-pub returns-in-Ok : goal.returns-in-Ok
-unfolding status_line
-returns-in-Ok c = sym (ap status_line c.in-Ok.is)
+behind-length : length (content_type ++ length_name) ≡ 48
+unfolding content_type length_name
+behind-length = refl
 
-pub returns-in-BadRequest : goal.returns-in-BadRequest
-unfolding status_line
-returns-in-BadRequest c = sym (ap status_line c.in-BadRequest.is)
+opening-length : (o s : List ℕ) → o ≡ opening_of s → length o ≡ length s + 48
+opening-length o s is =
+    ap (λ (l : List ℕ). length l) is ∙ length-append s (content_type ++ length_name)
+    ∙ ap (λ (n : ℕ). length s + n) behind-length
 
-pub returns-in-NotFound : goal.returns-in-NotFound
-unfolding status_line
-returns-in-NotFound c = sym (ap status_line c.in-NotFound.is)
+-- what stands before the rest of an opening is the line
+opening-front : (o s : List ℕ) → o ≡ opening_of s → take (length o - 48) o ≡ s
+opening-front o s is =
+    let size : length o - 48 ≡ length s = omega (arith, opening-length o s is) in
+    ap (λ (n : ℕ). take n o) size ∙ ap (λ (l : List ℕ). take (length s) l) is
+    ∙ take-append_seam s (content_type ++ length_name)
 
-pub returns-in-MethodNotAllowed : goal.returns-in-MethodNotAllowed
-unfolding status_line
-returns-in-MethodNotAllowed c = sym (ap status_line c.in-MethodNotAllowed.is)
+pub slice_bounds-result-count : goal.slice_bounds-result-count
+slice_bounds-result-count c = omega (arith, opening-length _ _ c.opening-whole.ensures)
 
-pub returns-in-Conflict : goal.returns-in-Conflict
-unfolding status_line
-returns-in-Conflict c = sym (ap status_line c.in-Conflict.is)
+pub slice_bounds-result-length : goal.slice_bounds-result-length
+slice_bounds-result-length c =
+    sym (length-take-le (length c.opening-whole.result.now - 48) c.opening-whole.result.now (omega arith))
 
-pub returns-in-LengthRequired : goal.returns-in-LengthRequired
-unfolding status_line
-returns-in-LengthRequired c = sym (ap status_line c.in-LengthRequired.is)
-
-pub returns-in-TooLarge : goal.returns-in-TooLarge
-unfolding status_line
-returns-in-TooLarge c = sym (ap status_line c.in-TooLarge.is)
-
-pub returns-in-TooManyRequests : goal.returns-in-TooManyRequests
-unfolding status_line
-returns-in-TooManyRequests c = sym (ap status_line c.in-TooManyRequests.is)
-
-pub returns-in-NotImplemented : goal.returns-in-NotImplemented
-unfolding status_line
-returns-in-NotImplemented c = sym (ap status_line c.in-NotImplemented.is)
-
-pub returns-in-Unavailable : goal.returns-in-Unavailable
-unfolding status_line
-returns-in-Unavailable c = sym (ap status_line c.in-Unavailable.is)
-
-pub returns-in-NoStorage : goal.returns-in-NoStorage
-unfolding status_line
-returns-in-NoStorage c = sym (ap status_line c.in-NoStorage.is)
+pub returns : goal.returns
+returns c = opening-front _ _ c.opening-whole.ensures
