@@ -276,6 +276,14 @@ blank-awaits look held is blank few = record {
   may_come = inl (blank_bytes look held is blank few);
 }
 
+-- where no byte is held, a head may still come
+pub nothing-awaits : AwaitsHead false []
+nothing-awaits =
+    let begun = nothing-begun [] in
+    let through : IsLookThrough (record { count = 0; lines = 0; place = place.Blank }) [] =
+    record { is = begun.look; all = refl; no_end = refl } in
+    blank-awaits (record { count = 0; lines = 0; place = place.Blank }) [] through refl (omega arith)
+
 -- enough of the bytes was given to the parser
 pub tried-awaits : (look : Look) (tried : ℕ) (held : List ℕ) → IsLookThrough look held → IsTried tried look held → length held < MAX_HEAD_BYTES
     → look.count < 2 * tried → AwaitsHead false held

@@ -9,9 +9,9 @@ use Rattle.http_requests.specs.Readings.{IsReading}
 use Rattle.http_words.specs.declared.fault.Fault.{Fault}
 use Rattle.http_words.specs.declared.limits.TheConstants.{MAX_HEAD_BYTES, MAX_BODY_BYTES}
 use Rattle.http_requests.specs.declared.next.Awaited.{Awaited}
-use Rattle.http_requests.specs.declared.next.Found.{Found}
 use Rattle.http_requests.specs.declared.next.Next.{Next}
 use Rattle.http_requests.specs.declared.next.Next.TheVariants as next
+use Rattle.http_requests.specs.declared.reading.Reading.{Reading}
 use Rattle.http_requests.specs.declared.request.Request.{Request}
 
 -- a request that is answered by a fault and ends the connection
@@ -91,6 +91,6 @@ left_of held (next.Request request) = drop request.size held
 left_of held next.End = held
 
 -- that comes next, and what is kept is of the bytes that are left
-pub record IsFound (ended : Bool) (held : List ℕ) (found : Found) : Type 0 where
-  pub says : Says ended held found.next
-  pub keeps : IsReading found.reading (left_of held found.next)
+pub record IsFound (ended : Bool) (held : List ℕ) (next : Next) (reading : Reading) : Type 0 where
+  pub says : Says ended held next
+  pub keeps : IsReading reading (left_of held next)

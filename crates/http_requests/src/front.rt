@@ -21,8 +21,10 @@ pub(crate) enum Front<'b> {
     Never,
 }
 
-/// How many fields most heads have at most.
+/// How many fields most heads have at most, and those of a plain client.
 const FEW_FIELDS: usize = 16;
+
+const PLAIN_FIELDS: usize = 4;
 
 /// What stands at the front of these bytes, each of which is counted, where there is room for the spans of all fields
 /// that they may have.
@@ -55,6 +57,10 @@ pub(crate) fn front_of<'b, L: Ledger>(
     ensures says { FrontSays bytes.now result }
     ensures counted { looked.new ≡ looked.old + length bytes.now }
 {
+    if lines <= PLAIN_FIELDS {
+        let mut plain = [EMPTY_HEADER_SPAN; PLAIN_FIELDS];
+        return front_in(bytes, &mut plain, looked);
+    }
     if lines <= FEW_FIELDS {
         let mut few = [EMPTY_HEADER_SPAN; FEW_FIELDS];
         return front_in(bytes, &mut few, looked);

@@ -1,12 +1,12 @@
 //! What comes next of the bytes held.
 ghost use Rattle.std.specs.Prelude.{◌≡◌, ◌≤◌, ◌<◌, ◌+◌, ◌*◌, Bool, true, false, List, ℕ, length, take};
 ghost use Rattle.httparse.specs.Grammar.{MayBecomeRequest, RequestHead};
-ghost use Rattle.http_requests.specs.Costs.{CanCount, cost, cost_of, head_room, most};
+ghost use Rattle.http_requests.specs.Costs.{CanCount, cost, head_room, most};
 ghost use Rattle.http_requests.specs.Items.{HasHead};
 ghost use Rattle.http_requests.specs.Looks.{IsLookThrough, IsTried, feeds};
 ghost use Rattle.http_requests.specs.Next.{AwaitsHead, HasNoHeadFor, IsFound, IsNextFor, Says, left_of, refusal};
 ghost use Rattle.http_requests.specs.Places.{is_blank, is_end, place_of};
-ghost use Rattle.http_requests.specs.Readings.{IsBegun, IsBodyAwaited, IsReading, IsStage};
+ghost use Rattle.http_requests.specs.Readings.{IsBegun, IsBodyAwaited, IsReading};
 
 use crate::front::{Front, front_of};
 use crate::look::Look;
@@ -38,13 +38,6 @@ pub enum Next {
     Request(Request),
     /// The connection has ended.
     End,
-}
-
-/// What comes next, and what is kept of the bytes that were looked at for it.
-#[derive(Clone, Copy)]
-pub(crate) struct Found {
-    pub(crate) next: Next,
-    pub(crate) reading: Reading,
 }
 
 /// What comes next of the bytes held, where `ended` says that the input has ended, so that nothing follows them. What a
@@ -97,176 +90,157 @@ pub fn next_counted<L: Ledger>(
     ensures keeps { IsReading reading.new (left_of held.now result) }
     ensures few { looked.new + cost reading.old ≤ looked.old + most held.now reading.new result }
 {
-    let found = find(pages, reading.stage, held, ended, looked);
-    *reading = found.reading;
-    found.next
-}
-
-/// What comes of a request that was read so far.
-fn find<L: Ledger>(
-    pages: &Pages,
-    stage: Stage,
-    held: &[u8],
-    ended: bool,
-    looked: &mut Looked<L>,
-) -> Found
-    requires { IsStage stage held.now }
-    ensures found { IsFound ended held.now result }
-    ensures few { looked.new + cost_of stage ≤ looked.old + most held.now result.reading result.next }
-{
-    match stage {
-        Stage::Head(begun) => find_head(pages, begun, held, ended, looked),
-        Stage::Body(request) => find_body(request, held, ended),
+    match reading.stage {
+        Stage::Head(begun) => find_head(pages, reading, begun, held, ended, looked),
+        Stage::Body(request) => find_body(reading, request, held, ended),
     }
 }
 
 /// A request that is answered by a fault and ends the connection.
-fn found_refused(interim: bool, withheld: bool, fault: Fault) -> Found
+fn found_refused(reading: &mut Reading, interim: bool, withheld: bool, fault: Fault) -> Next
     ensures found { (ended : Bool) (bytes : List ℕ)
-        → IsNextFor ended bytes (refusal interim withheld fault) → IsFound ended bytes result }
-    ensures most { (bytes : List ℕ) → most bytes result.reading result.next ≡ 4 * head_room bytes }
+        → IsNextFor ended bytes (refusal interim withheld fault) → IsFound ended bytes result reading.new }
+    ensures most { (bytes : List ℕ) → most bytes reading.new result ≡ 4 * head_room bytes }
 {
-    Found {
-        next: Next::Request(Request::refused(interim, withheld, fault)),
-        reading: Reading::new(),
-    }
+    *reading = Reading::new();
+    Next::Request(Request::refused(interim, withheld, fault))
 }
 
 /// No whole head yet.
-fn found_more(look: Look, tried: usize) -> Found
-    ensures found { (ended : Bool) (bytes : List ℕ)
-        → AwaitsHead ended bytes → IsBegun (record { look = look; tried = tried }) bytes → IsFound ended bytes result }
-    ensures most { (bytes : List ℕ) → most bytes result.reading result.next ≡ look.count + 2 * tried }
+fn found_more(reading: &mut Reading, look: Look, tried: usize) -> Next
+    ensures found { (ended : Bool) (bytes : List ℕ) → AwaitsHead ended bytes
+        → IsBegun (record { look = look; tried = tried }) bytes → IsFound ended bytes result reading.new }
+    ensures most { (bytes : List ℕ) → most bytes reading.new result ≡ look.count + 2 * tried }
 {
-    Found {
-        next: Next::More,
-        reading: Reading::of_head(look, tried),
-    }
+    *reading = Reading::of_head(look, tried);
+    Next::More
 }
 
 /// What comes of a request whose head is read: it is whole, or cut off, or more of its body has to come.
-fn find_body(request: Request, held: &[u8], ended: bool) -> Found
+fn find_body(reading: &mut Reading, request: Request, held: &[u8], ended: bool) -> Next
     requires { IsBodyAwaited request held.now }
-    ensures found { IsFound ended held.now result }
-    ensures most { 4 * request.body ≤ most held.now result.reading result.next }
+    ensures found { IsFound ended held.now result reading.new }
+    ensures most { 4 * request.body ≤ most held.now reading.new result }
 {
     if request.size <= held.len() {
-        return Found {
-            next: Next::Request(request),
-            reading: Reading::new(),
-        };
+        *reading = Reading::new();
+        return Next::Request(request);
     }
     if ended {
-        return found_refused(request.interim, request.withheld, Fault::BadRequest);
+        return found_refused(
+            reading,
+            request.interim,
+            request.withheld,
+            Fault::BadRequest,
+        );
     }
     let awaited = Awaited {
         interim: request.interim,
         size: request.size,
     };
-    Found {
-        next: Next::Body(awaited),
-        reading: Reading::of_body(request),
-    }
+    *reading = Reading::of_body(request);
+    Next::Body(awaited)
 }
 
 /// What comes of bytes of which no whole head was seen yet.
 fn find_head<L: Ledger>(
     pages: &Pages,
+    reading: &mut Reading,
     begun: Begun,
     held: &[u8],
     ended: bool,
     looked: &mut Looked<L>,
-) -> Found
+) -> Next
     requires { IsBegun begun held.now }
-    ensures found { IsFound ended held.now result }
-    ensures few { looked.new + (begun.look.count + 2 * begun.tried) ≤ looked.old + most held.now result.reading result.next }
+    ensures found { IsFound ended held.now result reading.new }
+    ensures few { looked.new + (begun.look.count + 2 * begun.tried) ≤ looked.old + most held.now reading.new result }
 {
     let look = begun.look.on(held, looked);
     if look.place.is_end() {
-        return find_request(pages, look.count, look.lines, held, ended, looked);
+        return find_request(pages, reading, look.count, look.lines, held, ended, looked);
     }
     if look.place.is_blank() {
-        return find_blank(look, begun.tried, held, ended);
+        return find_blank(reading, look, begun.tried, held, ended);
     }
-    find_open(look, begun.tried, held, ended, looked)
+    find_open(reading, look, begun.tried, held, ended, looked)
 }
 
 /// What comes of so many bytes, in which so many lines end, and which are a head if they begin with one.
 fn find_request<L: Ledger>(
     pages: &Pages,
+    reading: &mut Reading,
     count: usize,
     lines: usize,
     held: &[u8],
     ended: bool,
     looked: &mut Looked<L>,
-) -> Found
+) -> Next
     requires within { count ≤ length held.now }
     requires few { count ≤ MAX_HEAD_BYTES }
     requires lines { feeds (take count held.now) ≤ lines }
     requires at_end { is_end (place_of (take count held.now)) ≡ true }
     requires first { (n : ℕ) → n < count → is_end (place_of (take n held.now)) ≡ false }
-    ensures found { IsFound ended held.now result }
-    ensures few { looked.new + 3 * count ≤ looked.old + most held.now result.reading result.next }
+    ensures found { IsFound ended held.now result reading.new }
+    ensures few { looked.new + 3 * count ≤ looked.old + most held.now reading.new result }
 {
     let front = &held[..count];
     match front_of(front, lines, looked) {
         Front::Head(head) => match head.becomes(pages) {
-            Ok(request) => find_body(request, held, ended),
-            Err(fault) => found_refused(false, head.is_head(), fault),
+            Ok(request) => find_body(reading, request, held, ended),
+            Err(fault) => found_refused(reading, false, head.is_head(), fault),
         },
-        Front::Open => found_refused(false, false, Fault::BadRequest),
-        Front::Never => found_refused(false, false, Fault::BadRequest),
+        Front::Open => found_refused(reading, false, false, Fault::BadRequest),
+        Front::Never => found_refused(reading, false, false, Fault::BadRequest),
     }
 }
 
 /// What comes of bytes that end lines at most.
-fn find_blank(look: Look, tried: usize, held: &[u8], ended: bool) -> Found
+fn find_blank(reading: &mut Reading, look: Look, tried: usize, held: &[u8], ended: bool) -> Next
     requires through { IsLookThrough look held.now }
     requires tried { IsTried tried look held.now }
     requires blank { is_blank look.place ≡ true }
-    ensures found { IsFound ended held.now result }
-    ensures most { look.count + 2 * tried ≤ most held.now result.reading result.next }
+    ensures found { IsFound ended held.now result reading.new }
+    ensures most { look.count + 2 * tried ≤ most held.now reading.new result }
 {
     if MAX_HEAD_BYTES <= held.len() {
-        return found_refused(false, false, Fault::BadRequest);
+        return found_refused(reading, false, false, Fault::BadRequest);
     }
     if ended {
-        return Found {
-            next: Next::End,
-            reading: Reading::new(),
-        };
+        *reading = Reading::new();
+        return Next::End;
     }
-    found_more(look, tried)
+    found_more(reading, look, tried)
 }
 
 /// What comes of bytes that begin a head and don't end it. They are given to the parser where they are at least twice
 /// as many as those that it was given last.
 fn find_open<L: Ledger>(
+    reading: &mut Reading,
     look: Look,
     tried: usize,
     held: &[u8],
     ended: bool,
     looked: &mut Looked<L>,
-) -> Found
+) -> Next
     requires through { IsLookThrough look held.now }
     requires tried { IsTried tried look held.now }
     requires busy { is_blank look.place ≡ false }
-    ensures found { IsFound ended held.now result }
-    ensures few { looked.new + (look.count + 2 * tried) ≤ looked.old + most held.now result.reading result.next }
+    ensures found { IsFound ended held.now result reading.new }
+    ensures few { looked.new + (look.count + 2 * tried) ≤ looked.old + most held.now reading.new result }
 {
     if ended {
-        return found_refused(false, false, Fault::BadRequest);
+        return found_refused(reading, false, false, Fault::BadRequest);
     }
     if MAX_HEAD_BYTES <= held.len() {
-        return found_refused(false, false, Fault::BadRequest);
+        return found_refused(reading, false, false, Fault::BadRequest);
     }
     if look.count < 2 * tried {
-        return found_more(look, tried);
+        return found_more(reading, look, tried);
     }
     if may_become_head(held, look.lines, looked) {
-        return found_more(look, look.count);
+        return found_more(reading, look, look.count);
     }
-    found_refused(false, false, Fault::BadRequest)
+    found_refused(reading, false, false, Fault::BadRequest)
 }
 
 /// Whether bytes that hold no head, and in which so many lines end, may become one.
