@@ -16,6 +16,7 @@ use farm_types::{Memory, Moment};
 /// # Errors
 ///
 /// Running out of memory, after which the history is as before.
+#[tactic(auto, using(crate::proofs::InMemory::answering))]
 pub fn answer_in_memory(farm: &mut Farm, command: &Command, at: Moment) -> Result<Answer, Memory>
     ensures answer { IfOk result (λ answer. IsAnswer farm.old.history (decide farm.old.history command.now at) answer) }
     ensures dates { IfOk result AnswerHasDates }

@@ -1,3 +1,4 @@
+-- What an answer in memory adds to the history, and the days that it shows.
 use Rattle.std.proofs.Common.{◌≡◌, ◌++◌, ◌∷◌, List, [], Result, Ok, Err, IfOk, OnErr, OnOk, refl, sym, subst, ◌∙◌}
 use Rattle.std.proofs.lemmas.List.{append-nil}
 use Rattle.farm_types.specs.declared.moment.Moment.{Moment}
@@ -12,14 +13,13 @@ use Rattle.farm_store.specs.Answering.{IsAnswer}
 use Rattle.farm_store.specs.declared.asking.Answer.{Answer}
 use Rattle.farm_answers.specs.Texts.{AnswerHasDates}
 use Rattle.farm_answers.proofs.Answers.{answer-dates}
-use Rattle.farm_answers.proofs.in_memory.answer_in_memory.Goals as goal
 
 -- the days of an answer, where there is one, after which the history is legal
-dates_of : {E : Type 0} (H K : List Entry) (q : Command) (m : Moment) (result : Result Answer E)
+pub dated : {E : Type 0} (H K : List Entry) (q : Command) (m : Moment) (result : Result Answer E)
     → IfOk result (IsAnswer H (decide H q m)) → OnOk result (K ≡ after H (decide H q m)) → IsLegal K
     → IfOk result AnswerHasDates
-dates_of H K q m (Ok a) said is legal = answer-dates H q m (decide H q m) a (subst IsLegal is legal) refl said
-dates_of H K q m (Err e) said is legal = tt
+dated H K q m (Ok a) said is legal = answer-dates H q m (decide H q m) a (subst IsLegal is legal) refl said
+dated H K q m (Err e) said is legal = tt
 
 -- what a decision adds to a history
 added : (H : List Entry) (d : Decision) → (more : List Entry) × (after H d ≡ H ++ more)
@@ -29,17 +29,9 @@ added H (Show page) = ([], sym (append-nil H))
 added H (New e) = (e ∷ [], refl)
 
 -- what is new of the history, which stays where there is no answer
-longer_of : {E : Type 0} (H K : List Entry) (d : Decision) (result : Result Answer E)
+pub longer : {E : Type 0} (H K : List Entry) (d : Decision) (result : Result Answer E)
     → OnOk result (K ≡ after H d) → OnErr result (K ≡ H) → (more : List Entry) × (K ≡ H ++ more)
-longer_of H K d (Ok a) is kept = let new = added H d in (new.0, is ∙ new.1)
-longer_of H K d (Err e) is kept = ([], kept ∙ sym (append-nil H))
+longer H K d (Ok a) is kept = let new = added H d in (new.0, is ∙ new.1)
+longer H K d (Err e) is kept = ([], kept ∙ sym (append-nil H))
 
-pub returns-clause-longer : goal.returns-clause-longer
-returns-clause-longer c =
-    longer_of c.args.farm.now.history c.answer.new.farm.history (decide c.args.farm.now.history c.args.command.now c.args.at)
-    c.answer.result c.answer.ensures.history c.answer.ensures.kept
-
-pub returns-clause-dates : goal.returns-clause-dates
-returns-clause-dates c =
-    dates_of c.args.farm.now.history c.answer.new.farm.history c.args.command.now c.args.at c.answer.result
-    c.answer.ensures.answer c.answer.ensures.history c.answer.ensures.legal
+pub ruleset answering = (dated, longer)
