@@ -77,7 +77,7 @@ fn next_on<L: Ledger>(
 
 /// What comes next of the bytes held, as [`next_of`] says it, where the bytes that are looked at are counted: those of
 /// all calls for one request are at most four times the bytes of its head, or, where there is none, four times those
-/// that were held and might have been one.
+/// that were held and might have been one. The count never falls.
 pub fn next_counted<L: Ledger>(
     pages: &Pages,
     reading: &mut Reading,
@@ -89,6 +89,7 @@ pub fn next_counted<L: Ledger>(
     ensures says { Says ended held.now result }
     ensures keeps { IsReading reading.new (left_of held.now result) }
     ensures few { looked.new + cost reading.old ≤ looked.old + most held.now reading.new result }
+    ensures rises { looked.old ≤ looked.new }
 {
     match reading.stage {
         Stage::Head(begun) => find_head(pages, reading, begun, held, ended, looked),
@@ -154,6 +155,7 @@ fn find_head<L: Ledger>(
     requires { IsBegun begun held.now }
     ensures found { IsFound ended held.now result reading.new }
     ensures few { looked.new + (begun.look.count + 2 * begun.tried) ≤ looked.old + most held.now reading.new result }
+    ensures rises { looked.old ≤ looked.new }
 {
     let look = begun.look.on(held, looked);
     if look.place.is_end() {
@@ -182,6 +184,7 @@ fn find_request<L: Ledger>(
     requires first { (n : ℕ) → n < count → is_end (place_of (take n held.now)) ≡ false }
     ensures found { IsFound ended held.now result reading.new }
     ensures few { looked.new + 3 * count ≤ looked.old + most held.now reading.new result }
+    ensures rises { looked.old ≤ looked.new }
 {
     let front = &held[..count];
     match front_of(front, lines, looked) {
@@ -227,6 +230,7 @@ fn find_open<L: Ledger>(
     requires busy { is_blank look.place ≡ false }
     ensures found { IsFound ended held.now result reading.new }
     ensures few { looked.new + (look.count + 2 * tried) ≤ looked.old + most held.now reading.new result }
+    ensures rises { looked.old ≤ looked.new }
 {
     if ended {
         return found_refused(reading, false, false, Fault::BadRequest);
