@@ -8,16 +8,21 @@ use crate::{Did, Disk, Memory, Size, Written};
 use std::alloc::Global;
 use std::fs::{File, OpenOptions};
 use std::io;
+use std::os::fd::{AsRawFd, RawFd};
 use std::os::unix::fs::FileExt;
 use std::path::Path;
 use std::rt::Files;
+
+/// The greatest number of a standard stream: input, output and error are the descriptors 0 to 2.
+const LAST_STREAM: RawFd = 2;
 
 /// A file as a disk. It is opened at its first use. A missing file reads as empty, and the first write makes it;
 /// that its name in its folder outlasts a crash isn't claimed. Nobody else may write to it: from its first use on the
 /// file's advisory lock is held, and where another program holds it each call is a fault that reads and writes nothing.
 ///
 /// A call that a signal interrupts is made again, and one that moves a part of the bytes goes on. Each other error is
-/// counted as a fault, and so is a call outside the size, a folder in place of the file, and a missing folder. The
+/// counted as a fault, and so is a call outside the size, a folder in place of the file, and a missing folder; and a
+/// file that the system opens as a standard stream, which was closed: what is written to that stream would go there. The
 /// size is kept between the calls, so that a write asks the system for nothing else: it is asked anew by
 /// [`Disk::size`], and by the first call after an error.
 #[derive(Drop)]
@@ -60,6 +65,9 @@ impl<R: Files<File = File> + Drop> FileDisk<R> {
             .open(&self.rt, self.path.as_str());
         match opened {
             Ok(file) => {
+                if file.as_raw_fd() <= LAST_STREAM {
+                    return Err(io::Error::from(io::ErrorKind::Unsupported));
+                }
                 file.try_lock()?;
                 self.file = Some(file);
                 Ok(())

@@ -26,6 +26,7 @@ mod run_command;
 mod run_journal;
 mod serve_command;
 mod show_command;
+mod stand_ins;
 mod status;
 mod work_command;
 

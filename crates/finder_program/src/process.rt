@@ -2,6 +2,7 @@
 
 use crate::program::finder;
 use crate::real_runner::{NoRunner, make_runner};
+use crate::stand_ins::stand_ins;
 use crate::status::Status;
 use farm_disk::FileDisk;
 use finder_words::read_places;
@@ -20,13 +21,15 @@ const CONNECTION_TIMEOUT_MS: u64 = 30_000;
 /// Runs the subcommand that the process's words name over the real input, output, disk, clock, network, runner and
 /// keys, and ends with the status of that. `threads` is the same runtime, as `main` has it: the threads of the process.
 /// Where the subcommand did not do its work, the status's text is the one line on standard error; what can't be written
-/// there is lost.
+/// there is lost. A standard stream that the process began without stays one that can be neither read nor written,
+/// whatever is opened meanwhile.
 ///
 /// The adapters over standard input and output, over the journal's file, over TCP, over the machine's clock and over
 /// its random bytes are the trusted edge: no contract says which bytes the system or a peer gives, takes or keeps,
 /// what its clock shows, or that a key was never drawn before. What the program does with them is the contract of
 /// [`finder`], and what it writes to standard error is that of [`Status::write_line`].
 pub fn run_process<H: Threads + Wait + Sync>(rt: HostRuntime, threads: &H) -> ExitCode {
+    let _streams = stand_ins(rt);
     let status = run_own_words(rt, threads);
     let _ = status.write_line(&mut rt.stderr());
     ExitCode::from(status.exit_code())
