@@ -7,13 +7,13 @@ ghost use Rattle.farm_journal.specs.Gates.{Rests, Waits, IsEither};
 ghost use Rattle.farm_journal.specs.Outcome.{IsUndone};
 
 use crate::disk_calls::{DiskFault, sync, write};
-use crate::layout::closed_frame;
+use crate::layout::put_closed_frame;
 use farm_disk::Disk;
-use std::alloc::Global;
 
-/// Writes the record behind the closed gate and syncs, and then opens the gate and syncs.
+/// Writes the record behind the closed gate and syncs, and then opens the gate and syncs. The record is put together in
+/// the room of `piece`.
 pub(super) fn append_record<D: Disk>(
-    alloc: Global,
+    piece: &mut Vec<u8>,
     disk: &mut D,
     gate: u64,
     payload: &[u8],
@@ -45,8 +45,8 @@ pub(super) fn append_record<D: Disk>(
     ensures cause { IsErrOf result DiskFault.Failed → Rose (D.count disk.old) (D.count disk.new) }
     ensures never_falls { D.count disk.old ≤ D.count disk.new }
 {
-    let record = closed_frame(alloc, payload)?;
-    write(disk, gate + 1, &record)?;
+    put_closed_frame(piece, payload)?;
+    write(disk, gate + 1, piece)?;
     sync(disk)?;
     write(disk, gate, &[1])?;
     sync(disk)

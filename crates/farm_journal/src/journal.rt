@@ -70,6 +70,8 @@ pub struct Journal<D: Disk> {
     version: u8,
     pending: Option<Payload>,
     past: ToldList<Payload>,
+    /// The room in which records are put together, kept from one to the next.
+    piece: Vec<u8>,
 }
 
 impl<D: Disk> Model for Journal<D> {
@@ -134,6 +136,7 @@ impl<D: Disk> Journal<D> {
                     version: 2,
                     pending: None,
                     past,
+                    piece: Vec::new(alloc),
                 })
             }
             Ok(false) => Err((disk, CreateFault::AlreadyBorn)),
@@ -186,6 +189,7 @@ impl<D: Disk> Journal<D> {
                     version: version_of_byte(&bytes),
                     pending: None,
                     past,
+                    piece: Vec::new(alloc),
                 };
                 Ok((journal, Payloads::of(payloads)))
             }
@@ -247,7 +251,13 @@ impl<D: Disk> Journal<D> {
         let Ok(copy) = Payload::copy_of(alloc, payload) else {
             return Err(JournalFault::Memory);
         };
-        match store(alloc, &mut self.disk, &mut self.version, self.gate, payload) {
+        match store(
+            &mut self.piece,
+            &mut self.disk,
+            &mut self.version,
+            self.gate,
+            payload,
+        ) {
             Ok(()) => {
                 self.past.tell(&copy);
                 self.gate += 5 + payload.len() as u64;

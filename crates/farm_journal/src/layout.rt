@@ -1,5 +1,5 @@
 //! The layout of the journal file: its limits, its header, and the bytes of a record.
-ghost use Rattle.std.specs.Prelude.{◌≡◌, ◌++◌, ◌∷◌, [], length, IfOk};
+ghost use Rattle.std.specs.Prelude.{◌≡◌, ◌++◌, ◌∷◌, [], length, IfOk, OnOk};
 ghost use Rattle.farm_journal.specs.Layout.{framed, IsPayload};
 
 use std::alloc::{AllocError, Global};
@@ -24,23 +24,26 @@ pub const VERSION_1: u8 = b'1';
 /// The version byte that this crate writes.
 pub const VERSION_2: u8 = b'2';
 
-/// The length of a payload, the payload, and a closed gate.
-pub(super) fn closed_frame(alloc: Global, payload: &[u8]) -> Result<Vec<u8>, AllocError>
+/// Makes of some bytes, whose room serves for it, the length of a payload, the payload, and a closed gate.
+pub(super) fn put_closed_frame(bytes: &mut Vec<u8>, payload: &[u8]) -> Result<(), AllocError>
     requires { IsPayload payload.now }
-    ensures { IfOk result (λ bytes. bytes.items ≡ framed payload.now ++ 0 ∷ []) }
+    ensures { OnOk result (bytes.new.items ≡ framed payload.now ++ 0 ∷ []) }
 {
-    let mut bytes = Vec::with_capacity(alloc, payload.len() + 5)?;
+    bytes.clear();
+    bytes.reserve(payload.len() + 5)?;
     bytes.extend_from_slice(&(payload.len() as u32).to_be_bytes())?;
     bytes.extend_from_slice(payload)?;
     bytes.push(0)?;
-    Ok(bytes)
+    Ok(())
 }
+
 /// All of a new file but its birth byte: the header, an open gate, the first record, and a closed gate.
 pub(super) fn first_frame(alloc: Global, payload: &[u8]) -> Result<Vec<u8>, AllocError>
     requires { IsPayload payload.now }
     ensures { IfOk result (λ bytes. bytes.items ≡ MAGIC ++ VERSION_2 ∷ 1 ∷ framed payload.now ++ 0 ∷ []) }
 {
-    let record = closed_frame(alloc, payload)?;
+    let mut record = Vec::new(alloc);
+    put_closed_frame(&mut record, payload)?;
     let mut bytes = Vec::new(alloc);
     bytes.extend_from_slice(&MAGIC)?;
     bytes.push(VERSION_2)?;

@@ -10,11 +10,10 @@ use crate::appending::append_record;
 use crate::disk_calls::DiskFault;
 use crate::upgrading::upgrade;
 use farm_disk::Disk;
-use std::alloc::Global;
 
 /// Appends a payload at a closed gate. A file that isn't known to be of version 2 is upgraded first.
 pub(super) fn store<D: Disk>(
-    alloc: Global,
+    piece: &mut Vec<u8>,
     disk: &mut D,
     version: &mut u8,
     gate: u64,
@@ -57,9 +56,9 @@ pub(super) fn store<D: Disk>(
     ensures never_falls { D.count disk.old ≤ D.count disk.new }
 {
     if *version == 2 {
-        return append_record(alloc, disk, gate, payload);
+        return append_record(piece, disk, gate, payload);
     }
     upgrade(disk, gate)?;
     *version = 2;
-    append_record(alloc, disk, gate, payload)
+    append_record(piece, disk, gate, payload)
 }

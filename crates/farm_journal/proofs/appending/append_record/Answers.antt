@@ -7,26 +7,26 @@ use Rattle.farm_journal.proofs.Bytes.{length-closed}
 use Rattle.farm_journal.proofs.Run.{length-synced, on_ok, started, waits, went-record, went-sync, went-gate, staged-sync, acknowledged}
 use Rattle.farm_journal.proofs.appending.append_record.Goals as goal
 
-pub returns-in_err-record-clause-any_moment : goal.returns-in_err-record-clause-any_moment
-returns-in_err-record-clause-any_moment g c tells ps rests =
+pub returns-in_err-put_closed_frame-clause-any_moment : goal.returns-in_err-put_closed_frame-clause-any_moment
+returns-in_err-put_closed_frame-clause-any_moment g c tells ps rests =
     (started 2 ps c.args.gate c.args.payload.now _ rests).images
 
 pub returns-in_err-write-clause-any_moment : goal.returns-in_err-write-clause-any_moment
 returns-in_err-write-clause-any_moment g c tells ps rests =
-    let bytes = c.deref.ensures.value ∙ c.in_ok-record.ensures in
+    let bytes = c.deref.ensures.value ∙ c.in_ok-put_closed_frame.ensures in
     (went-record ps c.args.gate c.args.payload.now _ rests c.requires.payload _ _ c.write.result bytes
     (c.write.ensures.ends tells)).images
 
 pub returns-in_err-write-clause-failed : goal.returns-in_err-write-clause-failed
 returns-in_err-write-clause-failed g c failed tells ps rests =
-    let bytes = c.deref.ensures.value ∙ c.in_ok-record.ensures in
+    let bytes = c.deref.ensures.value ∙ c.in_ok-put_closed_frame.ensures in
     waits 2 ps c.args.gate c.args.payload.now _ _
     (went-record ps c.args.gate c.args.payload.now _ rests c.requires.payload _ _ c.write.result bytes
     (c.write.ensures.ends tells))
 
 pub returns-in_err-sync-clause-any_moment : goal.returns-in_err-sync-clause-any_moment
 returns-in_err-sync-clause-any_moment g c tells ps rests =
-    let bytes = c.deref.ensures.value ∙ c.in_ok-record.ensures in
+    let bytes = c.deref.ensures.value ∙ c.in_ok-put_closed_frame.ensures in
     let went = went-record ps c.args.gate c.args.payload.now _ rests c.requires.payload _ _ c.write.result bytes
     (c.write.ensures.ends tells) in
     (went-sync 2 ps c.args.gate c.args.payload.now _ _ _ c.sync.result went
@@ -34,7 +34,7 @@ returns-in_err-sync-clause-any_moment g c tells ps rests =
 
 pub returns-in_err-sync-clause-failed : goal.returns-in_err-sync-clause-failed
 returns-in_err-sync-clause-failed g c failed tells ps rests =
-    let bytes = c.deref.ensures.value ∙ c.in_ok-record.ensures in
+    let bytes = c.deref.ensures.value ∙ c.in_ok-put_closed_frame.ensures in
     let went = went-record ps c.args.gate c.args.payload.now _ rests c.requires.payload _ _ c.write.result bytes
     (c.write.ensures.ends tells) in
     waits 2 ps c.args.gate c.args.payload.now _ _
@@ -43,7 +43,7 @@ returns-in_err-sync-clause-failed g c failed tells ps rests =
 
 pub returns-in_err-write-2-clause-any_moment : goal.returns-in_err-write-2-clause-any_moment
 returns-in_err-write-2-clause-any_moment g c tells ps rests =
-    let bytes = c.deref.ensures.value ∙ c.in_ok-record.ensures in
+    let bytes = c.deref.ensures.value ∙ c.in_ok-put_closed_frame.ensures in
     let tells_1 = c.write.ensures.same ∙ tells in
     let tells_2 = c.sync.ensures.same ∙ tells_1 in
     let went = went-record ps c.args.gate c.args.payload.now _ rests c.requires.payload _ _ c.write.result bytes
@@ -57,7 +57,7 @@ returns-in_err-write-2-clause-any_moment g c tells ps rests =
 
 pub returns-in_err-write-2-clause-failed : goal.returns-in_err-write-2-clause-failed
 returns-in_err-write-2-clause-failed g c failed tells ps rests =
-    let bytes = c.deref.ensures.value ∙ c.in_ok-record.ensures in
+    let bytes = c.deref.ensures.value ∙ c.in_ok-put_closed_frame.ensures in
     let tells_1 = c.write.ensures.same ∙ tells in
     let tells_2 = c.sync.ensures.same ∙ tells_1 in
     let went = went-record ps c.args.gate c.args.payload.now _ rests c.requires.payload _ _ c.write.result bytes
@@ -72,7 +72,7 @@ returns-in_err-write-2-clause-failed g c failed tells ps rests =
 
 pub returns-clause-any_moment : goal.returns-clause-any_moment
 returns-clause-any_moment g c tells ps rests =
-    let bytes = c.deref.ensures.value ∙ c.in_ok-record.ensures in
+    let bytes = c.deref.ensures.value ∙ c.in_ok-put_closed_frame.ensures in
     let tells_1 = c.write.ensures.same ∙ tells in
     let tells_2 = c.sync.ensures.same ∙ tells_1 in
     let went = went-record ps c.args.gate c.args.payload.now _ rests c.requires.payload _ _ c.write.result bytes
@@ -88,7 +88,7 @@ returns-clause-any_moment g c tells ps rests =
 
 pub returns-clause-done : goal.returns-clause-done
 returns-clause-done g c = on_ok c.sync-2.result _ (λ u is tells ps rests.
-    let bytes = c.deref.ensures.value ∙ c.in_ok-record.ensures in
+    let bytes = c.deref.ensures.value ∙ c.in_ok-put_closed_frame.ensures in
     let tells_1 = c.write.ensures.same ∙ tells in
     let tells_2 = c.sync.ensures.same ∙ tells_1 in
     let whole = staged-sync ps c.args.gate c.args.payload.now _ rests c.requires.payload _ _ _ bytes
@@ -101,7 +101,7 @@ returns-clause-done g c = on_ok c.sync-2.result _ (λ u is tells ps rests.
 
 pub returns-clause-failed : goal.returns-clause-failed
 returns-clause-failed g c failed tells ps rests =
-    let bytes = c.deref.ensures.value ∙ c.in_ok-record.ensures in
+    let bytes = c.deref.ensures.value ∙ c.in_ok-put_closed_frame.ensures in
     let tells_1 = c.write.ensures.same ∙ tells in
     let tells_2 = c.sync.ensures.same ∙ tells_1 in
     let went = went-record ps c.args.gate c.args.payload.now _ rests c.requires.payload _ _ c.write.result bytes
@@ -118,20 +118,20 @@ returns-clause-failed g c failed tells ps rests =
 
 pub returns-in_err-write-clause-no_longer : goal.returns-in_err-write-clause-no_longer
 returns-in_err-write-clause-no_longer g c tells =
-    let bytes = length-closed c.args.payload.now _ (c.deref.ensures.value ∙ c.in_ok-record.ensures) in
+    let bytes = length-closed c.args.payload.now _ (c.deref.ensures.value ∙ c.in_ok-put_closed_frame.ensures) in
     omega
     (arith, bytes, c.write.ensures.no_longer tells)
 
 pub returns-in_err-sync-clause-no_longer : goal.returns-in_err-sync-clause-no_longer
 returns-in_err-sync-clause-no_longer g c tells =
-    let bytes = length-closed c.args.payload.now _ (c.deref.ensures.value ∙ c.in_ok-record.ensures) in
+    let bytes = length-closed c.args.payload.now _ (c.deref.ensures.value ∙ c.in_ok-put_closed_frame.ensures) in
     let tells_1 = c.write.ensures.same ∙ tells in
     omega
     (arith, bytes, c.write.ensures.no_longer tells, length-synced _ _ _ (c.sync.ensures.ends tells_1))
 
 pub returns-in_err-write-2-clause-no_longer : goal.returns-in_err-write-2-clause-no_longer
 returns-in_err-write-2-clause-no_longer g c tells =
-    let bytes = length-closed c.args.payload.now _ (c.deref.ensures.value ∙ c.in_ok-record.ensures) in
+    let bytes = length-closed c.args.payload.now _ (c.deref.ensures.value ∙ c.in_ok-put_closed_frame.ensures) in
     let tells_1 = c.write.ensures.same ∙ tells in
     let tells_2 = c.sync.ensures.same ∙ tells_1 in
     omega (
@@ -144,7 +144,7 @@ returns-in_err-write-2-clause-no_longer g c tells =
 
 pub returns-clause-no_longer : goal.returns-clause-no_longer
 returns-clause-no_longer g c tells =
-    let bytes = length-closed c.args.payload.now _ (c.deref.ensures.value ∙ c.in_ok-record.ensures) in
+    let bytes = length-closed c.args.payload.now _ (c.deref.ensures.value ∙ c.in_ok-put_closed_frame.ensures) in
     let tells_1 = c.write.ensures.same ∙ tells in
     let tells_2 = c.sync.ensures.same ∙ tells_1 in
     let tells_3 = c.write-2.ensures.same ∙ tells_2 in
