@@ -1,8 +1,12 @@
 -- Pieces that texts of replies are written of.
-use Rattle.std.specs.Prelude.{ℕ, List, [], ◌++◌, codes, decimal, Option, Some, None}
+use Rattle.std.specs.Prelude.{ℕ, List, [], ◌++◌, codes, decimal, map, true, Option, Some, None}
 use Rattle.json.specs.Print.{quoted}
+use Rattle.serde_json.specs.View.{items_of}
+use Rattle.serde_json.specs.Written.{items_text}
+use Rattle.farm_entry.specs.declared.order_page.OrderLine.{OrderLine}
 use Rattle.farm_types.specs.CommitId.{id_digits}
 use Rattle.farm_types.specs.declared.commit_id.CommitId.{CommitId}
+use Rattle.farm_wire.specs.Replies.{order_data}
 
 -- a number behind a piece, where there is one
 abbrev pub number_piece : List ℕ → Option ℕ → List ℕ
@@ -18,3 +22,7 @@ commit_piece piece (Some commit) = piece ++ quoted (id_digits commit)
 abbrev pub fate_name : Option ℕ → List ℕ
 fate_name None = codes "{\"fate\":"
 fate_name (Some culprit) = codes ",\"fate\":"
+
+-- what the reply that shows orders goes on with, where these are left
+abbrev pub orders_on : List OrderLine → List ℕ
+orders_on lines = items_text true (items_of (map order_data lines)) ++ codes ",\"reply\":\"orders\"}"

@@ -1,10 +1,9 @@
 //! All orders as JSON.
 
-ghost use Rattle.std.specs.Prelude.{◌≡◌, ◌≤◌, ◌++◌, All, IfOk, OnOk, map, string_bytes, true};
+ghost use Rattle.std.specs.Prelude.{◌≡◌, ◌≤◌, ◌++◌, All, IfOk, OnOk, string_bytes};
 ghost use Rattle.farm_types.specs.declared.moment.TheConstants.{LAST_DAY};
-ghost use Rattle.serde_json.specs.Data.{array};
-ghost use Rattle.serde_json.specs.View.{items_of};
-ghost use Rattle.serde_json.specs.Written.{compact_text, items_text};
+ghost use Rattle.serde_json.specs.Written.{compact_text};
+ghost use Rattle.farm_wire.specs.Pieces.{orders_on};
 ghost use Rattle.farm_wire.specs.Replies.{order_data, reply_data};
 
 use crate::date::day_text;
@@ -19,35 +18,33 @@ pub(crate) fn orders_text(alloc: Global, page: &OrderPage) -> Result<String, Mem
     ensures { IfOk result (λ text. string_bytes text ≡ compact_text (reply_data (Reply.Orders page.now))) }
 {
     let mut out = JsonText::new(alloc)?;
-    out.put("{\"orders\":")?;
     put_orders(alloc, &mut out, page.as_slice())?;
-    out.put(",\"reply\":\"orders\"}")?;
     Ok(out.into_text())
 }
 
-/// Puts an array of orders.
+/// Puts the reply that shows orders.
 fn put_orders(alloc: Global, out: &mut JsonText, lines: &[OrderLine]) -> Result<(), Memory>
     requires { All (λ line. line.day ≤ LAST_DAY) lines.now }
-    ensures { OnOk result (out.new ≡ out.old ++ compact_text (array (items_of (map order_data lines.now)))) }
+    ensures { OnOk result (out.new ≡ out.old ++ compact_text (reply_data (Reply.Orders lines.now))) }
 {
     match lines.split_first() {
         Some((first, more)) => {
-            put_order(alloc, out, "[", first)?;
+            put_order(alloc, out, "{\"orders\":[", first)?;
             put_more(alloc, out, more)
         }
-        None => out.put("[]"),
+        None => out.put("{\"orders\":[],\"reply\":\"orders\"}"),
     }
 }
 
-/// Puts what an array of orders goes on with, behind its first.
+/// Puts what that reply goes on with, behind its first order.
 fn put_more(alloc: Global, out: &mut JsonText, lines: &[OrderLine]) -> Result<(), Memory>
     requires { All (λ line. line.day ≤ LAST_DAY) lines.now }
-    ensures { OnOk result (out.new ≡ out.old ++ items_text true (items_of (map order_data lines.now))) }
+    ensures { OnOk result (out.new ≡ out.old ++ orders_on lines.now) }
 {
     for line in lines {
         put_order(alloc, out, ",", line)?;
     }
-    out.put("]")
+    out.put("],\"reply\":\"orders\"}")
 }
 
 /// Puts an order behind a piece.
