@@ -35,8 +35,8 @@ fn page_at(target: &[u8], fixed: &[u8], page: Page) -> Option<Page>
 }
 
 /// The row that has a target as it stands, without a number, where there is one. Most requests ask for such a row, and
-/// neither the cut of their target nor the router is needed for them. By the first letter behind `/v1/` at most one path
-/// has to be compared.
+/// neither the cut of their target nor the router is needed for them. By the first letter behind `/v1/` at most one
+/// path has to be compared.
 pub(crate) fn fixed_page(target: &[u8]) -> Option<Page>
     ensures row { IfSome result (λ found. page_of target.now ≡ Some found) }
     ensures whole { IfSome result (λ _. path_of target.now ≡ target.now) }
