@@ -160,15 +160,19 @@ impl Farm {
         ensures ready { self.new.ready ≡ [] }
     {
         self.forget_ready();
-        match self.decide(command, at)? {
-            Decision::Refuse(refusal) => Err(CoreFault::Refused(refusal)),
-            Decision::Repeat(place) => Ok(self.repeat(place as usize)?),
-            Decision::Show(reply) => Ok(reply),
-            Decision::New(entry) => {
-                let reply = self.prepare_new(entry)?;
-                self.commit_next();
-                Ok(reply)
-            }
+        // (decisions and replies are large, and `?` would move each twice more)
+        match self.decide(command, at) {
+            Ok(Decision::Refuse(refusal)) => Err(CoreFault::Refused(refusal)),
+            Ok(Decision::Repeat(place)) => Ok(self.repeat(place as usize)?),
+            Ok(Decision::Show(reply)) => Ok(reply),
+            Ok(Decision::New(entry)) => match self.prepare_new(entry) {
+                Ok(reply) => {
+                    self.commit_next();
+                    Ok(reply)
+                }
+                Err(Memory) => Err(CoreFault::Memory),
+            },
+            Err(Memory) => Err(CoreFault::Memory),
         }
     }
 

@@ -25,8 +25,9 @@ pub fn reply_of(kept: &KeptFarm, place: usize) -> Result<Reply, Memory>
     ensures { IfOk result (λ reply. reply_at kept.now place ≡ Some reply) }
 {
     let _history = kept.history();
-    match kept.reply_at(place)? {
-        Some(reply) => Ok(reply),
-        None => unreachable!(),
+    match kept.reply_at(place) {
+        Ok(Some(reply)) => Ok(reply),
+        Ok(None) => unreachable!(),
+        Err(memory) => Err(memory),
     }
 }

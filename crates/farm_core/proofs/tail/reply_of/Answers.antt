@@ -6,4 +6,4 @@ use Rattle.farm_core.proofs.tail.reply_of.Goals as goal
 pub unreachable-requires : goal.unreachable-requires
 unreachable-requires c =
     let there = reply-there c.args.kept.now c.args.place c.history-history.ensures.legal c.requires.later c.requires.there in
-    none-some there.0 (sym c.in-None.is ∙ c.in_ok-reply.ensures ∙ there.1)
+    none-some there.0 (sym c.in-Ok-None.field-0-is ∙ c.in-Ok-None.ensures ∙ there.1)

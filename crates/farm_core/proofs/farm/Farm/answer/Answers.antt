@@ -8,18 +8,19 @@ use Rattle.farm_core.proofs.farm.Farm.answer.Goals as goal
 pub prepare_new-requires-clause-next : goal.prepare_new-requires-clause-next
 prepare_new-requires-clause-next c =
     let H = c.forget_ready.new.self.history in
-    let e = c.in-New.entry in
-    let said = c.in_ok-refusal.ensures in
-    IsLegal-push H e said.legal (recorded H c.args.command.now c.args.at e (sym said.decided ∙ c.in-New.is))
+    let e = c.in-Ok-New.entry in
+    let said = c.in-Ok-New.ensures in
+    IsLegal-push H e said.legal (recorded H c.args.command.now c.args.at e (sym said.decided ∙ c.in-Ok-New.field-0-is))
 
-pub returns-in_ok-reply-in-New-clause-legal : goal.returns-in_ok-reply-in-New-clause-legal
-returns-in_ok-reply-in-New-clause-legal c =
+pub returns-in-Ok-clause-legal : goal.returns-in-Ok-clause-legal
+returns-in-Ok-clause-legal c =
     let H = c.forget_ready.new.self.history in
-    let e = c.in-New.entry in
-    let said = c.in_ok-refusal.ensures in
-    let made = c.in_ok-reply-in-New.ensures in
+    let e = c.in-Ok-New.entry in
+    let said = c.in-Ok-New.ensures in
+    let made = c.in-Ok.ensures in
     let is : c.commit_next.new.self.history ≡ H ++ e ∷ [] =
     c.commit_next.ensures.history ∙ ap (λ (K : List Entry). K ++ take 1 c.prepare_new.new.self.ready) made.history
     ∙ ap (λ (ready : List Entry). H ++ take 1 ready) made.ready in
     subst IsLegal (sym is)
-    (IsLegal-push H e said.legal (recorded H c.args.command.now c.args.at e (sym said.decided ∙ c.in-New.is)))
+    (IsLegal-push H e said.legal
+    (recorded H c.args.command.now c.args.at e (sym said.decided ∙ c.in-Ok-New.field-0-is)))
