@@ -16,6 +16,7 @@ mixed_of word =
 abbrev pub start_of : (low high : ℕ) → ℕ
 start_of low high = mixed_of (bit_xor (mixed_of (low / 2 ^ 12)) high)
 
--- the bucket of a key among so many, where that is a power of two: the low bits of its low half, from where its run begins
+-- the bucket of a key among so many, where that is a power of two: the low bits of its low half, from where its run
+-- begins
 unfoldable pub home_of : ℕ → ℕ → ℕ
 home_of size key = bit_and (bit_xor (key % 2 ^ 64) (start_of (key % 2 ^ 64) (key / 2 ^ 64))) (size - 1)
