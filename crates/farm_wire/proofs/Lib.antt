@@ -1,4 +1,5 @@
 pub mod Calendar
+mod CommaTexts
 pub mod Faults
 pub mod JsonObjects
 pub mod MadeValues

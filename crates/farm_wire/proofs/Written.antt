@@ -1,6 +1,5 @@
 -- Texts that are written piece by piece are those of the replies.
-use Rattle.std.proofs.Common.{◌≡◌, ℕ, ◌+◌, ◌<◌, ◌≤◌, List, [], ◌∷◌, ◌++◌, length, get_or, drop, map, codes, decimal, true, Option, Some, None, refl, sym, ap, ◌∙◌, add-one, append_assoc, append-nil, drop-cons}
-use Rattle.std.proofs.lemmas.List.{drop_all}
+use Rattle.std.proofs.Common.{◌≡◌, ℕ, ◌+◌, List, [], ◌∷◌, ◌++◌, map, codes, decimal, true, Option, Some, None, refl, sym, ap, ◌∙◌, append_assoc, append-nil}
 use Rattle.json.specs.Print.{escape_byte, quoted}
 use Rattle.serde_json.specs.Data.{string}
 use Rattle.serde_json.specs.View.{items_of}
@@ -233,23 +232,6 @@ joined-ordered order commit search day = refl
 -- what an array goes on with behind some of its numbers
 abbrev pub goes_on : List ℕ → List ℕ
 goes_on numbers = items_text true (items_of (map whole numbers))
-
-pub more-next : (old new numbers : List ℕ) (i : ℕ) → i < length numbers
-    → new ≡ old ++ (codes "," ++ decimal (get_or numbers i 0))
-    → new ++ goes_on (drop (i + 1) numbers) ≡ old ++ goes_on (drop i numbers)
-more-next old new numbers i within put =
-    let n = get_or numbers i 0 in
-    let cons : drop i numbers ≡ n ∷ drop (i + 1) numbers = rw (add-one, drop-cons numbers i 0) refl in
-    ap (λ text. text ++ goes_on (drop (i + 1) numbers)) put
-    ∙ append_assoc old (codes "," ++ decimal n) (goes_on (drop (i + 1) numbers))
-    ∙ ap (λ rest. old ++ goes_on rest) (sym cons)
-
-pub more-all : (start old new numbers : List ℕ) (i : ℕ) → length numbers ≤ i
-    → old ++ goes_on (drop i numbers) ≡ start ++ goes_on numbers → new ≡ old ++ codes "]"
-    → new ≡ start ++ goes_on numbers
-more-all start old new numbers i ended before put =
-    let none : drop i numbers ≡ [] = drop_all i numbers ended in
-    put ∙ ap (λ rest. old ++ goes_on rest) (sym none) ∙ before
 
 pub array-some : (old begun new numbers more : List ℕ) (first : ℕ) → numbers ≡ first ∷ more
     → begun ≡ old ++ (codes "[" ++ decimal first) → new ≡ begun ++ goes_on more

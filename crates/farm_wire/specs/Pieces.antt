@@ -1,5 +1,5 @@
 -- Pieces that texts of replies are written of.
-use Rattle.std.specs.Prelude.{ℕ, List, [], ◌++◌, codes, decimal, map, true, Option, Some, None}
+use Rattle.std.specs.Prelude.{ℕ, List, [], ◌∷◌, ◌++◌, codes, decimal, map, true, Option, Some, None}
 use Rattle.json.specs.Print.{quoted}
 use Rattle.serde_json.specs.View.{items_of}
 use Rattle.serde_json.specs.Written.{items_text}
@@ -26,3 +26,8 @@ fate_name (Some culprit) = codes ",\"fate\":"
 -- what the reply that shows orders goes on with, where these are left
 abbrev pub orders_on : List OrderLine → List ℕ
 orders_on lines = items_text true (items_of (map order_data lines)) ++ codes ",\"reply\":\"orders\"}"
+
+-- numbers, each behind a comma
+abbrev pub behind_commas : List ℕ → List ℕ
+behind_commas [] = []
+behind_commas (n ∷ numbers) = codes "," ++ (decimal n ++ behind_commas numbers)

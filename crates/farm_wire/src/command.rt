@@ -1,38 +1,21 @@
-//! Commands, read from the text of a line or of a body.
+//! Commands, read from the object of a line or from the text of a body.
 
 ghost use Rattle.std.specs.Prelude.{◌≡◌, ◌≢◌, Err, IfErr, IfOk, Ok};
 ghost use Rattle.json_tape.specs.Views.{document_data};
-ghost use Rattle.farm_wire.specs.Reading.{body_reading, line_reading, object_of};
+ghost use Rattle.farm_wire.specs.Reading.{body_reading, object_of};
 ghost use Rattle.farm_wire.specs.Reading.{cancel_in, cancel_line_in, command_in, lease_in, open_in, report_in, report_line_in};
 ghost use Rattle.farm_wire.specs.Reading.{revert_in, search_in};
 
 use crate::fields::{
-    base_in, fraction_in, key_in, miss_in, moment_in, name_in, ordinal_in, small_in, suspects_in,
-    verb_in, verdict_in,
+    base_in, fraction_in, key_in, miss_in, name_in, ordinal_in, small_in, suspects_in, verdict_in,
 };
 use crate::limits::MAX_COMMAND_BYTES;
 use crate::verb::Verb;
 use crate::{Field, Route, WireFault};
 use farm_entry::{Command, OpenAsk};
-use farm_types::Moment;
 use json::Scratch;
 use json_tape::{Document, Unread};
 use std::alloc::Global;
-
-/// What a script line asks for, and when: the line is one JSON object of at most [`MAX_COMMAND_BYTES`], without its
-/// line feed. Else the first fault of the line is answered.
-#[tactic(auto, unfolding(crate::specs::Reading::line_reading))]
-pub fn line_of(alloc: Global, line: &[u8]) -> Result<(Moment, Command), WireFault>
-    ensures read { IfOk result (λ asked. line_reading line.now ≡ Ok asked) }
-    ensures refused { IfErr result (λ fault. fault ≢ WireFault.Memory → line_reading line.now ≡ Err fault) }
-{
-    let mut scratch = Scratch::new(alloc);
-    let object = object_of(alloc, line, &mut scratch)?;
-    let at = moment_in(&object)?;
-    let verb = verb_in(&object)?;
-    let command = command_in(alloc, verb, &object)?;
-    Ok((at, command))
-}
 
 /// What a request on a route asks for by its body: one JSON object, as in a script line but without the moment, what is
 /// asked for, and the number that the path gives. Where the route shows something the body isn't looked at. Else the
@@ -108,7 +91,7 @@ fn revert_of(alloc: Global, body: &[u8]) -> Result<Command, WireFault>
 
 /// The JSON object that a text is.
 #[tactic(auto, unfolding(crate::specs::Reading::object_of, crate::specs::Reading::object_in))]
-fn object_of<'a>(
+pub(crate) fn object_of<'a>(
     alloc: Global,
     text: &'a [u8],
     scratch: &'a mut Scratch,
@@ -133,7 +116,11 @@ fn object_of<'a>(
 }
 
 /// The command that a line's object asks for.
-fn command_in(alloc: Global, verb: Verb, object: &Document<'_>) -> Result<Command, WireFault>
+pub(crate) fn command_in(
+    alloc: Global,
+    verb: Verb,
+    object: &Document<'_>,
+) -> Result<Command, WireFault>
     ensures read { IfOk result (λ command. command_in verb (document_data object.now) ≡ Ok command) }
     ensures refused { IfErr result (λ fault. fault ≢ WireFault.Memory
         → command_in verb (document_data object.now) ≡ Err fault) }

@@ -1,6 +1,6 @@
 //! A JSON text in the making, whose pieces are written one after the other.
 
-ghost use Rattle.std.specs.Prelude.{◌≡◌, ◌++◌, [], IfOk, IsTrue, OnOk, decimal, map, string_bytes, true};
+ghost use Rattle.std.specs.Prelude.{◌≡◌, ◌≤◌, ◌++◌, [], IfOk, IsTrue, OnOk, decimal, length, map, string_bytes, true};
 ghost use Rattle.std.specs.List.{list_all};
 ghost use Rattle.json.specs.Print.{escape, quoted};
 ghost use Rattle.json.specs.Run.{is_plain};
@@ -8,13 +8,15 @@ ghost use Rattle.serde_json.specs.View.{items_of};
 ghost use Rattle.serde_json.specs.Written.{compact_text, items_text};
 ghost use Rattle.farm_types.specs.CommitId.{id_digits};
 ghost use Rattle.farm_wire.specs.Members.{culprit_in, whole, wholes};
-ghost use Rattle.farm_wire.specs.Pieces.{commit_piece, number_piece};
+ghost use Rattle.farm_wire.specs.Pieces.{behind_commas, commit_piece, number_piece};
 
+use crate::commas::{CHUNK, CHUNK_BYTES, write_behind_commas};
 use crate::standing::culprit_in;
 use farm_entry::Standing;
 use farm_types::{CommitId, ID_DIGITS, Memory};
 use itoa::Buffer;
 use serde_json::Value;
+use simdutf8::compat::from_utf8;
 use std::alloc::Global;
 use std::marker::Model;
 
@@ -147,10 +149,27 @@ impl JsonText {
     fn put_more(&mut self, numbers: &[u32]) -> Result<(), Memory>
         ensures { OnOk result (self.new ≡ self.old ++ items_text true (items_of (map whole numbers.now))) }
     {
-        for number in numbers {
-            self.put_number(",", *number as u64)?;
+        let mut left = numbers;
+        'chunks: while !left.is_empty() {
+            let (chunk, more) = left.split_at(left.len().min(CHUNK));
+            self.put_chunk(chunk)?;
+            left = more;
         }
         self.put("]")
+    }
+
+    /// Puts some numbers, each behind a comma.
+    fn put_chunk(&mut self, numbers: &[u32]) -> Result<(), Memory>
+        requires { length numbers.now ≤ CHUNK }
+        ensures { OnOk result (self.new ≡ self.old ++ behind_commas numbers.now) }
+    {
+        let mut room = [0; CHUNK_BYTES];
+        let start = write_behind_commas(numbers, &mut room);
+        let (_, written) = room.split_at(start);
+        let Ok(text) = from_utf8(written) else {
+            unreachable!()
+        };
+        Ok(self.text.push_str(text)?)
     }
 }
 
