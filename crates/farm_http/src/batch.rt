@@ -168,6 +168,9 @@ impl Batch {
         ensures more { result ≡ true → length self.new.asks ≡ length self.old.asks + 1 }
     {
         let rest = &held[self.size..];
+        if rest.is_empty() {
+            return false;
+        }
         let next = next_of(pages, &mut Reading::new(), rest, complete);
         let Next::Request(request) = &next else {
             return false;

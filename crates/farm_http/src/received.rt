@@ -4,7 +4,7 @@ ghost use Rattle.std.specs.Vec.{vec_capacity};
 ghost use Rattle.fault_types.specs.Counts.{Rose};
 ghost use Rattle.link_io.specs.declared.source.TheConstants.{INPUT_LIMIT, PIECE};
 ghost use Rattle.connection_laws.specs.Answers.{interim_of};
-ghost use Rattle.http_requests.specs.Next.{Says};
+ghost use Rattle.http_requests.specs.Next.{AwaitsHead, Says};
 ghost use Rattle.farm_http.specs.Bytes.{PutSays};
 ghost use Rattle.farm_http.specs.Faults.{OnLinkFault};
 ghost use Rattle.farm_http.specs.Received.{IsAdded, IsTaken, is_complete, nothing_received};
@@ -79,11 +79,24 @@ impl Received {
         self.ended || self.taken == INPUT_LIMIT
     }
 
+    /// Whether no byte is held, and more may be taken.
+    fn awaits_bytes(&self) -> bool
+        ensures { result ≡ true → AwaitsHead (is_complete self.now) self.now.held }
+    {
+        if self.is_complete() {
+            return false;
+        }
+        self.held().is_empty()
+    }
+
     /// What comes next of the bytes held. What was read of them is kept, so that each head is read once here.
     pub fn next(&mut self, pages: &Pages) -> Next
         ensures same { self.new ≡ self.old }
         ensures says { Says (is_complete self.old) self.old.held result }
     {
+        if self.awaits_bytes() {
+            return Next::More;
+        }
         let mut reading = self.reading;
         let next = next_of(pages, &mut reading, self.held(), self.is_complete());
         if !matches!(&next, Next::Request(_)) {

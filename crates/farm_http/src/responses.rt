@@ -1,7 +1,7 @@
 //! The answers to requests, gathered and put to a link.
-ghost use Rattle.std.specs.Prelude.{◌≡◌, ◌≤◌, ◌++◌, [], true, false, OnOk};
+ghost use Rattle.std.specs.Prelude.{◌≡◌, ◌≤◌, ◌<◌, ◌++◌, ℕ, [], true, false, OnOk, OnErr, IsErrOf, length, take};
+ghost use Rattle.std.specs.Io.KnownBytes.{append_known};
 ghost use Rattle.fault_types.specs.Counts.{Rose};
-ghost use Rattle.http_answers.specs.Answers.{answer_bytes};
 ghost use Rattle.connection_laws.specs.Answers.{no_memory, plain};
 ghost use Rattle.farm_http.specs.Bytes.{OutSays, PutSays, request_bytes, said};
 ghost use Rattle.farm_http.specs.Faults.{OnLinkFault};
@@ -12,7 +12,7 @@ use gathered_sink::Gathered;
 use http_answers::{Answer, memory_text, put_answer};
 use http_requests::Request;
 use http_words::{Allow, StatusCode};
-use link_io::{Sink, put_all};
+use link_io::{PutFault, Sink, put_all};
 
 /// What an answer says, apart from how it is put.
 #[derive(Clone, Copy)]
@@ -42,28 +42,42 @@ impl<'b> Says<'b> {
     {
         Says::plain(StatusCode::NoStorage, memory_text())
     }
-
-    /// The answer to a request.
-    pub fn answer_to(&self, request: &Request) -> Answer<'b>
-        ensures { answer_bytes result ≡ request_bytes request.now (said self.now) }
-    {
-        Answer {
-            status: self.status,
-            allow: self.allow,
-            closes: request.closes,
-            withheld: request.withheld,
-            body: self.body,
-        }
-    }
 }
 
-/// Gathers an answer, where there is room for the whole of it.
-fn gather(out: &mut Gathered, answer: &Answer) -> bool
-    ensures gathered { result ≡ true → out.new ≡ out.old ++ answer_bytes answer.now }
+/// Puts the answer to a request, as `put_answer` of `http_answers` does.
+#[tactic(auto, unfolding(http_answers::specs::Answers::answer_bytes, crate::specs::Bytes::request_bytes))]
+pub(crate) fn put_said<K: Sink>(
+    output: &mut K,
+    request: &Request,
+    says: &Says,
+) -> Result<(), PutFault>
+    ensures done { OnOk result
+        (K.written output.new ≡ append_known (K.written output.old) (request_bytes request.now (said says.now))) }
+    ensures stopped { OnErr result
+        ((n : ℕ) × (n < length (request_bytes request.now (said says.now)))
+        × (K.written output.new
+        ≡ append_known (K.written output.old) (take n (request_bytes request.now (said says.now))))) }
+    ensures aside { K.aside output.new ≡ K.aside output.old }
+    ensures rises { IsErrOf result PutFault.Failed → Rose (K.count output.old) (K.count output.new) }
+    ensures never_falls { K.count output.old ≤ K.count output.new }
+{
+    let answer = Answer {
+        status: says.status,
+        allow: says.allow,
+        closes: request.closes,
+        withheld: request.withheld,
+        body: says.body,
+    };
+    put_answer(output, &answer)
+}
+
+/// Gathers the answer to a request, where there is room for the whole of it.
+fn gather(out: &mut Gathered, request: &Request, says: &Says) -> bool
+    ensures gathered { result ≡ true → out.new ≡ out.old ++ request_bytes request.now (said says.now) }
     ensures kept { result ≡ false → out.new ≡ out.old }
 {
     let held = out.len();
-    if put_answer(out, answer).is_ok() {
+    if put_said(out, request, says).is_ok() {
         return true;
     }
     out.truncate(held);
@@ -101,15 +115,14 @@ pub(crate) fn put_behind<K: Sink>(
     ensures cause { OnLinkFault result (Rose (K.count link.old) (K.count link.new)) }
     ensures never_falls { K.count link.old ≤ K.count link.new }
 {
-    let answer = says.answer_to(request);
-    if gather(out, &answer) {
+    if gather(out, request, says) {
         return Ok(());
     }
     put_out(out, link)?;
-    if gather(out, &answer) {
+    if gather(out, request, says) {
         return Ok(());
     }
-    match put_answer(link, &answer) {
+    match put_said(link, request, says) {
         Ok(()) => Ok(()),
         Err(fault) => Err(unput(fault)),
     }

@@ -4,10 +4,9 @@ ghost use Rattle.farm_http.specs.Bytes.{request_bytes};
 ghost use Rattle.farm_http.specs.Told.{same_totals, told_bytes, totals_response};
 
 use crate::kept_bytes::KeptBytes;
-use crate::responses::Says;
+use crate::responses::{Says, put_said};
 use farm_entry::Totals;
 use farm_wire::totals_text;
-use http_answers::put_answer;
 use http_requests::Request;
 use http_words::StatusCode;
 use std::alloc::Global;
@@ -32,9 +31,9 @@ impl ToldTotals {
         let Ok(text) = totals_text(alloc, totals) else {
             return None;
         };
-        let answer = Says::plain(StatusCode::Ok, text.as_bytes()).answer_to(request);
+        let says = Says::plain(StatusCode::Ok, text.as_bytes());
         let mut bytes = room;
-        match put_answer(&mut bytes, &answer) {
+        match put_said(&mut bytes, request, &says) {
             Ok(()) => Some(ToldTotals {
                 totals: *totals,
                 closes: request.closes,
