@@ -7,6 +7,7 @@ ghost use Rattle.fault_types.specs.Counts.{Rose};
 
 use crate::script_farm::{ReplyFault, ScriptFarm};
 use farm_types::Memory;
+use farm_wire::LineReader;
 use link_io::{PutFault, Sink, put_all};
 use std::alloc::{AllocError, Global};
 
@@ -77,6 +78,7 @@ pub fn answer_line<F: ScriptFarm, K: Sink>(
     alloc: Global,
     farm: &mut F,
     output: &mut K,
+    reader: &mut LineReader,
     line: &[u8],
 ) -> Result<(), LineFault>
     requires { F.pending farm.old ≡ [] }
@@ -93,7 +95,7 @@ pub fn answer_line<F: ScriptFarm, K: Sink>(
         (F.count farm.old) (F.count farm.new) (F.pending farm.new) }
     ensures images { Grows F.tells F.told F.stands_for F.history F.pending farm.old farm.new }
 {
-    let mut reply = reply_to(alloc, farm, line)?;
+    let mut reply = reply_to(alloc, farm, reader, line)?;
     reply.push('\n')?;
     put_all(output, reply.as_bytes())?;
     Ok(())
@@ -101,7 +103,12 @@ pub fn answer_line<F: ScriptFarm, K: Sink>(
 
 /// The reply to a line, without its line feed.
 #[tactic(auto, using(crate::proofs::Growing::growing))]
-fn reply_to<F: ScriptFarm>(alloc: Global, farm: &mut F, line: &[u8]) -> Result<String, LineFault>
+fn reply_to<F: ScriptFarm>(
+    alloc: Global,
+    farm: &mut F,
+    reader: &mut LineReader,
+    line: &[u8],
+) -> Result<String, LineFault>
     requires { F.pending farm.old ≡ [] }
     ensures reply { IfOk result (λ text. string_bytes text ≡ (F.rule (F.history farm.old) line.now).0) }
     ensures history { OnOk result (F.history farm.new ≡ next_history F.rule (F.history farm.old) line.now) }
@@ -114,5 +121,5 @@ fn reply_to<F: ScriptFarm>(alloc: Global, farm: &mut F, line: &[u8]) -> Result<S
     ensures stores { F.count farm.old ≤ F.count farm.new }
     ensures images { Grows F.tells F.told F.stands_for F.history F.pending farm.old farm.new }
 {
-    Ok(farm.reply(alloc, line)?)
+    Ok(farm.reply(alloc, reader, line)?)
 }

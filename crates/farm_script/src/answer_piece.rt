@@ -10,6 +10,7 @@ ghost use Rattle.farm_script.specs.Script.{Answered, FailsIn, StopsIn};
 use crate::answer_line::{LineFault, answer_line};
 use crate::held_line::HeldLine;
 use crate::script_farm::ScriptFarm;
+use farm_wire::LineReader;
 use link_io::Sink;
 use memchr::memchr;
 use std::alloc::Global;
@@ -20,6 +21,7 @@ pub fn answer_piece<F: ScriptFarm, K: Sink>(
     alloc: Global,
     farm: &mut F,
     output: &mut K,
+    reader: &mut LineReader,
     line: &mut HeldLine,
     piece: &[u8],
 ) -> Result<(), LineFault>
@@ -40,7 +42,7 @@ pub fn answer_piece<F: ScriptFarm, K: Sink>(
 {
     let mut rest = piece;
     while let Some((end, after)) = split_line(rest) {
-        end_line(alloc, farm, output, line, end)?;
+        end_line(alloc, farm, output, reader, line, end)?;
         rest = after;
     }
     line.hold(rest)?;
@@ -53,6 +55,7 @@ fn end_line<F: ScriptFarm, K: Sink>(
     alloc: Global,
     farm: &mut F,
     output: &mut K,
+    reader: &mut LineReader,
     line: &mut HeldLine,
     end: &[u8],
 ) -> Result<(), LineFault>
@@ -72,7 +75,7 @@ fn end_line<F: ScriptFarm, K: Sink>(
     ensures images { Grows F.tells F.told F.stands_for F.history F.pending farm.old farm.new }
 {
     line.hold(end)?;
-    answer_line(alloc, farm, output, line.bytes())?;
+    answer_line(alloc, farm, output, reader, line.bytes())?;
     line.clear();
     Ok(())
 }

@@ -12,7 +12,7 @@ use farm_answers::answer_in_memory;
 use farm_core::Farm;
 use farm_entry::{Command, Entry};
 use farm_types::{Memory, Moment};
-use farm_wire::{WireFault, fault_text, line_of};
+use farm_wire::{LineReader, WireFault, fault_text};
 use std::alloc::Global;
 
 impl ScriptFarm for Farm {
@@ -37,8 +37,13 @@ impl ScriptFarm for Farm {
 
     ghost stands_for = { λ _ _. ⊥ };
 
-    fn reply(&mut self, alloc: Global, line: &[u8]) -> Result<String, ReplyFault> {
-        Ok(answer_line(alloc, self, line)?)
+    fn reply(
+        &mut self,
+        alloc: Global,
+        reader: &mut LineReader,
+        line: &[u8],
+    ) -> Result<String, ReplyFault> {
+        Ok(answer_line(alloc, self, reader, line)?)
     }
 
     ghost by_held = { farm_rule-by_held };
@@ -46,14 +51,19 @@ impl ScriptFarm for Farm {
 
 /// The reply to a line, without its line feed. The entry that it makes is in the history before its reply is written,
 /// and stays there where memory runs out for that.
-fn answer_line(alloc: Global, farm: &mut Farm, line: &[u8]) -> Result<String, Memory>
+fn answer_line(
+    alloc: Global,
+    farm: &mut Farm,
+    reader: &mut LineReader,
+    line: &[u8],
+) -> Result<String, Memory>
     ensures reply { IfOk result (λ text. string_bytes text ≡ (farm_rule farm.old.history line.now).0) }
     ensures history { OnOk result (farm.new.history ≡ (farm_rule farm.old.history line.now).1) }
     ensures err { OnErr result ((farm.new.history ≡ farm.old.history)
         ⊎ (farm.new.history ≡ (farm_rule farm.old.history line.now).1)) }
     ensures longer { (more : List Entry) × (farm.new.history ≡ farm.old.history ++ more) }
 {
-    match line_of(alloc, line) {
+    match reader.read(line) {
         Ok((at, command)) => answer_command(alloc, farm, &command, at),
         Err(WireFault::Memory) => Err(Memory),
         Err(fault) => fault_text(alloc, &fault),

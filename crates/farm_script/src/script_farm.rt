@@ -8,6 +8,7 @@ ghost use Rattle.farm_script.specs.Images.{Grows};
 ghost use Rattle.farm_script.specs.Script.{IsPendingOf};
 
 use farm_types::Memory;
+use farm_wire::LineReader;
 use std::alloc::Global;
 
 /// Why a line was not answered.
@@ -57,8 +58,13 @@ pub trait ScriptFarm {
     /// The bytes of a disk stand for a history.
     ghost stands_for: { List Self.Entry → List ℕ → Type 0 };
 
-    /// Answers a line. Of a line that is too long, its first bytes are enough.
-    fn reply(&mut self, alloc: Global, line: &[u8]) -> Result<String, ReplyFault>
+    /// Answers a line, which is read by a reader of lines. Of a line that is too long, its first bytes are enough.
+    fn reply(
+        &mut self,
+        alloc: Global,
+        reader: &mut LineReader,
+        line: &[u8],
+    ) -> Result<String, ReplyFault>
         requires { pending self.old ≡ [] }
         ensures reply { IfOk result (λ text. string_bytes text ≡ (rule (history self.old) line.now).0) }
         ensures history { OnOk result (history self.new ≡ (rule (history self.old) line.now).1) }

@@ -14,6 +14,7 @@ use crate::answer_piece::answer_piece;
 use crate::held_line::HeldLine;
 use crate::run_end::RunEnd;
 use crate::script_farm::ScriptFarm;
+use farm_wire::LineReader;
 use link_io::{INPUT_LIMIT, PIECE, Sink, Source, take_piece};
 use std::alloc::Global;
 
@@ -62,6 +63,7 @@ fn run_lines<F: ScriptFarm, S: Source, K: Sink>(
     ensures decided { result ≢ RunEnd.StoreFault → F.pending farm.new ≡ [] }
     ensures images { Grows F.tells F.told F.stands_for F.history F.pending farm.old farm.new }
 {
+    let mut reader = LineReader::new(alloc);
     let mut line = HeldLine::new(alloc);
     let mut buf = [0; PIECE];
     let mut taken = 0;
@@ -72,13 +74,13 @@ fn run_lines<F: ScriptFarm, S: Source, K: Sink>(
             Err(_) => return RunEnd::ReadFault,
         };
         if piece.is_empty() {
-            if let Err(fault) = answer_rest(alloc, farm, output, &line) {
+            if let Err(fault) = answer_rest(alloc, farm, output, &mut reader, &line) {
                 return end_after(fault);
             }
             return RunEnd::Done;
         }
         taken += piece.len();
-        if let Err(fault) = answer_piece(alloc, farm, output, &mut line, piece) {
+        if let Err(fault) = answer_piece(alloc, farm, output, &mut reader, &mut line, piece) {
             return end_after(fault);
         }
     }
@@ -91,6 +93,7 @@ fn answer_rest<F: ScriptFarm, K: Sink>(
     alloc: Global,
     farm: &mut F,
     output: &mut K,
+    reader: &mut LineReader,
     line: &HeldLine,
 ) -> Result<(), LineFault>
     requires { F.pending farm.old ≡ [] }
@@ -111,7 +114,7 @@ fn answer_rest<F: ScriptFarm, K: Sink>(
     if bytes.is_empty() {
         return Ok(());
     }
-    answer_line(alloc, farm, output, bytes)
+    answer_line(alloc, farm, output, reader, bytes)
 }
 
 /// How a run ends that a fault stopped.

@@ -16,7 +16,7 @@ use farm_disk::Disk;
 use farm_entry::{Command, Entry};
 use farm_store::Store;
 use farm_types::Moment;
-use farm_wire::{WireFault, fault_text, line_of};
+use farm_wire::{LineReader, WireFault, fault_text};
 use std::alloc::Global;
 
 impl<D: Disk> ScriptFarm for Store<D> {
@@ -40,8 +40,13 @@ impl<D: Disk> ScriptFarm for Store<D> {
 
     ghost stands_for = { StandsFor };
 
-    fn reply(&mut self, alloc: Global, line: &[u8]) -> Result<String, ReplyFault> {
-        answer_line(alloc, self, line)
+    fn reply(
+        &mut self,
+        alloc: Global,
+        reader: &mut LineReader,
+        line: &[u8],
+    ) -> Result<String, ReplyFault> {
+        answer_line(alloc, self, reader, line)
     }
 
     ghost by_held = { farm_rule-by_held };
@@ -53,6 +58,7 @@ impl<D: Disk> ScriptFarm for Store<D> {
 fn answer_line<D: Disk>(
     alloc: Global,
     store: &mut Store<D>,
+    reader: &mut LineReader,
     line: &[u8],
 ) -> Result<String, ReplyFault>
     requires { store.old.pending ≡ [] }
@@ -68,7 +74,7 @@ fn answer_line<D: Disk>(
         ⊎ (store.new.history ≡ (farm_rule store.old.history line.now).1)) }
     ensures images { StoreGrows D.Disk store.old store.new }
 {
-    match line_of(alloc, line) {
+    match reader.read(line) {
         Ok((at, command)) => answer_command(alloc, store, &command, at),
         Err(WireFault::Memory) => Err(ReplyFault::Memory),
         Err(fault) => Ok(fault_text(alloc, &fault)?),
