@@ -39,9 +39,13 @@ pub fn answer_all(alloc: Global, farm: &mut Farm, asks: &[Ask]) -> Result<Vec<An
     ensures added { (more : List Entry) × (farm.new.history ≡ farm.old.history ++ more)
         × (length more ≤ length asks.now) }
 {
-    let mut answers = Vec::new(alloc);
+    let mut answers = Vec::with_capacity(alloc, asks.len())?;
     for ask in asks {
-        answers.push(answer(farm, &ask.command, ask.at)?)?;
+        // (an answer is large, and `?` and `push` would move it five times more)
+        match answer(farm, &ask.command, ask.at) {
+            Ok(given) => answers.push_reserved(given),
+            Err(memory) => return Err(memory),
+        }
     }
     Ok(answers)
 }
