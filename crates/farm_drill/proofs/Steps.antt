@@ -9,6 +9,7 @@ use Rattle.farm_entry.specs.Decision.{decide}
 use Rattle.farm_entry.specs.History.{all_leases, is_reported, order_in, place_of_key}
 use Rattle.farm_entry.specs.Legal.{IsLegal}
 use Rattle.farm_entry.specs.Playing.{after}
+use Rattle.farm_entry.specs.declared.command.Command.{Command}
 use Rattle.farm_entry.specs.declared.command.Command.TheVariants.{Open, Report}
 use Rattle.farm_entry.specs.declared.command.OpenAsk.{OpenAsk}
 use Rattle.farm_entry.specs.declared.decision.Decision.TheVariants.{New, Refuse}
@@ -56,6 +57,12 @@ pub start-none : (H : List Entry) → H ≡ drill_founding ∷ [] → IsStart 0 
 start-none H is = record { openings = []; opened = tt; all = refl; is = is }
 
 -- A report.
+
+-- the history goes on as what was asked is decided
+pub asked-after : (H new : List Entry) (command : Command) (at : Moment) (given : Result Reply Refusal)
+    → AskSays H command at given new → new ≡ after H (decide H command at)
+asked-after H new command at (Ok r) says = says.history
+asked-after H new command at (Err cause) says = says.history ∙ sym (ap (after H) says.decided)
 
 -- the run is reported, or the history is full; no run was handed out, and no key was taken
 pub record IsReportSaid (H : List Entry) (run : ℕ) (done : Bool) (new : List Entry) : Type 0 where

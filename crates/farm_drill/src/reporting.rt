@@ -2,7 +2,12 @@
 ghost use Rattle.std.specs.Prelude.{◌≡◌, ◌⊎◌, ◌++◌, ℕ, [], true, false, replicate, Contains, None, IfOk, OnOk, MatchBool};
 ghost use Rattle.std.specs.List.{cons_option};
 ghost use Rattle.list_prefix.specs.Prefix.{IsPrefix};
+ghost use Rattle.drill_plan.specs.Plan.{planned_verdict};
+ghost use Rattle.drill_plan.specs.Start.{drill_moment};
+ghost use Rattle.farm_entry.specs.Decision.{decide};
 ghost use Rattle.farm_entry.specs.History.{all_leases, is_report_of, is_reported, place_of_key};
+ghost use Rattle.farm_entry.specs.Playing.{after};
+ghost use Rattle.farm_entry.specs.declared.command.Command.TheVariants.{Report};
 ghost use Rattle.farm_types.specs.declared.key.Key.{Key};
 ghost use Rattle.farm_entry.specs.Legal.{IsLegal};
 ghost use Rattle.farm_drill.specs.Ends.{AllReported, IsFull};
@@ -17,8 +22,8 @@ use farm_store::Store;
 use farm_types::Memory;
 use std::alloc::Global;
 
-/// Reports what a run says that was handed out. Answers whether it is reported then: it isn't only where the history is
-/// full.
+/// Reports what a run says that was handed out, by the plan. Answers whether it is reported then: it isn't only where
+/// the history is full.
 pub(crate) fn report(
     alloc: Global,
     store: &mut Store<CalmDisk>,
@@ -27,6 +32,8 @@ pub(crate) fn report(
     requires decided { store.old.pending ≡ [] }
     requires lease { Contains (all_leases store.old.history) lease }
     requires legal { IsLegal store.old.history }
+    ensures said { let report = Report lease.run (planned_verdict lease.search lease.position) in
+        OnOk result (store.new.history ≡ after store.old.history (decide store.old.history report drill_moment)) }
     ensures reported { IfOk result
         (λ done. MatchBool done (is_reported store.new.history lease.run ≡ true) (IsFull store.new.history)) }
     ensures leases { OnOk result (all_leases store.new.history ≡ all_leases store.old.history) }

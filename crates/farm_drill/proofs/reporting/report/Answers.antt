@@ -1,8 +1,25 @@
-use Rattle.std.proofs.Common.{◌≡◌, Bool, true, MatchBool, subst, sym}
+use Rattle.std.proofs.Common.{◌≡◌, Bool, true, List, MatchBool, ap, subst, sym, ◌∙◌}
+use Rattle.weight_exact.specs.declared.run.Verdict.{Verdict}
+use Rattle.farm_types.specs.declared.moment.Moment.{Moment}
+use Rattle.farm_entry.specs.Decision.{decide}
 use Rattle.farm_entry.specs.History.{is_reported}
+use Rattle.farm_entry.specs.Playing.{after}
+use Rattle.farm_entry.specs.declared.command.Command.TheVariants.{Report}
+use Rattle.farm_entry.specs.declared.entry.Entry.{Entry}
+use Rattle.drill_plan.specs.Plan.{planned_verdict}
 use Rattle.farm_drill.specs.Ends.{IsFull}
-use Rattle.farm_drill.proofs.Steps.{report-says}
+use Rattle.farm_drill.proofs.Steps.{asked-after, report-says}
 use Rattle.farm_drill.proofs.reporting.report.Goals as goal
+
+pub returns-clause-said : goal.returns-clause-said
+returns-clause-said c =
+    let H : List Entry = c.args.store.now.history in
+    let lease = c.args.lease in
+    asked-after H c.ask.new.store.history (Report lease.run c.planned_verdict.result) c.drill_moment.result
+    c.in_ok-given.given (c.in_ok-given.ensures.says c.requires.decided)
+    ∙ ap (λ (v : Verdict). after H (decide H (Report lease.run v) c.drill_moment.result)) c.planned_verdict.ensures
+    ∙ ap (λ (m : Moment). after H (decide H (Report lease.run (planned_verdict lease.search lease.position)) m))
+    c.drill_moment.ensures
 
 pub returns-clause-reported : goal.returns-clause-reported
 returns-clause-reported c =
