@@ -49,3 +49,10 @@ module _ {D : Type 0} where
     turns = rest_of meant old ∷ came.turns;
     turned = λ tell. (came.turned tell, turn (came.same ∙ tell));
   }
+
+  -- both the store before a turn and the one after it came from the beginning
+  pub came-both : (meant : disk.Ghosts D) (begun : Option Begun) (old new : StoreState D)
+      → IfSome begun (λ b. CameBy meant b old) → IfSome begun (λ b. CameBy meant b new)
+      → IfSome begun (λ b. CameBy meant b old × CameBy meant b new)
+  came-both meant None old new first last = tt
+  came-both meant (Some b) old new first last = (first, last)

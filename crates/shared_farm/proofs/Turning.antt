@@ -1,5 +1,5 @@
 -- What a caller knows after a turn, from what the lock and the store say.
-use Rattle.std.proofs.Common.{◌≡◌, ◌++◌, List, ℕ, true, ◌+◌, ◌-◌, ◌≤◌, ◌⊎◌, [], Some, ⊎_elim, length, arith, sym, refl, ap, ◌∙◌, subst, append-nil, length-append, zero, suc}
+use Rattle.std.proofs.Common.{◌≡◌, ◌++◌, List, ℕ, true, ◌+◌, ◌-◌, ◌≤◌, ◌⊎◌, [], Option, Some, IfSome, ⊎_elim, length, arith, sym, refl, ap, ◌∙◌, subst, append-nil, length-append, zero, suc}
 use Rattle.std.specs.Prelude.{Result}
 use Rattle.std.specs.List.{range_with_len}
 use Rattle.atomic_table.specs.Seated.{TableId}
@@ -18,7 +18,7 @@ use Rattle.turn_lock.specs.Known.{Before, IsSettled, Known, MayRise}
 use Rattle.turn_lock.specs.Places.{ArePlaces}
 use Rattle.turn_lock.specs.declared.view.Taken.{Taken}
 use Rattle.turn_lock.proofs.PlaceLists.{ArePlaces-append, ArePlaces-widen}
-use Rattle.shared_farm.specs.Rests.{TurnKeeps, TurnLeaves, rest_of}
+use Rattle.shared_farm.specs.Rests.{Begun, CameBy, TurnKeeps, TurnLeaves, rest_of}
 use Rattle.shared_farm.specs.Turns.{AreOwn, IsTurn, StaysSettled, own_places}
 use Rattle.shared_farm.proofs.Recorded.{ArePlaces-own_places, IsOwnFrom}
 
@@ -135,10 +135,11 @@ module _ {D : Type 0} {count : D → ℕ} {old new : Known} {held : Before} {fou
       (ArePlaces-own_places found left s.room)))
 
 -- what a crash leaves in a turn of a caller
-pub served-keeps : {D : Type 0} (meant : disk.Ghosts D) {old new : Known} {held : Before} {found left : StoreState D}
-    {own : List ℕ} → IsServed meant.count old new held found left own
-    → (meant.tells found.disk ≡ true → TurnLeaves (rest_of meant found) (rest_of meant left)) → TurnKeeps meant new
-served-keeps meant {found = found} {left = left} s leaves = record {
+pub served-keeps : {D : Type 0} (meant : disk.Ghosts D) (begun : Option Begun) {old new : Known} {held : Before}
+    {found left : StoreState D} {own : List ℕ} → IsServed meant.count old new held found left own
+    → (meant.tells found.disk ≡ true → TurnLeaves (rest_of meant found) (rest_of meant left))
+    → IfSome begun (λ b. CameBy meant b found × CameBy meant b left) → TurnKeeps meant begun new
+served-keeps meant begun {found = found} {left = left} s leaves came = record {
   found = found;
   left = left;
   took = ap (λ (k : Known). k.last) s.new_is ∙ s.taken.took;
@@ -146,6 +147,7 @@ served-keeps meant {found = found} {left = left} s leaves = record {
   pending = ap (λ (k : Known). k.pending) s.new_is;
   faults = ap (λ (k : Known). k.faults) s.new_is;
   leaves = leaves;
+  came = came;
 }
 
 length-run : (first count : ℕ) → length (range_with_len first count) ≡ count

@@ -1,5 +1,5 @@
 -- What became of a store by the turns at its farm, and what a crash left meanwhile.
-use Rattle.std.specs.Prelude.{◌≡◌, ◌⊎◌, ◌≤◌, ◌++◌, Bool, true, ℕ, List, [], ◌∷◌, Some}
+use Rattle.std.specs.Prelude.{◌≡◌, ◌⊎◌, ◌≤◌, ◌++◌, Bool, true, ℕ, List, [], ◌∷◌, Option, Some, IfSome}
 use Rattle.farm_disk.specs.Images.{DiskState, LeavesOnly}
 use Rattle.farm_disk.specs.declared.disk.Disk as disk
 use Rattle.farm_entry.specs.declared.entry.Entry.{Entry}
@@ -41,17 +41,6 @@ pub record TurnLeaves (old new : Rest) : Type 0 where
   pub decided : (new.pending ≡ []) ⊎ Rose old.faults new.faults
   pub never_falls : old.faults ≤ new.faults
 
--- What a crash leaves in the last turn of a pass, where its disk tells: the store that the turn took is the one found,
--- and the pass has seen the one left.
-pub record TurnKeeps {D : Type 0} (meant : disk.Ghosts D) (pass : Known) : Type 0 where
-  pub found : StoreState D
-  pub left : StoreState D
-  pub took : pass.last ≡ record { entries = found.history; count = meant.count found.disk; pending = found.pending }
-  pub seen : pass.seen ≡ left.history
-  pub pending : pass.pending ≡ Some left.pending
-  pub faults : pass.faults ≡ meant.count left.disk
-  pub leaves : meant.tells found.disk ≡ true → TurnLeaves (rest_of meant found) (rest_of meant left)
-
 -- turns, one after the other, took a store from a first rest to a last one. They began at these, of which the newest
 -- is the first of the list
 abbrev pub AreTurns : (first : Rest) → List Rest → (last : Rest) → Type 0
@@ -68,6 +57,19 @@ pub record CameBy {D : Type 0} (meant : disk.Ghosts D) (begun : Begun) (store : 
   pub same : meant.tells store.disk ≡ begun.tells
   pub turns : List Rest
   pub turned : begun.tells ≡ true → AreTurns begun.store turns (rest_of meant store)
+
+-- What a crash leaves in the last turn of a pass, where its disk tells: the store that the turn took is the one found,
+-- and the pass has seen the one left. Where it is known what the farm began with, both came from that by turns, so that
+-- their disks tell where the one at the beginning did.
+pub record TurnKeeps {D : Type 0} (meant : disk.Ghosts D) (begun : Option Begun) (pass : Known) : Type 0 where
+  pub found : StoreState D
+  pub left : StoreState D
+  pub took : pass.last ≡ record { entries = found.history; count = meant.count found.disk; pending = found.pending }
+  pub seen : pass.seen ≡ left.history
+  pub pending : pass.pending ≡ Some left.pending
+  pub faults : pass.faults ≡ meant.count left.disk
+  pub leaves : meant.tells found.disk ≡ true → TurnLeaves (rest_of meant found) (rest_of meant left)
+  pub came : IfSome begun (λ b. CameBy meant b found × CameBy meant b left)
 
 -- what a farm begins with that is shared now
 abbrev pub begun_of : {D : Type 0} → disk.Ghosts D → StoreState D → Begun

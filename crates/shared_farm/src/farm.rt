@@ -133,7 +133,7 @@ impl<D: Disk, B: Beginning> SharedFarm<D, B> {
         ensures ready { IsReady self.now pass.new }
         ensures turn { IsTurn D.count (record { command = command.now; at = at } ∷ []) (as_batch result) pass.old
             pass.new }
-        ensures keeps { TurnKeeps D.Disk pass.new }
+        ensures keeps { TurnKeeps D.Disk B.begun pass.new }
         ensures own { AreOwn pass.old pass.new }
         ensures settled { StaysSettled pass.old pass.new }
         ensures longer { IsPrefix pass.old.seen pass.new.seen }
@@ -167,7 +167,7 @@ impl<D: Disk, B: Beginning> SharedFarm<D, B> {
         requires few { length asks.now ≤ MAX_BATCH }
         ensures ready { IsReady self.now pass.new }
         ensures turn { IsTurn D.count asks.now result pass.old pass.new }
-        ensures keeps { TurnKeeps D.Disk pass.new }
+        ensures keeps { TurnKeeps D.Disk B.begun pass.new }
         ensures own { AreOwn pass.old pass.new }
         ensures settled { StaysSettled pass.old pass.new }
         ensures longer { IsPrefix pass.old.seen pass.new.seen }

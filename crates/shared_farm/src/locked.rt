@@ -53,6 +53,8 @@ impl<D: Disk, B: Beginning> Locked<D, B> {
         ensures legal { IsLegal self.new.store.history }
         ensures leaves { D.tells self.old.store.disk ≡ true
             → TurnLeaves (rest_of D.Disk self.old.store) (rest_of D.Disk self.new.store) }
+        ensures came { IfSome B.begun
+            (λ begun. CameBy D.Disk begun self.old.store × CameBy D.Disk begun self.new.store) }
         ensures cause { HasCallCause result (D.count self.old.store.disk) (D.count self.new.store.disk) }
         ensures settled { D.count self.old.store.disk ≡ D.count self.new.store.disk
             → MayRise (D.count self.new.store.disk) → self.new.store.pending ≡ [] }
@@ -77,6 +79,8 @@ impl<D: Disk, B: Beginning> Locked<D, B> {
         ensures legal { IsLegal self.new.store.history }
         ensures leaves { D.tells self.old.store.disk ≡ true
             → TurnLeaves (rest_of D.Disk self.old.store) (rest_of D.Disk self.new.store) }
+        ensures came { IfSome B.begun
+            (λ begun. CameBy D.Disk begun self.old.store × CameBy D.Disk begun self.new.store) }
         ensures cause { HasCallCause result (D.count self.old.store.disk) (D.count self.new.store.disk) }
         ensures settled { D.count self.old.store.disk ≡ D.count self.new.store.disk
             → MayRise (D.count self.new.store.disk) → self.new.store.pending ≡ [] }

@@ -55,6 +55,8 @@ impl<D: Disk, B: Beginning> StoreSince<D, B> {
         ensures longer { IsPrefix self.old.history self.new.history }
         ensures legal { IsLegal (self.new.history ++ self.new.pending) }
         ensures leaves { D.tells self.old.disk ≡ true → TurnLeaves (rest_of D.Disk self.old) (rest_of D.Disk self.new) }
+        ensures came { IfSome B.begun
+            (λ begun. CameBy D.Disk begun self.old × CameBy D.Disk begun self.new) }
         ensures cause { HasCallCause result (D.count self.old.disk) (D.count self.new.disk) }
         ensures never_falls { D.count self.old.disk ≤ D.count self.new.disk }
     {
@@ -69,6 +71,8 @@ impl<D: Disk, B: Beginning> StoreSince<D, B> {
         ensures longer { IsPrefix self.old.history self.new.history }
         ensures legal { IsLegal (self.new.history ++ self.new.pending) }
         ensures leaves { D.tells self.old.disk ≡ true → TurnLeaves (rest_of D.Disk self.old) (rest_of D.Disk self.new) }
+        ensures came { IfSome B.begun
+            (λ begun. CameBy D.Disk begun self.old × CameBy D.Disk begun self.new) }
         ensures cause { HasCallCause result (D.count self.old.disk) (D.count self.new.disk) }
         ensures never_falls { D.count self.old.disk ≤ D.count self.new.disk }
     {

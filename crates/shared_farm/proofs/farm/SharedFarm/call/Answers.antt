@@ -83,7 +83,8 @@ returns-clause-turn g c =
     answer.ensures.cause)
 
 pub returns-clause-keeps : goal.returns-clause-keeps
-returns-clause-keeps g c = served-keeps g.D.Disk (served g c) c.call-result.ensures.leaves
+returns-clause-keeps g c =
+    served-keeps g.D.Disk g.B.Beginning.begun (served g c) c.call-result.ensures.leaves c.call-result.ensures.came
 
 pub returns-clause-own : goal.returns-clause-own
 returns-clause-own g c = served-own (served g c)

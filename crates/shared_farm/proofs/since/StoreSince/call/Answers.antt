@@ -1,9 +1,9 @@
-use Rattle.std.proofs.Common.{◌≡◌, ◌∷◌, [], true, subst}
+use Rattle.std.proofs.Common.{◌≡◌, ◌∷◌, [], true, IfSome, subst}
 use Rattle.farm_store.specs.Answering.{as_batch}
 use Rattle.farm_store.specs.State.{StoreState}
-use Rattle.shared_farm.specs.Rests.{TurnLeaves, rest_of}
+use Rattle.shared_farm.specs.Rests.{Begun, CameBy, TurnLeaves, rest_of}
 use Rattle.shared_farm.proofs.Recorded.{cause-as_batch}
-use Rattle.shared_farm.proofs.Resting.{came-on, decided-or_rose, turn-leaves}
+use Rattle.shared_farm.proofs.Resting.{came-both, came-on, decided-or_rose, turn-leaves}
 use Rattle.shared_farm.proofs.since.StoreSince.call.Goals as goal
 
 -- what the turn leaves
@@ -19,12 +19,24 @@ left_by g c =
     (count old.disk) (count new.disk) e.says (cause-as_batch c.call.result (count old.disk) (count new.disk) e.cause))
     e.never_falls
 
-pub invariant_of-self : goal.invariant_of-self
-invariant_of-self g c =
+-- that at the beginning became it by turns
+left_came : (g : _) (c : goal.After-call g)
+    → IfSome g.B.Beginning.begun (λ (b : Begun). CameBy g.D.Disk b c.call.new.self)
+left_came g c =
     came-on g.D.Disk g.B.Beginning.begun c.self.inside.store c.call.new.self c.self.invariant c.call.ensures.same
     (left_by g c)
+
+pub invariant_of-self : goal.invariant_of-self
+invariant_of-self g c = left_came g c
 
 pub returns-clause-leaves : goal.returns-clause-leaves
 returns-clause-leaves g c =
     subst (λ (s : StoreState g.row.D.Denot). g.D.Disk.tells s.disk ≡ true
     → TurnLeaves (rest_of g.D.Disk s) (rest_of g.D.Disk c.call.new.self)) c.self.view_is (left_by g c)
+
+pub returns-clause-came : goal.returns-clause-came
+returns-clause-came g c =
+    let begun = g.B.Beginning.begun in
+    let new = c.call.new.self in
+    subst (λ (s : StoreState g.row.D.Denot). IfSome begun (λ (b : Begun). CameBy g.D.Disk b s × CameBy g.D.Disk b new))
+    c.self.view_is (came-both g.D.Disk begun c.self.inside.store new c.self.invariant (left_came g c))
