@@ -16,6 +16,7 @@ import tempfile
 from service import PROGRAM
 
 SCRIPT = b'{"at":4102444800000,"do":"farm"}\n'
+SETS = [closed for count in range(4) for closed in itertools.combinations((0, 1, 2), count)]
 
 
 def run(words, closed, script=b""):
@@ -33,11 +34,18 @@ def content(path):
 
 
 def main():
-    folder = tempfile.mkdtemp()
-    journal = os.path.join(folder, "farm.journal")
+    with tempfile.TemporaryDirectory() as folder:
+        faults = faults_in(os.path.join(folder, "farm.journal"))
+    for fault in faults:
+        print(fault)
+    print(f"{len(SETS)} sets of closed streams, {len(faults)} faults")
+    sys.exit(1 if faults else 0)
+
+
+def faults_in(journal):
+    """What isn't as it should be, where this journal is founded and used with each set of streams closed."""
     faults = []
-    sets = [closed for count in range(4) for closed in itertools.combinations((0, 1, 2), count)]
-    for closed in sets:
+    for closed in SETS:
         if os.path.exists(journal):
             os.remove(journal)
         unwritten = 4 if 1 in closed else 0
@@ -58,10 +66,7 @@ def main():
         for name, status in tried.items():
             if status != expected[name]:
                 faults.append(f"closed {closed}: {name} ended with {status}, and not with {expected[name]}")
-    for fault in faults:
-        print(fault)
-    print(f"{len(sets)} sets of closed streams, {len(faults)} faults")
-    sys.exit(1 if faults else 0)
+    return faults
 
 
 if __name__ == "__main__":

@@ -5,8 +5,8 @@ ghost use Rattle.http_answers.specs.Pieces.{ending_of};
 
 use http_words::Allow;
 
-/// What stands between the number of the body's length and the body: the end of its line, the methods that are named, that the connection
-/// closes, and the empty line.
+/// What stands between the number of the body's length and the body: the end of its line, the methods that are named,
+/// that the connection closes, and the empty line.
 pub(crate) fn ending(allow: Option<Allow>, closes: bool) -> &'static [u8]
     ensures { result.now ≡ ending_of (allow_line allow) (close_line closes) }
 {

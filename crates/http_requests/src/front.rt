@@ -21,9 +21,10 @@ pub(crate) enum Front<'b> {
     Never,
 }
 
-/// How many fields most heads have at most, and those of a plain client.
+/// How many fields most heads have at most.
 const FEW_FIELDS: usize = 16;
 
+/// How many the heads of a plain client have at most.
 const PLAIN_FIELDS: usize = 4;
 
 /// What stands at the front of these bytes, each of which is counted, where there is room for the spans of all fields

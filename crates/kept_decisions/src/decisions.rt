@@ -82,7 +82,7 @@ fn own_decision(
     }
 }
 
-/// What any command comes to, with room for the search that it may open.
+/// What any command comes to, in a frame that has room for the search that an open makes.
 fn decision_on_any(
     alloc: Global,
     farm: &KeptFarm,
