@@ -1,19 +1,16 @@
 -- Values that the calls make are those that the definitions make.
-use Rattle.std.proofs.Common.{◌≡◌, ◌↔◌, ℕ, zero, suc, ◌<◌, nat_lt, List, [], ◌∷◌, slice_index, true, IsOk, OnOk, IfOk, IfErr, Option, Some, None, Result, Ok, Err, refl, sym, subst, eq-eqb}
+use Rattle.std.proofs.Common.{◌≡◌, ◌↔◌, ℕ, zero, suc, ◌<◌, nat_lt, List, [], ◌∷◌, slice_index, true, IsOk, OnOk, IfOk, IfErr, Some, None, Result, Ok, Err, refl, sym, subst, eq-eqb}
 use Rattle.std.specs.List.{list_all}
-use Rattle.std.specs.Option.{IfSome}
 use Rattle.std.specs.Result.{result_ok}
 use Rattle.std.proofs.lemmas.Bool.{and_from, false≢true, lt-ltb}
-use Rattle.hex.specs.Hex.{decode_of, decode_sized}
+use Rattle.hex.specs.Hex.{decode_of}
 use Rattle.farm_entry.proofs.Asked.{when_passed-none, when_passed-same}
-use Rattle.farm_types.proofs.IdTexts.{id_fault-ok}
 use Rattle.farm_types.proofs.SameValues.{id_bytes-injective, moment_ms-injective}
 use Rattle.farm_types.specs.CommitId.{id_bytes, id_fault}
 use Rattle.farm_types.specs.Limits.{IsMoment, is_moment}
 use Rattle.farm_types.proofs.Limits.{moment-tested, moment-within}
 use Rattle.farm_types.specs.Moment.{moment_ms}
 use Rattle.farm_types.specs.declared.commit_id.CommitId.{CommitId}
-use Rattle.farm_types.specs.declared.commit_id.TheConstants.{ID_BYTES}
 use Rattle.farm_types.specs.declared.commit_id.IdFault.{IdFault}
 use Rattle.farm_types.specs.declared.moment.Moment.{Moment}
 use Rattle.farm_types.specs.declared.moment.MomentFault.{MomentFault}
@@ -53,15 +50,3 @@ pub id_named-result : (r : Result CommitId IdFault) (text : List ℕ) → OnOk r
 unfolding id_named
 id_named-result (Ok id) text taken bytes refused = rw (taken, bytes) (sym (id_of-bytes id))
 id_named-result (Err fault) text taken bytes refused = rw refused refl
-
--- the same of its bytes, where the text decodes to them
-pub id_named-bytes : (id : CommitId) (text : List ℕ) → decode_sized text ID_BYTES ≡ Ok (id_bytes id)
-    → Some id ≡ id_named text
-unfolding id_named
-id_named-bytes id text read =
-    let ok = id_fault-ok text (id_bytes id) read in
-    rw (ok.0, ok.1) (sym (id_of-bytes id))
-
--- what holds of what an option holds
-pub some_at : {A : Type 0} (o : Option A) (a : A) (P : A → Type 0) → o ≡ Some a → IfSome o P → P a
-some_at o a P is holds = subst (λ o. IfSome o P) is holds

@@ -5,7 +5,6 @@ ghost use Rattle.json_tape.specs.Views.{data_of};
 ghost use Rattle.farm_wire.specs.Forms as form;
 ghost use Rattle.farm_wire.specs.Made as made;
 
-use crate::ids::id_named;
 use crate::verb::Verb;
 use farm_types::{CommitId, Key, Moment};
 use json_tape::Parsed;
@@ -67,6 +66,12 @@ pub(crate) fn commit(value: Parsed<'_, '_>) -> Option<CommitId>
     ensures { result ≡ form.commit (data_of value.entry) }
 {
     id_named(value.as_str()?)
+}
+
+fn id_named(text: &str) -> Option<CommitId>
+    ensures { result ≡ made.id_named text.now }
+{
+    CommitId::read(text).ok()
 }
 
 /// What a test said.

@@ -22,7 +22,6 @@ mod fault;
 mod field;
 mod fields;
 mod forms;
-mod ids;
 pub mod laws;
 mod limits;
 mod line_reader;
