@@ -7,7 +7,7 @@ use farm_entry::{Command, Entry};
 use farm_types::{Memory, Moment};
 use farm_wire::command_of;
 use http_answers::{Answer, put_answer};
-use http_requests::{Next, Reading, Request, next_of};
+use http_requests::{LastHead, Next, Reading, Request, next_of};
 use http_routes::Pages;
 use http_words::{Endpoint, StatusCode};
 use link_io::MemSink;
@@ -58,7 +58,10 @@ impl<'f> Service<'f> {
     /// request for a command that can be read.
     pub(crate) fn answer(&mut self, bytes: &[u8]) -> Result<Vec<u8>, Memory> {
         self.now = self.now.saturating_add(STEP_MS);
-        let Next::Request(request) = next_of(self.pages, &mut Reading::new(), bytes, true) else {
+        let mut reading = Reading::new();
+        let mut last = LastHead::none();
+        let Next::Request(request) = next_of(self.pages, &mut reading, &mut last, bytes, true)
+        else {
             return Ok(Vec::new(self.alloc));
         };
         match command_in(self.alloc, &request, bytes) {

@@ -9,7 +9,7 @@ ghost use Rattle.farm_http.specs.Batches.{IsBatch};
 use farm_entry::Command;
 use farm_store::{Ask, MAX_BATCH};
 use farm_wire::command_of;
-use http_requests::{Next, Reading, Request, next_of};
+use http_requests::{LastHead, Next, Reading, Request, next_of};
 use http_routes::Pages;
 use http_words::{Endpoint, Fault};
 use link_io::Clock;
@@ -157,6 +157,7 @@ impl Batch {
         &mut self,
         alloc: Global,
         pages: &Pages,
+        last: &mut LastHead,
         clock: &C,
         held: &[u8],
         complete: bool,
@@ -171,7 +172,7 @@ impl Batch {
         if rest.is_empty() {
             return false;
         }
-        let next = next_of(pages, &mut Reading::new(), rest, complete);
+        let next = next_of(pages, &mut Reading::new(), last, rest, complete);
         let Next::Request(request) = &next else {
             return false;
         };
@@ -198,6 +199,7 @@ impl Batch {
         &mut self,
         alloc: Global,
         pages: &Pages,
+        last: &mut LastHead,
         clock: &C,
         held: &[u8],
         complete: bool,
@@ -206,7 +208,7 @@ impl Batch {
         ensures { IsBatch (MayGive C.Clock clock.now) complete held.now self.new }
     {
         while self.is_open() {
-            if !self.add_next(alloc, pages, clock, held, complete) {
+            if !self.add_next(alloc, pages, last, clock, held, complete) {
                 return;
             }
         }

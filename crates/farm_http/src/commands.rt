@@ -26,7 +26,7 @@ use farm_store::{Answer, Ask, CallFault};
 use farm_wire::{WireFault, command_of, fault_text};
 use gathered_sink::Gathered;
 use http_answers::store_fault_text;
-use http_requests::Request;
+use http_requests::{LastHead, Request};
 use http_routes::Pages;
 use http_words::{Endpoint, Route, StatusCode};
 use link_io::{Clock, Link, Sink};
@@ -41,6 +41,7 @@ pub(crate) fn answer_commands<R: Wait, L: Link, D: Disk, B: Beginning, C: Clock>
     pages: &Pages,
     shared: &SharedFarm<D, B>,
     pass: &mut Pass,
+    last: &mut LastHead,
     batch: &mut Batch,
     out: &mut Gathered,
     link: &mut L,
@@ -77,7 +78,7 @@ pub(crate) fn answer_commands<R: Wait, L: Link, D: Disk, B: Beginning, C: Clock>
         put_response(out, link, first, &Says::no_memory())?;
         return Ok(Answered::one(first));
     }
-    batch.gather(alloc, pages, clock, held, received.is_complete());
+    batch.gather(alloc, pages, last, clock, held, received.is_complete());
     answer_batch(rt, alloc, shared, pass, out, link, batch)?;
     let done = Answered {
         requests: batch.asks().len() as u64,

@@ -95,6 +95,7 @@ pub(crate) fn answer_front<R: Wait, L: Link, D: Disk, B: Beginning, C: Clock>(
             pages,
             shared,
             pass,
+            &mut kept.last,
             &mut kept.batch,
             out,
             link,

@@ -2,11 +2,13 @@
 
 use crate::batch::Batch;
 use crate::told::ToldTotals;
+use http_requests::LastHead;
 use std::alloc::Global;
 
-/// What is kept: room for a batch, and the answer that told totals last.
+/// What is kept: the head that was read last, room for a batch, and the answer that told totals last.
 #[derive(Drop)]
 pub(crate) struct Kept {
+    pub last: LastHead,
     pub batch: Batch,
     pub told: Option<ToldTotals>,
 }
@@ -15,6 +17,7 @@ impl Kept {
     /// Nothing yet.
     pub fn new(alloc: Global) -> Kept {
         Kept {
+            last: LastHead::none(),
             batch: Batch::new(alloc),
             told: None,
         }

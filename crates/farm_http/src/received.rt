@@ -13,7 +13,7 @@ use crate::fault_answers::unput;
 use connection_laws::{ServeFault, Why};
 use http_answers::put_interim;
 use http_requests::laws::readings_stay;
-use http_requests::{Next, Reading, next_of};
+use http_requests::{LastHead, Next, Reading, next_of};
 use http_routes::Pages;
 use link_io::{INPUT_LIMIT, PIECE, Sink, Source, Took};
 use std::alloc::Global;
@@ -90,7 +90,7 @@ impl Received {
     }
 
     /// What comes next of the bytes held. What was read of them is kept, so that each head is read once here.
-    pub fn next(&mut self, pages: &Pages) -> Next
+    pub fn next(&mut self, pages: &Pages, last: &mut LastHead) -> Next
         ensures same { self.new ≡ self.old }
         ensures says { Says (is_complete self.old) self.old.held result }
     {
@@ -98,7 +98,7 @@ impl Received {
             return Next::More;
         }
         let mut reading = self.reading;
-        let next = next_of(pages, &mut reading, self.held(), self.is_complete());
+        let next = next_of(pages, &mut reading, last, self.held(), self.is_complete());
         if !matches!(&next, Next::Request(_)) {
             self.reading = reading;
         }

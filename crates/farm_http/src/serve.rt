@@ -167,7 +167,7 @@ fn serve_next<R: Wait, L: Link, D: Disk, B: Beginning, C: Clock>(
     ensures cause { OnLinkFault result (Rose (L.Source.count link.old) (L.Source.count link.new)) }
     ensures never_falls { L.Source.count link.old ≤ L.Source.count link.new }
 {
-    match received.next(pages) {
+    match received.next(pages, &mut kept.last) {
         Next::End => Ok(Some(received.why())),
         Next::More => {
             received.take(link)?;

@@ -19,6 +19,12 @@ pub place_from-append : (at : Place) (a b : List ℕ) → place_from at (a ++ b)
 place_from-append at [] b = refl
 place_from-append at (x ∷ a) b = place_from-append (place_behind at x) a b
 
+-- where a head may end, bytes were looked at
+pub end-some : (bytes : List ℕ) → is_end (place_of bytes) ≡ true → 0 < length bytes
+unfolding place_of
+end-some [] at_end = absurd (false≢true at_end)
+end-some (b ∷ bytes) at_end = omega arith
+
 pub place_of-append : (a b : List ℕ) → place_of (a ++ b) ≡ place_from (place_of a) b
 unfolding place_of
 place_of-append a b = place_from-append place.Blank a b

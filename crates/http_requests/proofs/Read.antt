@@ -68,6 +68,12 @@ stage-append (stage.Body request) bytes more is = record {
 pub reading-append : (reading : Reading) (bytes more : List ℕ) → IsReading reading bytes → IsReading reading (bytes ++ more)
 reading-append reading bytes more is = stage-append reading.stage bytes more is
 
+-- a head that stands in so many bytes at the front, and what it becomes
+pub awaited-front : (request : Request) (held : List ℕ) (count : ℕ) → IsBodyAwaited request (take count held) → IsBodyAwaited request held
+awaited-front request held count is =
+    subst (IsBodyAwaited request) (take-append-drop count held)
+    (stage-append (stage.Body request) (take count held) (drop count held) is)
+
 take-none : (bytes : List ℕ) → take 0 bytes ≡ []
 take-none [] = refl
 take-none (b ∷ bytes) = refl

@@ -5,6 +5,7 @@ pub mod Framing
 pub mod Fronts
 pub mod Heads
 pub mod Items
+pub mod LastHeads
 pub mod Laws
 pub mod Looks
 pub mod Next

@@ -15,6 +15,7 @@ mod facts;
 mod framing;
 mod front;
 mod head;
+mod last_head;
 pub mod laws;
 mod look;
 mod looked;
@@ -25,6 +26,7 @@ mod request;
 mod stride;
 mod whole;
 
+pub use last_head::LastHead;
 pub use looked::Looked;
 pub use next::{Awaited, Next, next_counted, next_of};
 pub use reading::Reading;

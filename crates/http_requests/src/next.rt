@@ -1,14 +1,15 @@
 //! What comes next of the bytes held.
-ghost use Rattle.std.specs.Prelude.{◌≡◌, ◌≤◌, ◌<◌, ◌+◌, ◌*◌, Bool, true, false, List, ℕ, length, take};
+ghost use Rattle.std.specs.Prelude.{◌≡◌, ◌≤◌, ◌<◌, ◌+◌, ◌*◌, Bool, true, false, List, ℕ, IfSome, length, take};
 ghost use Rattle.httparse.specs.Grammar.{MayBecomeRequest, RequestHead};
 ghost use Rattle.http_requests.specs.Costs.{CanCount, cost, head_room, most};
 ghost use Rattle.http_requests.specs.Items.{HasHead};
-ghost use Rattle.http_requests.specs.Looks.{IsLookThrough, IsTried, feeds};
+ghost use Rattle.http_requests.specs.Looks.{IsLook, IsLookThrough, IsTried, feeds};
 ghost use Rattle.http_requests.specs.Next.{AwaitsHead, HasNoHeadFor, IsFound, IsNextFor, Says, left_of, refusal};
 ghost use Rattle.http_requests.specs.Places.{is_blank, is_end, place_of};
 ghost use Rattle.http_requests.specs.Readings.{IsBegun, IsBodyAwaited, IsReading};
 
 use crate::front::{Front, front_of};
+use crate::last_head::LastHead;
 use crate::look::Look;
 use crate::looked::Looked;
 use crate::reading::{Begun, Reading, Stage};
@@ -51,18 +52,25 @@ pub enum Next {
 /// ends them, or when 8,192 are held. While one request is read, each of its bytes is looked at once, and those given
 /// to the parser are at most three times the bytes of its head: the head as a whole, and before that some of its
 /// front, each time twice as many as the last time. No byte of a body is looked at.
-pub fn next_of(pages: &Pages, reading: &mut Reading, held: &[u8], ended: bool) -> Next
+pub fn next_of(
+    pages: &Pages,
+    reading: &mut Reading,
+    last: &mut LastHead,
+    held: &[u8],
+    ended: bool,
+) -> Next
     requires { IsReading reading.old held.now }
     ensures says { Says ended held.now result }
     ensures keeps { IsReading reading.new (left_of held.now result) }
 {
-    next_on::<Brand>(pages, reading, held, ended, Blank::new(1))
+    next_on::<Brand>(pages, reading, last, held, ended, Blank::new(1))
 }
 
 /// The same on a counter of its own, that nobody reads.
 fn next_on<L: Ledger>(
     pages: &Pages,
     reading: &mut Reading,
+    last: &mut LastHead,
     held: &[u8],
     ended: bool,
     blank: Blank,
@@ -72,7 +80,14 @@ fn next_on<L: Ledger>(
     ensures says { Says ended held.now result }
     ensures keeps { IsReading reading.new (left_of held.now result) }
 {
-    next_counted(pages, reading, held, ended, &mut Looked::<L>::new(blank))
+    next_counted(
+        pages,
+        reading,
+        last,
+        held,
+        ended,
+        &mut Looked::<L>::new(blank),
+    )
 }
 
 /// What comes next of the bytes held, as [`next_of`] says it, where the bytes that are looked at are counted: those of
@@ -81,6 +96,7 @@ fn next_on<L: Ledger>(
 pub fn next_counted<L: Ledger>(
     pages: &Pages,
     reading: &mut Reading,
+    last: &mut LastHead,
     held: &[u8],
     ended: bool,
     looked: &mut Looked<L>,
@@ -92,7 +108,7 @@ pub fn next_counted<L: Ledger>(
     ensures rises { looked.old ≤ looked.new }
 {
     match reading.stage {
-        Stage::Head(begun) => find_head(pages, reading, begun, held, ended, looked),
+        Stage::Head(begun) => find_head(pages, reading, last, begun, held, ended, looked),
         Stage::Body(request) => find_body(reading, request, held, ended),
     }
 }
@@ -147,6 +163,7 @@ fn find_body(reading: &mut Reading, request: Request, held: &[u8], ended: bool) 
 fn find_head<L: Ledger>(
     pages: &Pages,
     reading: &mut Reading,
+    last: &mut LastHead,
     begun: Begun,
     held: &[u8],
     ended: bool,
@@ -159,7 +176,7 @@ fn find_head<L: Ledger>(
 {
     let look = begun.look.on(held, looked);
     if look.place.is_end() {
-        return find_request(pages, reading, look.count, look.lines, held, ended, looked);
+        return find_request(pages, reading, last, look, begun.tried, held, ended, looked);
     }
     if look.place.is_blank() {
         return find_blank(reading, look, begun.tried, held, ended);
@@ -167,29 +184,58 @@ fn find_head<L: Ledger>(
     find_open(reading, look, begun.tried, held, ended, looked)
 }
 
-/// What comes of so many bytes, in which so many lines end, and which are a head if they begin with one.
+/// What a head becomes that is the same as the last one. Where some of it was given to the parser before, it isn't
+/// compared, so that no byte is looked at too often.
+fn known_request<L: Ledger>(
+    last: &LastHead,
+    head: &[u8],
+    tried: usize,
+    looked: &mut Looked<L>,
+) -> Option<Request>
+    requires some { 0 < length head.now }
+    requires tried { tried ≤ length head.now }
+    ensures is { IfSome result (λ request. IsBodyAwaited request head.now) }
+    ensures few { looked.new + 2 * tried ≤ looked.old + 2 * length head.now }
+    ensures rises { looked.old ≤ looked.new }
+{
+    if tried == 0 {
+        last.request_of(head, looked)
+    } else {
+        None
+    }
+}
+
+/// What comes of the bytes that were looked at, which are a head if they begin with one. The last head is known by its
+/// bytes, and each other one is parsed.
 fn find_request<L: Ledger>(
     pages: &Pages,
     reading: &mut Reading,
-    count: usize,
-    lines: usize,
+    last: &mut LastHead,
+    look: Look,
+    tried: usize,
     held: &[u8],
     ended: bool,
     looked: &mut Looked<L>,
 ) -> Next
-    requires within { count ≤ length held.now }
-    requires few { count ≤ MAX_HEAD_BYTES }
-    requires lines { feeds (take count held.now) ≤ lines }
-    requires at_end { is_end (place_of (take count held.now)) ≡ true }
-    requires first { (n : ℕ) → n < count → is_end (place_of (take n held.now)) ≡ false }
+    requires look { IsLook look held.now }
+    requires few { look.count ≤ MAX_HEAD_BYTES }
+    requires tried { tried ≤ look.count }
+    requires at_end { is_end look.place ≡ true }
+    requires first { (n : ℕ) → n < look.count → is_end (place_of (take n held.now)) ≡ false }
     ensures found { IsFound ended held.now result reading.new }
-    ensures few { looked.new + 3 * count ≤ looked.old + most held.now reading.new result }
+    ensures few { looked.new + (look.count + 2 * tried) ≤ looked.old + most held.now reading.new result }
     ensures rises { looked.old ≤ looked.new }
 {
-    let front = &held[..count];
-    match front_of(front, lines, looked) {
+    let front = &held[..look.count];
+    if let Some(request) = known_request(last, front, tried, looked) {
+        return find_body(reading, request, held, ended);
+    }
+    match front_of(front, look.lines, looked) {
         Front::Head(head) => match head.becomes(pages) {
-            Ok(request) => find_body(reading, request, held, ended),
+            Ok(request) => {
+                last.keep(front, &request);
+                find_body(reading, request, held, ended)
+            }
             Err(fault) => found_refused(reading, false, head.is_head(), fault),
         },
         Front::Open => found_refused(reading, false, false, Fault::BadRequest),

@@ -2,6 +2,7 @@
 ghost use Rattle.std.specs.Prelude.{List};
 ghost use Rattle.http_requests.specs.Items.{Item, Items, End};
 
+use crate::last_head::LastHead;
 use crate::next::{Next, next_of};
 use crate::reading::Reading;
 use http_routes::Pages;
@@ -11,9 +12,10 @@ pub fn every_input_has_items(pages: &Pages, bytes: &[u8])
     ensures { (items : List Item) × (end : End) × Items bytes.now items end }
 {
     let mut from = 0;
+    let mut last = LastHead::none();
     loop {
         let mut reading = Reading::new();
-        match next_of(pages, &mut reading, &bytes[from..], true) {
+        match next_of(pages, &mut reading, &mut last, &bytes[from..], true) {
             Next::Request(request) => {
                 if request.closes {
                     return;

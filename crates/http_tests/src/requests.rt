@@ -2,7 +2,7 @@
 ghost use Rattle.http_requests.specs.Readings.{IsReading};
 
 use crate::texts::{bytes_of, print_found};
-use http_requests::{Next, Reading, next_of};
+use http_requests::{LastHead, Next, Reading, next_of};
 use http_responses::read_response;
 use http_routes::Pages;
 use std::alloc::Global;
@@ -14,11 +14,22 @@ fn read_on(pages: &Pages, reading: &mut Reading, held: &[u8]) -> Next
     requires { IsReading reading.old held.now }
     ensures { IsReading reading.new held.now }
 {
-    let next = next_of(pages, reading, held, false);
+    let next = next_of(pages, reading, &mut LastHead::none(), held, false);
     if let Next::Request(_) = next {
         *reading = Reading::new();
     }
     next
+}
+
+// Prints what comes next of bytes, read anew, and then again behind the same head, where that is something else.
+fn print_twice(rt: &impl Print, pages: &Pages, bytes: &[u8], ended: bool) -> io::Result<()> {
+    let mut last = LastHead::none();
+    let next = next_of(pages, &mut Reading::new(), &mut last, bytes, ended);
+    let again = next_of(pages, &mut Reading::new(), &mut last, bytes, ended);
+    if again != next {
+        print_found(rt, again)?;
+    }
+    print_found(rt, next)
 }
 
 // Prints what comes next of each prefix but the whole, wherever it differs from what comes of the one before it. The
@@ -44,8 +55,8 @@ pub(crate) fn play_bytes(rt: &impl Print, alloc: Global, name: &str, text: &str)
         return println!(rt; "out of memory");
     };
     match name {
-        "held" => print_found(rt, next_of(&pages, &mut Reading::new(), &bytes, false)),
-        "whole" => print_found(rt, next_of(&pages, &mut Reading::new(), &bytes, true)),
+        "held" => print_twice(rt, &pages, &bytes, false),
+        "whole" => print_twice(rt, &pages, &bytes, true),
         "prefixes" => print_prefixes(rt, &pages, &bytes),
         _ => print_found(rt, read_response(&bytes)),
     }
