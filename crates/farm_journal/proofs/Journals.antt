@@ -38,16 +38,16 @@ module _ {D : Type 0} (tells : D → Bool) (told : D → DiskState) (d e : D) (s
 
   -- before the first call
   pub no-moment : (tells d ≡ true → Rests v ps gate (told d)) → tells e ≡ true
-      → LeavesOnly (told e) (told e) (IsBeforeOrAfter qs p)
-  no-moment rests = subst (λ (x : D). tells x ≡ true → LeavesOnly (told x) (told x) (IsBeforeOrAfter qs p)) same
+      → LeavesOnly (told e) (told d) (IsBeforeOrAfter qs p)
+  no-moment rests = subst (λ (x : D). tells x ≡ true → LeavesOnly (told x) (told d) (IsBeforeOrAfter qs p)) same
       (λ t. subst (λ (l : List (List ℕ)). LeavesOnly (told d) (told d) (IsBeforeOrAfter l p)) is
       (leaves-public v ps gate p (told d) (told d) (started v ps gate p (told d) (rests t)).images))
 
   -- before the first call, without the new payload
   pub not-begun : (tells d ≡ true → Rests v ps gate (told d)) → tells e ≡ true
-      → LeavesOnly (told e) (told e) (λ c. opens c ≡ holds qs)
+      → LeavesOnly (told e) (told d) (λ c. opens c ≡ holds qs)
   not-begun rests =
-      subst (λ (x : D). tells x ≡ true → LeavesOnly (told x) (told x) (λ c. opens c ≡ holds qs)) same
+      subst (λ (x : D). tells x ≡ true → LeavesOnly (told x) (told d) (λ c. opens c ≡ holds qs)) same
       (λ t. subst (λ (l : List (List ℕ)). LeavesOnly (told d) (told d) (λ c. opens c ≡ holds l)) is
       (stands-public 1 ps gate (told d) (told d)
       (leaves-undone v ps gate (told d) (told d) (rests t) (inl refl))))
@@ -67,9 +67,9 @@ module _ {D : Type 0} (tells : D → Bool) (told : D → DiskState) (d e : D) (s
       (λ t. subst (λ (l : List (List ℕ)). IsHeld l now) is (rests-public w ps gate now (rests t)))
 
   -- what is held before a call
-  pub now-held : (tells d ≡ true → Rests v ps gate (told d)) → tells e ≡ true → IsHeld qs (told e)
+  pub now-held : (tells d ≡ true → Rests v ps gate (told d)) → tells e ≡ true → IsHeld qs (told d)
   now-held rests =
-      subst (λ (x : D). tells x ≡ true → IsHeld qs (told x)) same
+      subst (λ (x : D). tells x ≡ true → IsHeld qs (told d)) same
       (λ t. subst (λ (l : List (List ℕ)). IsHeld l (told d)) is (rests-public v ps gate (told d) (rests t)))
 
   -- what is held with the new payload
@@ -98,9 +98,9 @@ module _ {D : Type 0} (tells : D → Bool) (told : D → DiskState) (d e : D) (s
 
   -- the same before the first call
   pub stays-idle : (y : ℕ) → v ≡ y → (tells d ≡ true → Rests v ps gate (told d)) → y ≡ 2 → tells e ≡ true
-      → LeavesOnly (told e) (told e) (λ c. version_of c ≡ 2)
+      → LeavesOnly (told e) (told d) (λ c. version_of c ≡ 2)
   stays-idle y kept rests two =
-      subst (λ (x : D). tells x ≡ true → LeavesOnly (told x) (told x) (λ c. version_of c ≡ 2)) same
+      subst (λ (x : D). tells x ≡ true → LeavesOnly (told x) (told d) (λ c. version_of c ≡ 2)) same
       (λ t. leaves_only-weaker (told d) (told d) (IsEither 2 ps gate p) (λ c. version_of c ≡ 2) (version-either ps gate p)
       (started 2 ps gate p (told d) (subst (λ (k : ℕ). Rests k ps gate (told d)) (kept ∙ two) (rests t))).images)
 

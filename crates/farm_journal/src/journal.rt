@@ -55,6 +55,7 @@ use farm_disk::Disk;
 use item_list::ItemList;
 use std::alloc::Global;
 use std::marker::Model;
+use std::mem;
 use told_list::ToldList;
 
 /// The payloads of a journal, in the order in which they were appended.
@@ -72,6 +73,8 @@ pub struct Journal<D: Disk> {
     past: ToldList<Payload>,
     /// The room in which records are put together, kept from one to the next.
     piece: Vec<u8>,
+    /// The payload that was appended last, or is being appended, by which it becomes the pending one. Its room is kept.
+    last: Payload,
 }
 
 impl<D: Disk> Model for Journal<D> {
@@ -137,6 +140,7 @@ impl<D: Disk> Journal<D> {
                     pending: None,
                     past,
                     piece: Vec::new(alloc),
+                    last: Payload::of(Vec::new(alloc)),
                 })
             }
             Ok(false) => Err((disk, CreateFault::AlreadyBorn)),
@@ -190,6 +194,7 @@ impl<D: Disk> Journal<D> {
                     pending: None,
                     past,
                     piece: Vec::new(alloc),
+                    last: Payload::of(Vec::new(alloc)),
                 };
                 Ok((journal, Payloads::of(payloads)))
             }
@@ -248,7 +253,7 @@ impl<D: Disk> Journal<D> {
         ensures never_falls { D.count self.old.disk ≤ D.count self.new.disk }
     {
         let before = self.disk.faults();
-        let Ok(copy) = Payload::copy_of(alloc, payload) else {
+        let Ok(()) = self.last.set(payload) else {
             return Err(JournalFault::Memory);
         };
         match store(
@@ -259,12 +264,13 @@ impl<D: Disk> Journal<D> {
             payload,
         ) {
             Ok(()) => {
-                self.past.tell(&copy);
+                self.past.tell(&self.last);
                 self.gate += 5 + payload.len() as u64;
                 Ok(())
             }
             Err(DiskFault::Memory) => Err(JournalFault::Memory),
             Err(DiskFault::Failed) => {
+                let copy = mem::replace(&mut self.last, Payload::of(Vec::new(alloc)));
                 self.pending = Some(copy);
                 let after = self.disk.faults();
                 Err(JournalFault::StoreFault { before, after })

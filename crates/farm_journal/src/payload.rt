@@ -1,5 +1,5 @@
 //! The bytes of one record.
-ghost use Rattle.std.specs.Prelude.{◌≡◌, IfOk};
+ghost use Rattle.std.specs.Prelude.{◌≡◌, IfOk, OnOk};
 
 use farm_disk::Memory;
 use std::alloc::Global;
@@ -34,6 +34,15 @@ impl Payload {
         Ok(Payload {
             bytes: bytes.to_vec(alloc)?,
         })
+    }
+
+    /// Makes it these bytes, in the room that it has where they fit.
+    pub(crate) fn set(&mut self, bytes: &[u8]) -> Result<(), Memory>
+        ensures { OnOk result (self.new ≡ bytes.now) }
+    {
+        self.bytes.clear();
+        self.bytes.extend_from_slice(bytes)?;
+        Ok(())
     }
 
     /// Its bytes.

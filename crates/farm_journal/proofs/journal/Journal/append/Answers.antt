@@ -20,18 +20,18 @@ returns-in_default-clause-still_held g c =
     now-held g.D.Disk.tells g.D.Disk.told _ _ disk _ _ payloads c.self.inside.version c.self.inside.gate
     c.args.payload.now (c.self.invariant.rests idle)
 
-pub invariant_of-self : goal.invariant_of-self
-invariant_of-self g c =
+pub invariant_of-self-in-Ok-store : goal.invariant_of-self-in-Ok-store
+invariant_of-self-in-Ok-store g c =
     let disk = ap (λ (j : JournalState g.row.D.Denot). j.disk) c.self.view_is in
     let payloads = ap (λ (j : JournalState g.row.D.Denot). j.payloads) c.self.view_is in
     let idle = ap (λ (j : JournalState g.row.D.Denot). j.pending) c.self.view_is ∙ c.requires.idle in
     kept-appended g.D.Disk.tells g.D.Disk.told c.self.inside.disk c.store.new.disk c.self.inside.past c.tell.new.self
-    c.in-Ok.copy c.args.payload.now c.self.inside.pending c.self.inside.gate c.self.inside.version c.store.new.version
+    c.set.new.self c.args.payload.now c.self.inside.pending c.self.inside.gate c.self.inside.version c.store.new.version
     c.tell.ensures c.in-Ok.ensures idle c.self.invariant.gate_is c.store.ensures.same c.in-Ok-store.ensures.new_version
     (λ t. c.in-Ok-store.ensures.done t _ (c.self.invariant.rests idle t))
 
-pub invariant_of-self-in-Memory-1 : goal.invariant_of-self-in-Memory-1
-invariant_of-self-in-Memory-1 g c =
+pub invariant_of-self-in-Err-Memory : goal.invariant_of-self-in-Err-Memory
+invariant_of-self-in-Err-Memory g c =
     let disk = ap (λ (j : JournalState g.row.D.Denot). j.disk) c.self.view_is in
     let payloads = ap (λ (j : JournalState g.row.D.Denot). j.payloads) c.self.view_is in
     let idle = ap (λ (j : JournalState g.row.D.Denot). j.pending) c.self.view_is ∙ c.requires.idle in
