@@ -37,4 +37,4 @@ pub use marks::{
 };
 pub use page::write_log_page;
 pub use reading::read_entries;
-pub use writing::write_entries;
+pub use writing::{write_entries, write_entries_into};

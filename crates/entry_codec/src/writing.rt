@@ -290,8 +290,19 @@ pub fn write_entries(alloc: Global, entries: &[Entry]) -> Result<Vec<u8>, Memory
     ensures readable { OnOk result (AreSpelled entries.now) }
 {
     let mut out = Vec::with_capacity(alloc, SHORT_ENTRIES)?;
-    for entry in entries {
-        put_entry(&mut out, entry)?;
-    }
+    write_entries_into(&mut out, entries)?;
     Ok(out)
+}
+
+/// Makes of some bytes, whose room serves for it, the spelling of entries: the same as [`write_entries`] gives.
+pub fn write_entries_into(out: &mut Vec<u8>, entries: &[Entry]) -> Result<(), Memory>
+    requires { All (λ entry. IsWithinLimits entry.what) entries.now }
+    ensures spelled { OnOk result (out.new.items ≡ spelling entries.now) }
+    ensures readable { OnOk result (AreSpelled entries.now) }
+{
+    out.clear();
+    for entry in entries {
+        put_entry(out, entry)?;
+    }
+    Ok(())
 }

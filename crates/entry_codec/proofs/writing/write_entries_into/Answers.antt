@@ -1,6 +1,6 @@
 use Rattle.std.proofs.Common.{◌∙◌}
 use Rattle.entry_codec.proofs.ListLaws.{spells_one, writes_one}
-use Rattle.entry_codec.proofs.writing.write_entries.Goals as goal
+use Rattle.entry_codec.proofs.writing.write_entries_into.Goals as goal
 
 pub loop-entry-preserved : goal.loop-entry-preserved
 loop-entry-preserved c =

@@ -1,7 +1,7 @@
 use Rattle.std.proofs.Common.{◌≡◌, take}
 use Rattle.entry_codec.specs.Grammar.{AreSpelled}
 use Rattle.entry_codec.specs.Spelling.{spelling}
-use Rattle.entry_codec.proofs.writing.write_entries.Given as goal
+use Rattle.entry_codec.proofs.writing.write_entries_into.Given as goal
 
 abbrev pub invariant-loop-entry : goal.invariant-loop-entry
 invariant-loop-entry l = record {
