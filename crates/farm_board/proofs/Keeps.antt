@@ -1,5 +1,5 @@
 -- Each kind of step keeps the rule of the row.
-use Rattle.std.proofs.Common.{zero, suc, ◌≡◌, ◌≢◌, ◌++◌, ◌∷◌, [], List, ℕ, Bool, true, false, ◌+◌, ◌%◌, ◌^◌, ◌==◌, ◌<◌, ◌≤◌, length, get_or, set, sym, refl, ap, ◌∙◌, subst, inl, inr, ⊎_elim, arith, length-set, get_or-set_same, get_or-set_other, add-one}
+use Rattle.std.proofs.Common.{zero, suc, ◌≡◌, ◌≢◌, ◌++◌, ◌∷◌, [], List, ℕ, Bool, true, false, ◌+◌, ◌-◌, ◌%◌, ◌^◌, ◌==◌, ◌<◌, ◌≤◌, length, get_or, set, sym, refl, ap, ◌∙◌, subst, inl, inr, ⊎_elim, arith, length-set, get_or-set_same, get_or-set_other, add-one}
 use mathlib.Core.Logic.{dite}
 use mathlib.Core.Option.{some, none, some-injective, some-ne-none}
 use native.Mathlib.Decide.{ℕ_discrete}
@@ -240,16 +240,18 @@ module _ (number : List Entry → ℕ → ℕ) where
   }
 
   -- a post begins
-  pub starts : (id : ℕ) (m : Seat) → m.0.posts ≡ true → m.0.writes ≡ false → m.0.version + 1 < 2 ^ 64
-      → Allows (IsKept number) 0 id m 0 (λ n. (n + 1) % 2 ^ 64) (Starts (step 0 0 1 0 none) m)
-  starts id m posts rests small s k none_at at fits =
+  pub starts : (row : List Entry → List ℕ) → ((H : List Entry) → length (row H) ≡ 8)
+      → ((H : List Entry) → AreOf number H (row H))
+      → (id : ℕ) (m : Seat) → m.0.posts ≡ true → m.0.writes ≡ false → m.0.version + 1 < 2 ^ 64
+      → Allows (IsKept number) 0 id m 0 (λ n. (n + 1) % 2 ^ 64) (Starts row (step 0 0 1 0 none) m)
+  starts row long are id m posts rests small s k none_at at fits =
       let same : id ≡ k.poster = k.only id m.0 at posts in
       let vw : k.view ≡ m.0 = one_view s.views k.poster id k.view m.0 k.at at (sym same) in
       let ver : version_of s ≡ m.0.version = sym k.version ∙ ap (λ (y : View). y.version) vw in
       let calm : k.view.writes ≡ false = ap (λ (y : View). y.writes) vw ∙ rests in
       let even = (k.rest calm).0 in
       let e : (version_of s + 1) % 2 ^ 64 ≡ version_of s + 1 = omega (arith, ver, small) in
-      let w : View = posting (m.0.version + 1) m.0.seen [] in
+      let w : View = posting (m.0.version + 1) m.0.seen (row m.0.seen) in
       let ws : List ℕ = set s.words 0 (version_of s + 1) in
       let here : get_or ws 0 0 ≡ version_of s + 1 =
       get_or-set_same s.words 0 (version_of s + 1) 0 (omega (arith, k.words)) in
@@ -258,7 +260,13 @@ module _ (number : List Entry → ℕ → ℕ) where
       (subst (λ (y : View). IsPrefix k.view.seen y.seen) vw (IsPrefix-refl k.view.seen))
       (subst (λ (y : View). IsPosted y.seen) vw k.legal)
       (omega (arith, here)) (λ x le _ eq. omega (arith, here, le, eq)) (λ f. absurd (both_ways true refl f))
-      (λ _. (omega (arith, here, even), λ j h. absurd (omega arith))) in (
+      (λ _. (
+        omega (arith, here, even),
+        λ j h.
+            get_or-set_other s.words 0 (j + 1) (version_of s + 1) 0 (λ e. omega arith)
+            ∙ ((k.rest calm).1 j (let l = long m.0.seen in omega (arith, l, h))
+            ∙ (ap (λ (y : View). number y.seen j) vw ∙ sym (are m.0.seen j h))),
+      )) in (
         w,
         keeps,
         tt,
@@ -268,7 +276,7 @@ module _ (number : List Entry → ℕ → ℕ) where
       )
 
   -- one number is written
-  pub puts : (id j x : ℕ) (m : Seat) → m.0.posts ≡ true → m.0.writes ≡ true → length m.0.numbers ≡ j → j < 8
+  pub puts : (id j x : ℕ) (m : Seat) → m.0.posts ≡ true → m.0.writes ≡ true → length m.0.numbers ≡ 8 → j < 8
       → Allows (IsKept number) 0 id m (j + 1) (λ _. x) (λ _. Puts (step 0 (j + 1) x 0 none) m x)
   puts id j x m posts writes long short s k none_at at fits =
       let same : id ≡ k.poster = k.only id m.0 at posts in
@@ -277,23 +285,32 @@ module _ (number : List Entry → ℕ → ℕ) where
       let work = k.work (ap (λ (y : View). y.writes) vw ∙ writes) in
       let odd = work.0 in
       let list_is : k.view.numbers ≡ m.0.numbers = ap (λ (y : View). y.numbers) vw in
-      let w : View = posting m.0.version m.0.seen (m.0.numbers ++ x ∷ []) in
+      let numbers : List ℕ = set m.0.numbers j x in
+      let w : View = posting m.0.version m.0.seen numbers in
       let ws : List ℕ = set s.words (j + 1) x in
       let first : get_or ws 0 0 ≡ version_of s = get_or-set_other s.words (j + 1) 0 x 0 (λ e. omega arith) in
+      let place : j + 1 - 1 ≡ j = omega arith in
       let kept = poster_moves s k w ws (length-set s.words (j + 1) x ∙ k.words) refl refl (sym ver ∙ sym first)
       (subst (λ (y : View). IsPrefix k.view.seen y.seen) vw (IsPrefix-refl k.view.seen))
       (subst (λ (y : View). IsPosted y.seen) vw k.legal)
       (omega (arith, first)) (λ y le even eq. omega (arith, first, even, eq, odd)) (λ f. absurd (both_ways true refl f))
       (λ _. (
         rw first odd,
-        λ i h. ⊎_elim
-            (λ t. get_or-set_other s.words (j + 1) (i + 1) x 0 (λ e. let l = t.0 in omega (arith, l, long, e))
-            ∙ (work.1 i (let l = t.0 in rw list_is l) ∙ (ap (λ (l : List ℕ). get_or l i 0) list_is ∙ sym t.1)))
-            (λ t. ap (λ (n : ℕ). get_or ws (n + 1) 0) (t.0 ∙ long)
-            ∙ (get_or-set_same s.words (j + 1) x 0 (omega (arith, k.words, short)) ∙ sym t.1))
-            (old_or_last m.0.numbers x i h),
-      )) in
-      (w, keeps, tt, subst (λ (i : ℕ). IsKept number (table ws s.homes (set s.views i w))) (sym same) kept, refl)
+        λ i h. dite (ℕ_discrete i j)
+            (λ e. ap (λ (n : ℕ). get_or ws (n + 1) 0) e
+            ∙ (get_or-set_same s.words (j + 1) x 0 (omega (arith, k.words, short))
+            ∙ sym (ap (λ (n : ℕ). get_or numbers n 0) e
+            ∙ get_or-set_same m.0.numbers j x 0 (omega (arith, long, short)))))
+            (λ ne. get_or-set_other s.words (j + 1) (i + 1) x 0 (λ e. ne (omega (arith, e)))
+            ∙ (work.1 i (let l = length-set m.0.numbers j x in rw list_is (omega (arith, l, h)))
+            ∙ (ap (λ (l : List ℕ). get_or l i 0) list_is ∙ sym (get_or-set_other m.0.numbers j i x 0 ne)))),
+      )) in (
+        w,
+        keeps,
+        tt,
+        subst (λ (i : ℕ). IsKept number (table ws s.homes (set s.views i w))) (sym same) kept,
+        ap (λ (n : ℕ). (posting m.0.version m.0.seen (set m.0.numbers n x), m.1)) (sym place),
+      )
 
   -- the totals are posted
   pub ends : (id version : ℕ) (H : List Entry) (m : Seat) → m.0.posts ≡ true → m.0.writes ≡ true → m.0.version ≡ version

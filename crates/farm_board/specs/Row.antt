@@ -9,9 +9,13 @@ abbrev pub numbers_of : Totals → List ℕ
 numbers_of t =
     t.entries ∷ t.searches ∷ t.searching ∷ t.verifying ∷ t.confirmed ∷ t.ended ∷ t.counted ∷ t.orders ∷ []
 
+-- the row of a history's totals
+abbrev pub row_of : List Entry → List ℕ
+row_of H = numbers_of (totals H)
+
 -- the number at a place in the row of a history's totals
 abbrev pub number_of : List Entry → ℕ → ℕ
-number_of H place = slice_index (numbers_of (totals H)) place
+number_of H place = slice_index (row_of H) place
 
 -- numbers as totals
 abbrev pub totals_from : List ℕ → Totals

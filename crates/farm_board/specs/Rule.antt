@@ -50,7 +50,7 @@ module _ (number : List Entry → ℕ → ℕ) where
     -- between two posts the row is that of its history
     pub rest : view.writes ≡ false
         → (version_of s % 2 ≡ 0) × ((k : ℕ) → k < NUMBERS → slice_index s.words (k + 1) ≡ number view.seen k)
-    -- and in a post the row begins with what it has written
+    -- and in a post it is what the seat that posts knows
     pub work : view.writes ≡ true
         → (version_of s % 2 ≡ 1) ×
         ((k : ℕ) → k < length view.numbers → slice_index s.words (k + 1) ≡ slice_index view.numbers k)

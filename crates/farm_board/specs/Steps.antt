@@ -1,5 +1,5 @@
 -- What each kind of step tells the caller that makes it, of its seat before and after.
-use Rattle.std.specs.Prelude.{◌≡◌, ◌+◌, ◌%◌, ◌++◌, ◌∷◌, [], ℕ, List}
+use Rattle.std.specs.Prelude.{◌≡◌, ◌+◌, ◌-◌, ◌%◌, ◌++◌, ◌∷◌, [], ℕ, List, slice_set}
 use Rattle.atomic_table.specs.Table.{Step, Me}
 use Rattle.farm_entry.specs.declared.entry.Entry.{Entry}
 use Rattle.list_prefix.specs.Prefix.{IsPrefix}
@@ -24,13 +24,15 @@ Checks number step me found after =
     (found ≡ me.0.version → AreOf number me.0.at me.0.numbers × (after ≡ (idle me.0.at, me.1)))
     × (¬ (found ≡ me.0.version) → after ≡ (idle me.0.seen, me.1))
 
--- a post begins
-abbrev pub Starts : {S : Type 0} → Step S → Me S View → ℕ → Me S View → Type 0
-Starts step me found after = (found ≡ me.0.version) × (after ≡ (posting (me.0.version + 1) me.0.seen [], me.1))
+-- a post begins, and the numbers are those of the history that was posted before
+abbrev pub Starts : (List Entry → List ℕ) → {S : Type 0} → Step S → Me S View → ℕ → Me S View → Type 0
+Starts row step me found after =
+    (found ≡ me.0.version) × (after ≡ (posting (me.0.version + 1) me.0.seen (row me.0.seen), me.1))
 
--- one more number was written
+-- the number was written whose word it is
 abbrev pub Puts : {S : Type 0} → Step S → Me S View → ℕ → Me S View → Type 0
-Puts step me found after = after ≡ (posting me.0.version me.0.seen (me.0.numbers ++ step.first ∷ []), me.1)
+Puts step me found after =
+    after ≡ (posting me.0.version me.0.seen (slice_set me.0.numbers (step.word - 1) step.first), me.1)
 
 -- the totals of the history are posted
 abbrev pub Ends : List Entry → {S : Type 0} → Step S → Me S View → ℕ → Me S View → Type 0

@@ -23,7 +23,7 @@ still posts version seen = record {
 abbrev pub resting : ℕ → List Entry → View
 resting version seen = still true version seen
 
--- the seat that posts, in a post, with the numbers written so far
+-- the seat that posts, in a post, with the numbers that stand in the row
 abbrev pub posting : ℕ → List Entry → List ℕ → View
 posting version seen numbers = record {
   posts = true;

@@ -1,12 +1,29 @@
 //! The board.
-ghost use Rattle.std.specs.Prelude.{◌≡◌, ◌≤◌, ◌<◌, ◌+◌, ◌*◌, ◌^◌, [], true, false, length, IfOk, IfSome, IfNone, List};
+ghost use Rattle.std.specs.Prelude.{
+  ◌≡◌,
+  ◌≤◌,
+  ◌<◌,
+  ◌+◌,
+  ◌*◌,
+  ◌^◌,
+  [],
+  true,
+  false,
+  length,
+  slice_index,
+  slice_set,
+  IfOk,
+  IfSome,
+  IfNone,
+  List,
+};
 ghost use Rattle.farm_entry.specs.Legal.{IsLegal};
 ghost use Rattle.farm_entry.specs.Pages.{totals as totals_of};
 ghost use Rattle.farm_entry.specs.declared.entry.Entry.{Entry as HistoryEntry};
 ghost use Rattle.list_prefix.specs.Prefix.{IsPrefix};
 ghost use Rattle.farm_board.specs.Row.{number_of, numbers_of, totals_from};
 ghost use Rattle.farm_board.specs.Rule.{AreOf, IsPosted};
-ghost use Rattle.farm_board.specs.Views.{idle, resting};
+ghost use Rattle.farm_board.specs.Views.{idle, posting, resting};
 ghost use Rattle.farm_board.specs.declared.row.TheConstants.{NUMBERS};
 
 use crate::pass::BoardPass;
@@ -61,7 +78,7 @@ impl Board {
         let board = Board {
             table: CachePadded::new(table),
         };
-        board.write::<Brand>(&mut seat, &totals, history);
+        board.write::<Brand>(&mut seat, &no_totals(), &totals, history);
         let pass = BoardPass {
             seat,
             posts: true,
@@ -81,7 +98,8 @@ impl Board {
         ensures pass { pass.new ≡ record { board = self.now; posts = true; seen = history.now } }
     {
         if totals.entries != pass.last.entries {
-            self.write::<Brand>(&mut pass.seat, &totals, history);
+            let last = pass.last;
+            self.write::<Brand>(&mut pass.seat, &last, &totals, history);
             pass.last = totals;
         }
     }
@@ -181,12 +199,20 @@ impl Board {
         }
     }
 
-    fn write<H: Posted>(&self, seat: &mut Seat<(), View>, totals: &Totals, history: &[Entry])
+    /// Posts totals, where those of the history before were posted last. A number that stays isn't written again.
+    fn write<H: Posted>(
+        &self,
+        seat: &mut Seat<(), View>,
+        last: &Totals,
+        totals: &Totals,
+        history: &[Entry],
+    )
         requires own { seat.old.table_id ≡ self.now }
         requires still { seat.old.me ≡ (resting seat.old.me.0.version seat.old.me.0.seen, []) }
         requires few { seat.old.me.0.version ≤ 2 * length seat.old.me.0.seen }
         requires picked { history.now ≡ H.entries }
         requires legal { IsLegal history.now }
+        requires last { last.now ≡ totals_of seat.old.me.0.seen }
         requires totals { totals.now ≡ totals_of history.now }
         requires longer { IsPrefix seat.old.me.0.seen history.now }
         requires more { length seat.old.me.0.seen < length history.now }
@@ -194,12 +220,49 @@ impl Board {
         ensures me { seat.new.me ≡ (resting (seat.old.me.0.version + 2) history.now, []) }
     {
         let shared = self.words();
+        let posted = row_of(last);
         let row = row_of(totals);
         let version = shared.fetch_add::<Start>(seat, VERSION, 1);
         for k in 0..NUMBERS {
-            shared.store::<Put>(seat, k + 1, row[k]);
+            self.put(seat, k, posted[k], row[k]);
         }
         shared.compare_exchange::<End<H>>(seat, VERSION, version + 1, version + 2);
+    }
+
+    /// Writes the number at a place of the row, where it isn't the one that stands there.
+    fn put(&self, seat: &mut Seat<(), View>, place: usize, posted: u64, number: u64)
+        requires own { seat.old.table_id ≡ self.now }
+        requires posting { seat.old.me ≡ (posting seat.old.me.0.version seat.old.me.0.seen seat.old.me.0.numbers, []) }
+        requires sized { length seat.old.me.0.numbers ≡ NUMBERS }
+        requires within { place < NUMBERS }
+        requires posted { slice_index seat.old.me.0.numbers place ≡ posted }
+        ensures own { (seat.new.table_id ≡ seat.old.table_id) × (seat.new.id ≡ seat.old.id) }
+        ensures me { seat.new.me ≡ (
+          posting seat.old.me.0.version seat.old.me.0.seen
+              (slice_set seat.old.me.0.numbers place number),
+          [],
+        ) }
+    {
+        if number == posted {
+            return;
+        }
+        self.words().store::<Put>(seat, place + 1, number);
+    }
+}
+
+/// The totals of a history without entries.
+fn no_totals() -> Totals
+    ensures { result ≡ totals_of [] }
+{
+    Totals {
+        entries: 0,
+        searches: 0,
+        searching: 0,
+        verifying: 0,
+        confirmed: 0,
+        ended: 0,
+        counted: 0,
+        orders: 0,
     }
 }
 

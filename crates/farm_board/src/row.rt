@@ -1,7 +1,7 @@
 //! The row of a board: what its seats know, its rule, and what each kind of step tells.
 ghost use Rattle.std.specs.Prelude.{List, [], ℕ};
 ghost use Rattle.farm_entry.specs.declared.entry.Entry.{Entry};
-ghost use Rattle.farm_board.specs.Row.{number_of};
+ghost use Rattle.farm_board.specs.Row.{number_of, row_of};
 ghost use Rattle.farm_board.specs.Rule.{IsKept};
 ghost use Rattle.farm_board.specs.Steps.{Begins, Checks, Ends, Peeks, Puts, Starts};
 ghost use Rattle.farm_board.specs.Views.{idle, resting};
@@ -32,7 +32,7 @@ pub struct View {
     pub seen: LinkedList<Entry>,
     /// The history whose totals stood there when it began to read.
     pub at: LinkedList<Entry>,
-    /// The numbers that it has written or read so far.
+    /// The numbers that it has read so far, or, in the middle of a post, those that stand in the row.
     pub numbers: LinkedList<u64>,
 }
 
@@ -70,7 +70,7 @@ impl Play<(), View> for Check {
 pub struct Start;
 
 impl Play<(), View> for Start {
-    ghost then = { Starts };
+    ghost then = { Starts row_of };
 }
 
 /// A number is written.
