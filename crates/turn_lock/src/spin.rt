@@ -34,6 +34,11 @@ impl SpinLimit {
         }
     }
 
+    /// Whether callers came to their turns by looking lately.
+    pub fn turns_are_short(&self) -> bool {
+        self.looks.load(Ordering::SeqCst) == MOST_LOOKS
+    }
+
     fn of(&self, ticket: u64) -> u64 {
         if ticket % TRIAL == 0 {
             MOST_LOOKS
