@@ -13,13 +13,13 @@ use Rattle.farm_entry.specs.declared.entry.What.{What}
 use Rattle.farm_entry.specs.declared.entry.What.TheVariants.{Founded, Opened, Leased, Reported, Cancelled, Ordered}
 use Rattle.farm_entry.specs.declared.lease.LeasedRun.{LeasedRun}
 use Rattle.farm_entry.specs.declared.lease.ReportedRun.{ReportedRun}
-use Rattle.farm_entry.specs.declared.limits.TheConstants.{MAX_ENTRIES}
+use Rattle.farm_entry.specs.declared.limits.TheConstants.{MAX_ENTRIES, MAX_SEARCHES}
 use Rattle.farm_entry.specs.declared.opening.Opening.{Opening}
 use Rattle.farm_entry.specs.declared.reply.Totals.{Totals}
 use Rattle.farm_entry.specs.declared.standing.Standing.{Standing}
 use Rattle.farm_entry.specs.declared.standing.Standing.TheVariants.{Searching}
 use Rattle.farm_entry.proofs.Growing.{openings-grow}
-use Rattle.farm_laws.proofs.Bounds.{entries-bounded}
+use Rattle.farm_laws.proofs.Bounds.{entries-bounded, openings-bounded}
 use Rattle.farm_laws.proofs.Counts.{count_by-cons}
 use Rattle.farm_laws.proofs.EntryParts.{opened-facts}
 use Rattle.farm_laws.proofs.Filters.{lease_of-stays, opening_numbered-stays}
@@ -33,6 +33,8 @@ use Rattle.search_laws.proofs.Counting.{counted-step, entries-step, none-changes
 use Rattle.state_laws.specs.Seen.{seen}
 use Rattle.farm_state.proofs.Searches.{search-none, search-of_lease}
 use Rattle.kept_farm.specs.Changes.{AreFew, CanMove, HasMoved, IsMoved, MayMove, counts_in, last_standing, one_if, one_that, search_in, standing_in, standing_of, with_entry}
+use Rattle.kept_farm.specs.Rows.{AreSmall, row_of, row_with, totals_in}
+use Rattle.kept_farm.specs.declared.row.Row.{Row}
 
 -- Numbers.
 
@@ -192,6 +194,24 @@ few H legal =
       orders = omega (arith, entries, orders);
     }
 
+-- and no more than a farm may have
+pub small : (H : List Entry) → IsLegal H → AreSmall (totals H)
+small H legal =
+    let all : length (openings H) ≤ MAX_SEARCHES = openings-bounded H legal in
+    let stand : (test : Standing → Bool) → searches_that test H ≤ MAX_SEARCHES =
+    λ test. (let some : searches_that test H ≤ length (openings H) =
+    count_by-le-length (λ (o : Opening). test (standing H o)) (openings H) in omega (arith, some, all)) in
+    let fits = few H legal in
+    record {
+      searches = all;
+      searching = stand is_searching;
+      verifying = stand is_verifying;
+      confirmed = stand is_confirmed;
+      ended = stand is_ended_otherwise;
+      counted = fits.counted;
+      orders = fits.orders;
+    }
+
 may-move : (H : List Entry) (e : Entry) (test : Standing → Bool) → IsLegal H → IsLegal (H ++ e ∷ []) →
     MayMove test (searches_that test H) (standing_in H e.what) (standing_of (H ++ e ∷ []) (search_in H e.what))
 may-move H e test legal longer =
@@ -318,8 +338,26 @@ change-totals H G e t u search before after c moved =
     (stood-as H G e t search before after c)
     (subst (λ (x : Totals). HasMoved x u before after) c.counted moved)))
 
+-- there is a row for them
+pub change-small : (H G : List Entry) (e : Entry) (t u : Totals) (search : Option ℕ) (before after : Option Standing) →
+    IsChange H G e t search before after → HasMoved t u before after → AreSmall u
+change-small H G e t u search before after c moved =
+    subst AreSmall (sym (change-totals H G e t u search before after c moved)) (small (H ++ e ∷ []) c.longer)
+
 pub change-standing : (H G : List Entry) (e : Entry) (t : Totals) (s : Standing) (search : Option ℕ)
     (before after : Option Standing) → IsChange H G e t search before after → s ≡ unwrap_or after Searching →
     s ≡ last_standing (H ++ e ∷ [])
 change-standing H G e t s search before after c kept =
     standing-kept H e after s c.legal c.longer (stands-as H G e t search before after c) kept
+
+-- the row that is kept of it
+pub change-row : (H G : List Entry) (e : Entry) (t u : Totals) (s : Standing) (search : Option ℕ)
+    (before after : Option Standing) → IsChange H G e t search before after → HasMoved t u before after →
+    s ≡ unwrap_or after Searching → row_with u s ≡ row_of (H ++ e ∷ [])
+change-row H G e t u s search before after c moved kept =
+    ap (λ (x : Totals). row_with x s) (change-totals H G e t u search before after c moved)
+    ∙ ap (row_with (totals (H ++ e ∷ []))) (change-standing H G e t s search before after c kept)
+
+-- What is counted of a history by the row of its last entry.
+pub row-totals : (H : List Entry) (r : Row) (n : ℕ) → r ≡ row_of H → n ≡ length H → totals_in n r ≡ totals H
+row-totals H r n is count = ap (totals_in n) is ∙ ap (λ (k : ℕ). totals_in k (row_of H)) count

@@ -1,11 +1,9 @@
--- How a farm is kept: its history, and beside each entry the totals and where the search of the entry stood then.
+-- How a farm is kept: its history, and beside each entry its row.
 use Rattle.farm_entry.specs.Legal.{IsLegal}
-use Rattle.farm_entry.specs.Pages.{totals}
 use Rattle.kept_farm.specs.Beside.{AreBeside}
-use Rattle.kept_farm.specs.Changes.{last_standing}
+use Rattle.kept_farm.specs.Rows.{row_of}
 use Rattle.kept_farm.specs.declared.farm.KeptFarm.TheInside.{Inside}
 
 pub record IsKeptFarm (s : Inside) : Type 0 where
   pub legal : IsLegal s.ledger
-  pub counted : AreBeside totals s.ledger s.counted.items
-  pub standings : AreBeside last_standing s.ledger s.standings.items
+  pub rows : AreBeside row_of s.ledger s.rows.items

@@ -2,3 +2,4 @@ pub mod Beside
 pub mod Changes
 pub mod KeptInside
 pub mod Replying
+pub mod Rows

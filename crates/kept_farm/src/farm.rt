@@ -16,6 +16,7 @@ ghost use Rattle.state_laws.specs.Seen.{seen};
 
 use crate::changes::{search_in, standing_of, with_entry, with_standings};
 use crate::replies::{reply_to_lease, reply_to_opening, reply_to_report};
+use crate::row::Row;
 use farm_books::Books;
 use farm_entry::{
     DueRun, Entry, LeasedRun, Opening, OrderPage, Reply, ReportedRun, Settings, Standing, Totals,
@@ -29,24 +30,23 @@ use search_state::SearchState;
 use std::alloc::Global;
 use std::marker::Model;
 
-/// What is counted of a farm that was just founded.
-const FOUNDED: Totals = Totals {
-    entries: 1,
+/// What is kept beside the founding.
+const FOUNDED: Row = Row {
+    counted: 0,
+    orders: 0,
     searches: 0,
     searching: 0,
     verifying: 0,
     confirmed: 0,
     ended: 0,
-    counted: 0,
-    orders: 0,
+    standing: Standing::Searching,
 };
 
 /// A farm as it is kept. Contracts see it as its history.
 #[derive(Drop)]
 pub struct KeptFarm {
     ledger: Ledger,
-    counted: Vec<Totals>,
-    standings: Vec<Standing>,
+    rows: Vec<Row>,
 }
 
 impl Model for KeptFarm {
@@ -71,14 +71,11 @@ impl KeptFarm {
     pub fn found(alloc: Global, settings: Settings, at: Moment) -> Result<KeptFarm, Memory>
         ensures { IfOk result (λ farm. farm ≡ record { at = at; what = What.Founded settings } ∷ []) }
     {
-        let mut counted = Vec::new(alloc);
-        counted.push(FOUNDED)?;
-        let mut standings = Vec::new(alloc);
-        standings.push(Standing::Searching)?;
+        let mut rows = Vec::new(alloc);
+        rows.push(FOUNDED)?;
         Ok(KeptFarm {
             ledger: Ledger::found(alloc, settings, at)?,
-            counted,
-            standings,
+            rows,
         })
     }
 
@@ -188,7 +185,7 @@ impl KeptFarm {
         requires within { count ≤ length self.now }
         ensures { result ≡ totals (take count self.now) }
     {
-        self.counted[count - 1]
+        self.rows[count - 1].totals(count)
     }
 
     /// All orders, as they are shown.
@@ -214,7 +211,7 @@ impl KeptFarm {
         if place >= history.len() {
             return Ok(None);
         }
-        self.reply_with(self.standings[place], &history[place].what)
+        self.reply_with(self.rows[place].standing, &history[place].what)
     }
 
     /// The reply to what an entry records, where the search that it is about stood so then.
@@ -278,18 +275,16 @@ impl KeptFarm {
         ensures pushed { OnOk result (self.new ≡ self.old ++ entry ∷ []) }
         ensures kept { OnErr result (self.new ≡ self.old) }
     {
-        let last = self.counted.len() - 1;
-        let counted = with_entry(self.counted[last], &entry.what);
+        let entries = self.rows.len();
+        let counted = with_entry(self.rows[entries - 1].totals(entries), &entry.what);
         let search = search_in(&self.ledger, &entry.what);
         let before = standing_of(&self.ledger, search);
-        self.counted.reserve(1)?;
-        self.standings.reserve(1)?;
+        self.rows.reserve(1)?;
         self.ledger.push(alloc, entry)?;
         let after = standing_of(&self.ledger, search);
-        self.counted
-            .push_reserved(with_standings(counted, before, after));
-        self.standings
-            .push_reserved(after.unwrap_or(Standing::Searching));
+        let totals = with_standings(counted, before, after);
+        let stands = after.unwrap_or(Standing::Searching);
+        self.rows.push_reserved(Row::of(totals, stands));
         Ok(())
     }
 
@@ -299,7 +294,6 @@ impl KeptFarm {
         ensures { self.new ≡ take (length self.old - 1) self.old }
     {
         self.ledger.pop();
-        let _counted = self.counted.pop();
-        let _standing = self.standings.pop();
+        let _row = self.rows.pop();
     }
 }

@@ -13,5 +13,6 @@
 mod changes;
 mod farm;
 mod replies;
+mod row;
 
 pub use farm::KeptFarm;

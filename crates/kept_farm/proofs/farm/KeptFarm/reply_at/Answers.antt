@@ -7,6 +7,8 @@ use Rattle.farm_entry.specs.declared.reply.Reply.{Reply}
 use Rattle.farm_entry.specs.declared.standing.Standing.{Standing}
 use Rattle.kept_farm.specs.Changes.{last_standing}
 use Rattle.kept_farm.specs.Replying.{reply_with}
+use Rattle.kept_farm.specs.Rows.{row_of}
+use Rattle.kept_farm.specs.declared.row.Row.{Row}
 use Rattle.kept_farm.proofs.Keeping.{beside-at}
 use Rattle.kept_farm.proofs.Replied.{opened-fits, replied}
 use Rattle.kept_farm.proofs.farm.KeptFarm.reply_at.Goals as goal
@@ -35,12 +37,13 @@ returns c =
     let there : slice_get H k ≡ Some e = subst (λ (X : List Entry). slice_get X k ≡ Some e) c.history-history.ensures.history read in
     let inside : k < length I =
     subst (λ (X : List Entry). k < length X) (c.history-history.ensures.history ∙ sym c.self.view_is) below in
-    let stood : c.index.result.now ≡ last_standing (take (k + 1) H) =
-    c.index.ensures
-    ∙ beside-at last_standing I c.self.inside.standings.items k c.index.result.now c.self.invariant.standings inside
+    let stood : c.index.result.now.standing ≡ last_standing (take (k + 1) H) =
+    ap (λ (r : Row). r.standing)
+    (c.index.ensures
+    ∙ beside-at row_of I c.self.inside.rows.items k c.index.result.now c.self.invariant.rows inside)
     ∙ ap (λ (X : List Entry). last_standing (take (k + 1) X)) c.self.view_is in
     subst (λ (r : Option Reply). IfOk c.reply_with.result (λ reply. reply ≡ r))
-    (ap (λ (x : Entry). reply_with H c.index.result.now x.what) (sym c.index-history-place.is)
+    (ap (λ (x : Entry). reply_with H c.index.result.now.standing x.what) (sym c.index-history-place.is)
     ∙ ap (λ (s : Standing). reply_with H s e.what) stood
     ∙ replied H k e c.history-history.ensures.legal there)
     c.reply_with.ensures
