@@ -1,5 +1,5 @@
 -- Up to which number no search waits for an order.
-use Rattle.std.proofs.Common.{◌≡◌, inl, inr, ⊎_elim, ℕ, zero, suc, ◌+◌, ◌-◌, ◌<◌, ◌≤◌, Bool, true, false, ◌||◌, if◌then◌else◌, List, [], ◌∷◌, ◌++◌, length, Contains, Option, Some, None, refl, sym, ap, subst, ◌∙◌, arith, length-append, true≢false}
+use Rattle.std.proofs.Common.{◌≡◌, inl, inr, ⊎_elim, ℕ, zero, suc, ◌+◌, ◌-◌, ◌<◌, ◌≤◌, ◌==◌, Bool, true, false, ◌||◌, if◌then◌else◌, List, [], ◌∷◌, ◌++◌, length, find, Contains, Option, Some, None, refl, sym, ap, subst, ◌∙◌, arith, append-nil, length-append, true≢false}
 use Rattle.std.specs.List.{cons_option, filter_map}
 use Rattle.std.specs.Option.{is_some, option_and_then, option_map}
 use Rattle.std.proofs.lemmas.Bool.{cases_eq}
@@ -11,7 +11,7 @@ use Rattle.farm_types.specs.declared.moment.Moment.{Moment}
 use Rattle.farm_rules.specs.Orders.{candidates, earliest, has_order}
 use Rattle.farm_rules.specs.Orders as rules
 use Rattle.farm_rules.specs.declared.orders.Candidate.{Candidate}
-use Rattle.farm_entry.specs.History.{cancelled_in, lease_of, opening_in, opening_numbered, openings, report_in}
+use Rattle.farm_entry.specs.History.{cancelled_in, lease_in, lease_of, opening_in, opening_numbered, openings, report_in}
 use Rattle.farm_entry.specs.Legal.{IsLegal}
 use Rattle.farm_entry.specs.Orders.{confirmed_at, confirmed_searches, orders}
 use Rattle.farm_entry.specs.Setup.{commit_of}
@@ -34,7 +34,7 @@ use Rattle.search_laws.proofs.OneMore.{standing-same}
 use Rattle.search_state.specs.SearchView.{SearchView, standing_in}
 use Rattle.state_laws.specs.Seen.{seen}
 use Rattle.state_laws.proofs.Changes.{cancelled-seen}
-use Rattle.farm_ledger.specs.Waiting.{IsServed, low_after, low_at, low_leased, unordered, waiting, waiting_numbered}
+use Rattle.farm_ledger.specs.Waiting.{IsLowest, IsServed, low_after, low_at, low_leased, unordered, waiting, waiting_numbered}
 use Rattle.farm_ledger.proofs.Bookings.{orders-grow}
 use Rattle.farm_ledger.proofs.Counts.{IsUnopened, opened-number}
 use Rattle.farm_ledger.proofs.Earliest.{candidates-each, first-earliest, none-earliest}
@@ -283,4 +283,57 @@ pushed-served H e low legal longer step s =
           (λ (some : number ≡ 0 → ⊥).
           pushed-number H e low number legal longer step s (omega (arith, some)) small)
           (cases_eq number 0);
+    }
+
+-- A lease more.
+
+-- a lease changes no search that waits
+leased-waiting : (H : List Entry) (m : Moment) (w : What) (o : Opening) → IsLegal H → Stepped H m w →
+    is_some (lease_in w) ≡ true → waiting (H ++ record { at = m; what = w } ∷ []) o ≡ waiting H o
+leased-waiting H m (Leased k w n q t p d) o legal step is =
+    let e : Entry = record { at = m; what = Leased k w n q t p d } in
+    ap (λ (s : Standing). unordered (orders (H ++ e ∷ [])) (confirmed_at s o)) (standing-same H e o legal step (λ h. h))
+    ∙ ap (λ (os : List rules.Ordered). unordered os (confirmed_at (standing H o) o))
+    (orders-grow H e ∙ append-nil (orders H))
+leased-waiting H m (Founded x) o legal step is = absurd (true≢false (sym is))
+leased-waiting H m (Opened x) o legal step is = absurd (true≢false (sym is))
+leased-waiting H m (Reported run v f) o legal step is = absurd (true≢false (sym is))
+leased-waiting H m (Cancelled k q) o legal step is = absurd (true≢false (sym is))
+leased-waiting H m (Ordered k a n c q d) o legal step is = absurd (true≢false (sym is))
+
+-- and opens none
+leased-openings : (H : List Entry) (m : Moment) (w : What) → is_some (lease_in w) ≡ true →
+    openings (H ++ record { at = m; what = w } ∷ []) ≡ openings H
+leased-openings H m (Leased k w n q t p d) is =
+    openings-grow H (record { at = m; what = Leased k w n q t p d }) ∙ append-nil (openings H)
+leased-openings H m (Founded x) is = absurd (true≢false (sym is))
+leased-openings H m (Opened x) is = absurd (true≢false (sym is))
+leased-openings H m (Reported run v f) is = absurd (true≢false (sym is))
+leased-openings H m (Cancelled k q) is = absurd (true≢false (sym is))
+leased-openings H m (Ordered k a n c q d) is = absurd (true≢false (sym is))
+
+-- so that as many searches stand before the first one that waits
+pub leased-lowest : (H : List Entry) (e : Entry) (low : ℕ) → IsLegal H → Stepped H e.at e.what →
+    is_some (lease_in e.what) ≡ true → IsLowest H low → IsLowest (H ++ e ∷ []) low
+leased-lowest H e low legal step is lowest =
+    let G : List Entry = H ++ e ∷ [] in
+    let same : waiting G ≡ waiting H = λ i o. leased-waiting H e.at e.what o legal step is i in
+    let opened : openings G ≡ openings H = leased-openings H e.at e.what is in
+    let numbered : (number : ℕ) → waiting_numbered G number ≡ waiting_numbered H number =
+    λ number.
+    ap (λ (os : List Opening). option_and_then (waiting G) (find (λ (o : Opening). o.search == number) os)) opened
+    ∙ ap (λ (f : Opening → Option Candidate). option_and_then f (opening_numbered H number)) same in
+    record {
+      served = record {
+        within = omega (arith, lowest.served.within, ap length opened);
+        none = λ number small. numbered number ∙ lowest.served.none number small;
+      };
+      first =
+          numbered (low + 1)
+          ∙ lowest.first
+          ∙ earliest-waiting H
+          ∙ sym
+          (earliest-waiting G
+          ∙ ap (λ (os : List Opening). earliest (filter_map (waiting G) os)) opened
+          ∙ ap (λ (f : Opening → Option Candidate). earliest (filter_map f (openings H))) same);
     }

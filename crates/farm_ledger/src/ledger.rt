@@ -1,6 +1,6 @@
 //! The ledger.
 
-ghost use Rattle.std.specs.Prelude.{◌≡◌, ◌<◌, ◌+◌, ◌-◌, ◌++◌, ◌∷◌, [], length, take, Contains, IfSome, IfOk, OnOk, OnErr};
+ghost use Rattle.std.specs.Prelude.{◌≡◌, ◌<◌, ◌+◌, ◌-◌, ◌++◌, ◌∷◌, [], true, length, take, Contains, IfSome, IfOk, OnOk, OnErr};
 ghost use Rattle.std.specs.Option.{option_copied};
 ghost use Rattle.farm_types.specs.Moment.{moment_ms};
 ghost use Rattle.farm_entry.specs.History.{leases, opening_numbered, openings};
@@ -98,12 +98,13 @@ impl Ledger {
         ensures pushed { OnOk result (self.new ≡ self.old ++ entry ∷ []) }
         ensures kept { OnErr result (self.new ≡ self.old) }
     {
+        let is_lease = entry.what.lease().is_some();
         let report = entry.what.report();
         let before = self.lows[self.lows.len() - 1];
         self.lows.reserve(1)?;
         self.register.push(alloc, entry)?;
-        let low = low_after(&self.register, before, report);
-        self.lows.push_reserved(passed(&self.register, low));
+        let low = low_with(&self.register, before, is_lease, report);
+        self.lows.push_reserved(low);
         Ok(())
     }
 
@@ -115,6 +116,21 @@ impl Ledger {
         self.register.pop();
         let _low = self.lows.pop();
     }
+}
+
+/// How many searches stand before the first one that waits for an order once an entry is in, by how many did before it:
+/// as many, where the entry is a lease, since that changes no search that waits.
+fn low_with(register: &Register, before: u32, is_lease: bool, report: Option<ReportedRun>) -> u32
+    requires legal { IsLegal register.now }
+    requires served { IsServed register.now (low_after register.now before report) }
+    requires same { is_lease ≡ true → IsLowest register.now before }
+    ensures { IsLowest register.now result }
+{
+    if is_lease {
+        return before;
+    }
+    let low = low_after(register, before, report);
+    passed(register, low)
 }
 
 /// How many searches stand before the first one that waits for an order, where so many are known not to wait.
