@@ -33,7 +33,7 @@ pub record IsSearching (s : SearchView) : Type 0 where
   pub within : s.is_over ≡ false
   pub none : bar_of s ≡ None
 
-outcome-not_searching : (c : ℕ) (x : Outcome) → is_searching (standing_of_outcome c x) ≡ false
+pub outcome-not_searching : (c : ℕ) (x : Outcome) → is_searching (standing_of_outcome c x) ≡ false
 outcome-not_searching c verifying = refl
 outcome-not_searching c confirmed = refl
 outcome-not_searching c vindicating = refl
@@ -56,6 +56,10 @@ pub searching-parts : (s : SearchView) → standing_in s ≡ Searching → IsSea
 searching-parts s h =
     let parts = parts-searching s.opening s.is_cancelled s.is_over s.reruns (bar_of s) h in
     record { uncancelled = parts.0; within = parts.1; none = parts.2 }
+
+-- no hypothesis is at the bar of one that goes by its belief
+pub searching-none : (o : Opening) (again : List Run) (n : Option ℕ) → standing_of_reached o again n ≡ Searching → n ≡ None
+searching-none o again n h = (parts-searching o false false again n h).2
 
 -- What verifies a suspect.
 

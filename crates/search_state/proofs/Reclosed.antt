@@ -7,20 +7,24 @@ use Rattle.weight_exact.specs.Load.{load}
 use Rattle.weight_exact.specs.Share.{reached}
 use Rattle.weight_exact.specs.Weights.{Setup}
 use Rattle.weight_exact.specs.declared.run.Run.{Run}
+use Rattle.posterior.specs.Kept.{Kept}
 use Rattle.posterior.specs.StandsFor.{StandsFor}
 use Rattle.posterior.specs.declared.belief.Noted.{Noted}
 use Rattle.posterior.specs.declared.belief.Noted.TheVariants.{Counted, Over}
+use Rattle.threshold_pick.specs.CanPick.{CanPick}
+use Rattle.threshold_pick.specs.Picks.{IsPick}
 use Rattle.farm_entry.specs.Setup.{budget_of_search, setup_of}
 use Rattle.farm_entry.specs.Standing.{standing_of_reached}
 use Rattle.farm_entry.specs.declared.opening.Opening.{Opening}
 use Rattle.farm_entry.specs.declared.standing.Standing.{Standing}
 use Rattle.farm_entry.specs.declared.standing.Standing.TheVariants.{Searching, Verifying}
+use Rattle.farm_laws.specs.Openings.{OpenWithin}
 use Rattle.search_state.specs.SearchView.{SearchView, adds_load, bar_of, passes_budget, standing_in}
 use Rattle.search_state.specs.SearchInside.{IsSearch, IsSetUp, IsVerificationOf, search_view}
 use Rattle.search_state.specs.declared.state.SearchState.TheInside.{Inside}
-use Rattle.search_state.proofs.Flags.{IsSearching, believed-standing, searching-parts, verified-first}
+use Rattle.search_state.proofs.Flags.{IsSearching, believed-standing, searching-none, searching-parts, verified-first}
 use Rattle.search_state.proofs.Loads.{passes-told}
-use Rattle.search_state.proofs.Picks.{IsUndecided}
+use Rattle.search_state.proofs.Picks.{IsUndecided, undecided-can_pick}
 
 -- a list that is told one more, read from its oldest on
 pub reverse-cons : {X : Type 0} (x : X) (xs : List X) → reverse (x ∷ xs) ≡ reverse xs ++ x ∷ []
@@ -61,6 +65,15 @@ pub first-named : (o : Opening) (runs : List Run) (st : Standing) →
     st ≡ standing_of_reached o [] (reached (setup_of o) runs) → (c : ℕ) → st ≡ Verifying c → 1 ≤ c
 first-named o runs st stands c names = verified-first o [] runs c (sym stands ∙ names)
 
+-- and where it is searching, positions can be picked by its belief
+pub first-can_pick : (o : Opening) (runs : List Run) (k : Kept) (st : Standing) → OpenWithin o → k.setup ≡ setup_of o →
+    StandsFor k runs → st ≡ standing_of_reached o [] (reached (setup_of o) runs) → st ≡ Searching →
+    CanPick k.floor k.sums
+first-can_pick o runs k st within setup believed stands searching =
+    let none : reached (setup_of o) runs ≡ None =
+    searching-none o [] (reached (setup_of o) runs) (sym stands ∙ searching) in
+    undecided-can_pick o runs k (record { within = within; setup = setup; stands = believed; none = none })
+
 -- its parts, by its opening
 pub record IsBegun (o : Opening) (s : Inside) : Type 0 where
   pub set_up : IsSetUp o s.search s.width s.asked s.suspects s.may_miss
@@ -72,6 +85,7 @@ pub record IsBegun (o : Opening) (s : Inside) : Type 0 where
   pub uncancelled : s.is_cancelled ≡ false
   pub within : s.is_over ≡ false
   pub stands : s.standing ≡ standing_of_reached o [] (reached (setup_of o) (reverse s.runs))
+  pub planned : s.standing ≡ Searching → IsPick s.belief.sums s.belief.floor 1 s.width s.first
   pub verified : (culprit : ℕ) → s.standing ≡ Verifying culprit → IsVerificationOf s.verification culprit s.asked []
 
 begun-here : (s : Inside) → IsBegun s.opening.value s → IsSearch s
@@ -89,6 +103,7 @@ begun-here s b =
           ∙ ap (λ (xs : List Run). standing_of_reached o xs (reached (setup_of o) (reverse s.runs))) (sym none)
           ∙ sym (believed-standing (search_view s) (bar_of (search_view s)) b.uncancelled b.within refl);
       none_yet = λ _. b.no_reruns;
+      planned = b.planned;
       verified = λ c names. subst (IsVerificationOf s.verification c s.asked) (sym none) (b.verified c names);
     }
 

@@ -1,5 +1,5 @@
 -- What is kept of a search that verifies a suspect, and of the same search with one rerun more.
-use Rattle.std.proofs.Common.{◌≡◌, ℕ, suc, ◌+◌, ◌-◌, ◌≤◌, nat_lt, Bool, true, ◌&&◌, if◌then◌else◌, List, [], ◌∷◌, ◌++◌, length, reverse, Some, sym, ap, subst, ◌∙◌, arith}
+use Rattle.std.proofs.Common.{◌≡◌, ℕ, suc, ◌+◌, ◌-◌, ◌≤◌, nat_lt, Bool, true, true≢false, ◌&&◌, if◌then◌else◌, List, [], ◌∷◌, ◌++◌, length, reverse, Some, sym, ap, subst, ◌∙◌, arith}
 use Rattle.std.proofs.lemmas.Option.{none-some}
 use Rattle.weight_exact.specs.declared.run.Run.{Run}
 use Rattle.weight_exact.proofs.Shares.{IsReached-from_some}
@@ -10,13 +10,13 @@ use Rattle.verify_flow.specs.Verification.{Verification}
 use Rattle.verify_flow.specs.declared.outcome.Outcome.{Outcome as Answered}
 use Rattle.verify_flow.specs.declared.outcome.Outcome.TheVariants.{Late}
 use Rattle.farm_entry.specs.Setup.{setup_of}
-use Rattle.farm_entry.specs.Standing.{standing_of_outcome}
+use Rattle.farm_entry.specs.Standing.{is_searching, standing_of_outcome}
 use Rattle.farm_entry.specs.declared.standing.Standing.{Standing}
 use Rattle.farm_entry.specs.declared.standing.Standing.TheVariants.{Verifying}
 use Rattle.search_state.specs.SearchView.{SearchView, standing_in}
 use Rattle.search_state.specs.SearchInside.{IsSearch, IsVerificationOf, search_view}
 use Rattle.search_state.specs.declared.state.SearchState.TheInside.{Inside}
-use Rattle.search_state.proofs.Flags.{IsVerifying, believed-standing, named-standing, outcome-verifying, verifying-parts}
+use Rattle.search_state.proofs.Flags.{IsVerifying, believed-standing, named-standing, outcome-not_searching, outcome-verifying, verifying-parts}
 use Rattle.search_state.proofs.Reclosed.{reverse-told}
 
 -- the parts of what is kept of a search that verifies a suspect
@@ -87,14 +87,15 @@ stands-after s c r w h v one stands =
 abbrev pub with_rerun : Inside → Verification → Standing → List Run → Inside
 with_rerun s w st reruns = record {
   opening = s.opening;
+  belief = s.belief;
   search = s.search;
   width = s.width;
   asked = s.asked;
   suspects = s.suspects;
   may_miss = s.may_miss;
-  belief = s.belief;
-  verification = w;
   standing = st;
+  first = s.first;
+  verification = w;
   is_over = s.is_over;
   is_cancelled = s.is_cancelled;
   runs = s.runs;
@@ -125,6 +126,8 @@ rerun-search s c r w st reruns h p told culprit asked stands standing =
           ∙ sym (named-standing o (reverse reruns) c p.suspect)
           ∙ sym (believed-standing (search_view (with_rerun s w st reruns)) (Some c) p.uncancelled p.within p.bar);
       none_yet = λ none. absurd (none-some c (sym none ∙ p.bar));
+      planned = λ searching. absurd (true≢false (ap is_searching (sym searching ∙ standing)
+          ∙ outcome-not_searching c (outcome c o.reruns again)));
       verified = λ k names.
           let same : c ≡ k = (outcome-verifying c k (outcome c o.reruns again) (sym standing ∙ names)).0 in
           record {

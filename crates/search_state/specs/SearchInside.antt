@@ -4,11 +4,12 @@ use Rattle.weight_exact.specs.Load.{may_miss}
 use Rattle.weight_exact.specs.Weights.{hypotheses}
 use Rattle.weight_exact.specs.declared.run.Run.{Run}
 use Rattle.posterior.specs.StandsFor.{StandsFor}
+use Rattle.threshold_pick.specs.Picks.{IsPick}
 use Rattle.verify_flow.specs.StandsFor.{StandsFor as StandsForReruns}
 use Rattle.verify_flow.specs.Verification.{Verification}
 use Rattle.farm_entry.specs.Setup.{setup_of}
 use Rattle.farm_entry.specs.declared.opening.Opening.{Opening}
-use Rattle.farm_entry.specs.declared.standing.Standing.TheVariants.{Verifying}
+use Rattle.farm_entry.specs.declared.standing.Standing.TheVariants.{Searching, Verifying}
 use Rattle.farm_laws.specs.Openings.{OpenWithin}
 use Rattle.search_state.specs.SearchView.{SearchView, bar_of, standing_in}
 use Rattle.search_state.specs.declared.state.SearchState.TheInside.{Inside}
@@ -47,5 +48,6 @@ pub record IsSearch (s : Inside) : Type 0 where
   pub verified_is : s.verified ≡ length s.reruns
   pub standing_is : s.standing ≡ standing_in (search_view s)
   pub none_yet : bar_of (search_view s) ≡ None → s.reruns ≡ []
+  pub planned : s.standing ≡ Searching → IsPick s.belief.sums s.belief.floor 1 s.width s.first
   pub verified : (culprit : ℕ) → s.standing ≡ Verifying culprit
       → IsVerificationOf s.verification culprit s.asked (reverse s.reruns)

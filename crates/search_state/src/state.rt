@@ -5,7 +5,10 @@ ghost use Rattle.std.specs.Option.{option_map};
 ghost use Rattle.flake_rate.specs.Miss.{FitsRate};
 ghost use Rattle.weight_exact.specs.Plan.{pick};
 ghost use Rattle.weight_exact.specs.Weights.{hypotheses};
+ghost use Rattle.weight_exact.specs.declared.limits.TheConstants.{MAX_WIDTH};
 ghost use Rattle.posterior.specs.StandsFor.{StandsFor};
+ghost use Rattle.threshold_pick.specs.CanPick.{CanPick};
+ghost use Rattle.threshold_pick.specs.Picks.{IsPick};
 ghost use Rattle.farm_entry.specs.Setup.{budget_of_search, setup_of};
 ghost use Rattle.farm_entry.specs.declared.limits.TheConstants.{MAX_ENTRIES};
 ghost use Rattle.farm_entry.specs.declared.standing.Standing.TheVariants.{Searching, Verifying};
@@ -29,14 +32,16 @@ use weight_exact::{Factors, MAX_WIDTH, Run};
 #[derive(Drop)]
 pub struct SearchState {
     opening: Snapshot<Opening>,
+    belief: Belief,
     search: u32,
     width: u8,
     asked: u8,
     suspects: u16,
     may_miss: bool,
-    belief: Belief,
-    verification: Verify,
     standing: Standing,
+    /// The first position of the plan, while the search is searching.
+    first: u16,
+    verification: Verify,
     is_over: bool,
     is_cancelled: bool,
     runs: ToldList<Run>,
@@ -72,16 +77,18 @@ impl SearchState {
         let belief = first_belief(alloc, opening)?;
         let suspects = opening.range.len() as u16;
         let standing = first_standing(belief.reached(), suspects);
+        let first = first_pick(standing, &belief, opening.width);
         Ok(SearchState {
             opening: Snapshot::of(opening),
+            belief,
             search: opening.search,
             width: opening.width,
             asked: opening.reruns,
             suspects,
             may_miss: 0 < Factors::of(opening.rate, opening.miss).pass_in,
-            belief,
-            verification: first_verification(standing, opening.reruns),
             standing,
+            first,
+            verification: first_verification(standing, opening.reruns),
             is_over: false,
             is_cancelled: false,
             runs: ToldList::new(),
@@ -184,13 +191,17 @@ impl SearchState {
         due_verify(culprit, at_culprit, at_parent, outstanding, self.asked)
     }
 
-    /// The j-th position of the plan of a search that is searching.
+    /// The j-th position of the plan of a search that is searching. The first is kept since the last run that counted,
+    /// which had the sums in hand: mostly it is the one that is asked for.
     fn pick(&self, j: u8) -> u16
         requires searching { standing_in self.now ≡ Searching }
         requires first { 1 ≤ j }
         requires last { j ≤ self.now.opening.width }
         ensures { result ≡ pick (setup_of self.now.opening) self.now.runs self.now.opening.width j }
     {
+        if j == 1 {
+            return self.first;
+        }
         pick_uncounted(self.belief.sums(), self.belief.floor(), j, self.width)
     }
 
@@ -279,6 +290,7 @@ impl SearchState {
         self.runs.tell(&run);
         self.counted += 1;
         self.standing = first_standing(self.belief.reached(), self.suspects);
+        self.first = first_pick(self.standing, &self.belief, self.width);
         self.verification = first_verification(self.standing, self.asked);
     }
 
@@ -328,6 +340,7 @@ impl SearchState {
         self.is_over = false;
         self.is_cancelled = false;
         self.standing = first_standing(self.belief.reached(), self.suspects);
+        self.first = first_pick(self.standing, &self.belief, self.width);
         self.verification = first_verification(self.standing, self.asked);
     }
 }
@@ -342,6 +355,19 @@ fn due_at(search: u32, stage: Stage, position: Option<u16>) -> Option<DueRun>
         stage,
         position,
     })
+}
+
+/// The first position of the plan of a search that is searching. In any other standing nobody reads it.
+fn first_pick(standing: Standing, belief: &Belief, width: u8) -> u16
+    requires sums { standing ≡ Searching → CanPick belief.now.floor belief.now.sums }
+    requires some { 1 ≤ width }
+    requires narrow { width ≤ MAX_WIDTH }
+    ensures { standing ≡ Searching → IsPick belief.now.sums belief.now.floor 1 width result }
+{
+    match standing {
+        Standing::Searching => pick_uncounted(belief.sums(), belief.floor(), 1, width),
+        _ => 0,
+    }
 }
 
 /// What a search believes before any run.

@@ -7,7 +7,7 @@ use Rattle.posterior.specs.StandsFor.{StandsFor}
 use Rattle.farm_entry.specs.Setup.{setup_of}
 use Rattle.farm_entry.specs.Standing.{standing_of_reached}
 use Rattle.belief_laws.proofs.Beliefs.{hypotheses-of}
-use Rattle.search_state.proofs.Reclosed.{begun-search, first-named, first-of}
+use Rattle.search_state.proofs.Reclosed.{begun-search, first-can_pick, first-named, first-of}
 use Rattle.search_state.proofs.state.SearchState.start.Goals as goal
 
 pub first_verification-requires : goal.first_verification-requires
@@ -15,6 +15,16 @@ first_verification-requires c =
     let o = c.args.opening.now in
     let many : c.len-suspects.result + 1 ≡ hypotheses (setup_of o) = omega (arith, c.len-suspects.ensures.len, hypotheses-of o) in
     first-named o [] c.first_standing-standing.result
+    (first-of o c.in_ok-belief.belief.setup [] c.reached.result c.first_standing-standing.result
+    c.in_ok-belief.ensures.setup (c.reached.ensures [] c.in_ok-belief.ensures.none)
+    (c.first_standing-standing.ensures o many c.requires.reruns.0))
+
+pub first_pick-first-requires-clause-sums : goal.first_pick-first-requires-clause-sums
+first_pick-first-requires-clause-sums c =
+    let o = c.args.opening.now in
+    let many : c.len-suspects.result + 1 ≡ hypotheses (setup_of o) = omega (arith, c.len-suspects.ensures.len, hypotheses-of o) in
+    first-can_pick o [] c.in_ok-belief.belief c.first_standing-standing.result c.requires c.in_ok-belief.ensures.setup
+    c.in_ok-belief.ensures.none
     (first-of o c.in_ok-belief.belief.setup [] c.reached.result c.first_standing-standing.result
     c.in_ok-belief.ensures.setup (c.reached.ensures [] c.in_ok-belief.ensures.none)
     (c.first_standing-standing.ensures o many c.requires.reruns.0))
@@ -45,5 +55,6 @@ invariant_of-result c =
       uncancelled = refl;
       within = refl;
       stands = stands ∙ ap (λ (xs : List Run). standing_of_reached o [] (reached (setup_of o) xs)) (sym none);
+      planned = c.first_pick-first.ensures;
       verified = c.first_verification.ensures;
     })
