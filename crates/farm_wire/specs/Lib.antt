@@ -8,3 +8,4 @@ pub mod Pieces
 pub mod Reading
 pub mod Refusals
 pub mod Replies
+pub mod Bodies

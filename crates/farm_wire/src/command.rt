@@ -2,6 +2,7 @@
 
 ghost use Rattle.std.specs.Prelude.{◌≡◌, ◌≢◌, Err, IfErr, IfOk, Ok};
 ghost use Rattle.json_tape.specs.Views.{document_data};
+ghost use Rattle.farm_wire.specs.Bodies.{IsByBody};
 ghost use Rattle.farm_wire.specs.Reading.{body_reading, object_of};
 ghost use Rattle.farm_wire.specs.Reading.{cancel_in, cancel_line_in, command_in, lease_in, open_in, report_in, report_line_in};
 ghost use Rattle.farm_wire.specs.Reading.{revert_in, search_in};
@@ -26,14 +27,31 @@ pub fn command_of(alloc: Global, route: &Route, body: &[u8]) -> Result<Command, 
     ensures refused { IfErr result (λ fault. fault ≢ WireFault.Memory → body_reading route.now body.now ≡ Err fault) }
 {
     match route {
+        Route::Search(search) => Ok(Command::ShowSearch { search: *search }),
+        Route::Farm => Ok(Command::ShowFarm),
+        Route::Orders => Ok(Command::ShowOrders),
+        _ => asked_by(alloc, route, body),
+    }
+}
+
+/// The same where the body says what is asked for. It stands apart, so that a route that shows something needs no room
+/// to read a body.
+#[inline(never)]
+#[tactic(auto, unfolding(crate::specs::Reading::body_reading))]
+fn asked_by(alloc: Global, route: &Route, body: &[u8]) -> Result<Command, WireFault>
+    requires { IsByBody route.now }
+    ensures read { IfOk result (λ command. body_reading route.now body.now ≡ Ok command) }
+    ensures refused { IfErr result (λ fault. fault ≢ WireFault.Memory → body_reading route.now body.now ≡ Err fault) }
+{
+    match route {
         Route::Open => open_of(alloc, body),
         Route::Lease => lease_of(alloc, body),
         Route::Report(run) => report_of(alloc, *run, body),
         Route::Cancel(search) => cancel_of(alloc, *search, body),
         Route::Revert => revert_of(alloc, body),
-        Route::Search(search) => Ok(Command::ShowSearch { search: *search }),
-        Route::Farm => Ok(Command::ShowFarm),
-        Route::Orders => Ok(Command::ShowOrders),
+        Route::Search(_) => unreachable!(),
+        Route::Farm => unreachable!(),
+        Route::Orders => unreachable!(),
     }
 }
 

@@ -42,4 +42,4 @@ pub use http_words::Route;
 pub use limits::MAX_COMMAND_BYTES;
 pub use line_reader::{LineReader, line_of};
 pub use refusal::{fault_text, refusal_text};
-pub use reply::{log_text, reply_text, totals_text};
+pub use reply::{log_text, reply_text, reply_text_in, totals_text};

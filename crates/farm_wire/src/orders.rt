@@ -12,12 +12,12 @@ use farm_entry::{OrderLine, OrderPage, Reply};
 use farm_types::Memory;
 use std::alloc::Global;
 
-/// All orders, as a text.
-pub(crate) fn orders_text(alloc: Global, page: &OrderPage) -> Result<String, Memory>
+/// All orders, as a text in this room.
+pub(crate) fn orders_text(alloc: Global, room: String, page: &OrderPage) -> Result<String, Memory>
     requires { All (λ line. line.day ≤ LAST_DAY) page.now }
     ensures { IfOk result (λ text. string_bytes text ≡ compact_text (reply_data (Reply.Orders page.now))) }
 {
-    let mut out = JsonText::new(alloc)?;
+    let mut out = JsonText::within(alloc, room)?;
     put_orders(alloc, &mut out, page.as_slice())?;
     Ok(out.into_text())
 }

@@ -14,10 +14,10 @@ use farm_types::Memory;
 use std::alloc::Global;
 
 /// What is shown of a search, as a text.
-pub(crate) fn page_text(alloc: Global, page: &SearchPage) -> Result<String, Memory>
+pub(crate) fn page_text(alloc: Global, room: String, page: &SearchPage) -> Result<String, Memory>
     ensures { IfOk result (λ text. string_bytes text ≡ compact_text (page_data page.now)) }
 {
-    let mut out = JsonText::new(alloc)?;
+    let mut out = JsonText::within(alloc, room)?;
     out.put_number("{\"budget\":", page.budget as u64)?;
     out.put_commit_if(",\"commit\":", &page.commit)?;
     out.put_number(",\"counted\":", page.counted as u64)?;
@@ -34,10 +34,15 @@ pub(crate) fn page_text(alloc: Global, page: &SearchPage) -> Result<String, Memo
 }
 
 /// The totals of a farm, as a text of a kind of reply.
-pub(crate) fn totals_reply(alloc: Global, kind: &str, totals: &Totals) -> Result<String, Memory>
+pub(crate) fn totals_reply(
+    alloc: Global,
+    room: String,
+    kind: &str,
+    totals: &Totals,
+) -> Result<String, Memory>
     ensures { IfOk result (λ text. string_bytes text ≡ compact_text (totals_data kind.now totals.now)) }
 {
-    let mut out = JsonText::new(alloc)?;
+    let mut out = JsonText::within(alloc, room)?;
     out.put_number("{\"confirmed\":", totals.confirmed)?;
     out.put_number(",\"counted\":", totals.counted)?;
     out.put_number(",\"ended\":", totals.ended)?;

@@ -22,12 +22,20 @@ pub fn reply_text(alloc: Global, reply: &Reply) -> Result<String, Memory>
     requires { HasDates reply.now }
     ensures { IfOk result (λ text. string_bytes text ≡ compact_text (reply_data reply.now)) }
 {
+    reply_text_in(alloc, String::new(alloc), reply)
+}
+
+/// The same, written in this room, whose bytes go.
+pub fn reply_text_in(alloc: Global, room: String, reply: &Reply) -> Result<String, Memory>
+    requires { HasDates reply.now }
+    ensures { IfOk result (λ text. string_bytes text ≡ compact_text (reply_data reply.now)) }
+{
     match reply {
         Reply::Opened {
             search,
             budget,
             standing,
-        } => opened(alloc, *search, *budget, *standing),
+        } => opened(alloc, room, *search, *budget, *standing),
         Reply::Leased {
             run,
             search,
@@ -42,7 +50,7 @@ pub fn reply_text(alloc: Global, reply: &Reply) -> Result<String, Memory>
                 stage: *stage,
                 position: *position,
             };
-            leased(alloc, *run, due, commit, test, *deadline)
+            leased(alloc, room, *run, due, commit, test, *deadline)
         }
         Reply::Reported {
             run,
@@ -50,17 +58,17 @@ pub fn reply_text(alloc: Global, reply: &Reply) -> Result<String, Memory>
             verdict,
             fate,
             standing,
-        } => reported(alloc, *run, *search, *verdict, *fate, *standing),
-        Reply::Cancelled { search } => cancelled(alloc, *search),
+        } => reported(alloc, room, *run, *search, *verdict, *fate, *standing),
+        Reply::Cancelled { search } => cancelled(alloc, room, *search),
         Reply::Ordered {
             order,
             commit,
             search,
             day,
-        } => ordered(alloc, *order, commit, *search, *day),
-        Reply::Search(page) => page_text(alloc, page),
-        Reply::Farm(totals) => totals_reply(alloc, "farm", totals),
-        Reply::Orders(page) => orders_text(alloc, page),
+        } => ordered(alloc, room, *order, commit, *search, *day),
+        Reply::Search(page) => page_text(alloc, room, page),
+        Reply::Farm(totals) => totals_reply(alloc, room, "farm", totals),
+        Reply::Orders(page) => orders_text(alloc, room, page),
     }
 }
 
@@ -68,7 +76,7 @@ pub fn reply_text(alloc: Global, reply: &Reply) -> Result<String, Memory>
 pub fn totals_text(alloc: Global, totals: &Totals) -> Result<String, Memory>
     ensures { IfOk result (λ text. string_bytes text ≡ compact_text (totals_data (codes "totals") totals.now)) }
 {
-    totals_reply(alloc, "totals", totals)
+    totals_reply(alloc, String::new(alloc), "totals", totals)
 }
 
 /// The text of a log page: the bytes of the history's entries from this one on, counted from 1, in hexadecimal digits.
@@ -79,11 +87,17 @@ pub fn log_text(alloc: Global, from: u32, bytes: &[u8]) -> Result<String, Memory
 }
 
 /// The text of a search that was opened.
-fn opened(alloc: Global, search: u32, budget: u32, standing: Standing) -> Result<String, Memory>
+fn opened(
+    alloc: Global,
+    room: String,
+    search: u32,
+    budget: u32,
+    standing: Standing,
+) -> Result<String, Memory>
     ensures { IfOk result (λ text. string_bytes text
         ≡ compact_text (reply_data (Reply.Opened search budget standing))) }
 {
-    let mut out = JsonText::new(alloc)?;
+    let mut out = JsonText::within(alloc, room)?;
     out.put_number("{\"budget\":", budget as u64)?;
     out.put_culprit(",\"culprit\":", standing)?;
     out.put_number(",\"reply\":\"open\",\"search\":", search as u64)?;
@@ -95,6 +109,7 @@ fn opened(alloc: Global, search: u32, budget: u32, standing: Standing) -> Result
 /// The text of a run that was leased.
 fn leased(
     alloc: Global,
+    room: String,
     run: u32,
     due: DueRun,
     commit: &CommitId,
@@ -104,7 +119,7 @@ fn leased(
     ensures { IfOk result (λ text. string_bytes text
         ≡ compact_text (reply_data (Reply.Leased run due.search due.stage due.position commit.now test.now deadline))) }
 {
-    let mut out = JsonText::new(alloc)?;
+    let mut out = JsonText::within(alloc, room)?;
     out.put_commit("{\"commit\":", commit)?;
     out.put_number(",\"deadline\":", deadline)?;
     out.put_number(",\"position\":", due.position as u64)?;
@@ -119,6 +134,7 @@ fn leased(
 /// The text of a run that was reported.
 fn reported(
     alloc: Global,
+    room: String,
     run: u32,
     search: u32,
     verdict: Verdict,
@@ -128,7 +144,7 @@ fn reported(
     ensures { IfOk result (λ text. string_bytes text
         ≡ compact_text (reply_data (Reply.Reported run search verdict fate standing))) }
 {
-    let mut out = JsonText::new(alloc)?;
+    let mut out = JsonText::within(alloc, room)?;
     out.put_culprit("{\"culprit\":", standing)?;
     out.put_text(fate_name(standing), fate_word(fate))?;
     out.put_number(",\"reply\":\"report\",\"run\":", run as u64)?;
@@ -150,10 +166,10 @@ fn fate_name(standing: Standing) -> &'static str
 }
 
 /// The text of a search that was cancelled.
-fn cancelled(alloc: Global, search: u32) -> Result<String, Memory>
+fn cancelled(alloc: Global, room: String, search: u32) -> Result<String, Memory>
     ensures { IfOk result (λ text. string_bytes text ≡ compact_text (reply_data (Reply.Cancelled search))) }
 {
-    let mut out = JsonText::new(alloc)?;
+    let mut out = JsonText::within(alloc, room)?;
     out.put_number("{\"reply\":\"cancel\",\"search\":", search as u64)?;
     out.put(",\"standing\":\"cancelled\"}")?;
     Ok(out.into_text())
@@ -162,6 +178,7 @@ fn cancelled(alloc: Global, search: u32) -> Result<String, Memory>
 /// The text of an order to revert a commit.
 fn ordered(
     alloc: Global,
+    room: String,
     order: u32,
     commit: &CommitId,
     search: u32,
@@ -172,7 +189,7 @@ fn ordered(
         ≡ compact_text (reply_data (Reply.Ordered order commit.now search day))) }
 {
     let date = day_text(alloc, day)?;
-    let mut out = JsonText::new(alloc)?;
+    let mut out = JsonText::within(alloc, room)?;
     out.put_commit("{\"commit\":", commit)?;
     out.put_text(",\"date\":", date.as_str())?;
     out.put_number(",\"day\":", day as u64)?;

@@ -40,11 +40,13 @@ impl Model for JsonText {
 }
 
 impl JsonText {
-    /// No byte yet.
-    pub(crate) fn new(alloc: Global) -> Result<JsonText, Memory>
+    /// No byte yet. It is written in this room, whose bytes go, and which is made larger where most texts need more.
+    pub(crate) fn within(alloc: Global, room: String) -> Result<JsonText, Memory>
         ensures { IfOk result (λ made. made ≡ []) }
     {
-        let text = String::with_capacity(alloc, FIRST_ROOM)?;
+        let mut text = room;
+        text.clear();
+        text.reserve(FIRST_ROOM)?;
         Ok(JsonText { alloc, text })
     }
 

@@ -1,6 +1,6 @@
 use Rattle.std.proofs.Common.{rules}
 use Rattle.farm_wire.specs.Replies.{reply_data}
-use Rattle.farm_wire.proofs.reply.reply_text.Goals as goal
+use Rattle.farm_wire.proofs.reply.reply_text_in.Goals as goal
 
 pub returns-in-Search : goal.returns-in-Search
 unfolding reply_data
