@@ -3,37 +3,19 @@
 ghost use Rattle.std.specs.Prelude.{◌≡◌, IfOk};
 ghost use Rattle.farm_types.specs.Moment.{moment_ms};
 ghost use Rattle.farm_entry.specs.Decision.{decide, full_decision, own_decision};
+ghost use Rattle.farm_entry.specs.History.{order_lines};
 ghost use Rattle.farm_entry.specs.Pages.{totals};
 ghost use Rattle.farm_laws.specs.Laws.{IsNotBefore};
-ghost use Rattle.kept_decisions.specs.Opens.{IsNoOpen, opening_asked};
+ghost use Rattle.kept_decisions.specs.Opens.{AsksOther};
 
 use crate::decision_known::known_decision;
 use crate::decision_new::{cancel_decision, lease_decision, open_decision, revert_decision};
 use crate::decision_report::report_decision;
 use crate::search_page::page_decision;
-use farm_entry::{
-    Command, Decision, MAX_ENTRIES, OpenFault, Opening, Refusal, Reply, Totals, moment_used,
-};
+use farm_entry::{Command, Decision, MAX_ENTRIES, OpenAsk, Refusal, Reply, Totals, moment_used};
 use farm_types::{Memory, Moment};
 use kept_farm::KeptFarm;
 use std::alloc::Global;
-
-/// The search that an open asks for, under a number, or why it can't be opened; the other commands ask for none.
-fn opening_asked(
-    alloc: Global,
-    command: &Command,
-    number: u32,
-) -> Result<Result<Option<Opening>, OpenFault>, Memory>
-    ensures { IfOk result (λ asked. asked ≡ opening_asked command.now number) }
-{
-    match command {
-        Command::Open(ask) => match ask.opening(alloc, number)? {
-            Ok(opening) => Ok(Ok(Some(opening))),
-            Err(fault) => Ok(Err(fault)),
-        },
-        _ => Ok(Ok(None)),
-    }
-}
 
 /// A full history still shows.
 fn full_decision(farm: &KeptFarm, command: &Command) -> Option<Decision>
@@ -53,19 +35,13 @@ fn all_totals(farm: &KeptFarm) -> Totals
     farm.totals_at(farm.history().len())
 }
 
-/// What each command is for that opens no search, at the moment used.
-fn own_decision(
-    alloc: Global,
-    farm: &KeptFarm,
-    command: &Command,
-    at: Moment,
-) -> Result<Decision, Memory>
+/// What each command is for that asks for an entry but opens no search, at the moment used.
+fn own_decision(farm: &KeptFarm, command: &Command, at: Moment) -> Result<Decision, Memory>
     requires not_before { IsNotBefore farm.now (moment_ms at) }
-    requires no_open { IsNoOpen command.now }
+    requires other { AsksOther command.now }
     ensures { IfOk result (λ found. found ≡ own_decision farm.now command.now at) }
 {
     match command {
-        Command::Open(_) => unreachable!(),
         Command::Lease { key, worker } => {
             let due = farm.next_run(at);
             lease_decision(farm, *key, worker, at, due)
@@ -76,25 +52,25 @@ fn own_decision(
             let next = farm.next_order(at);
             revert_decision(*key, agent, at, next)
         }
-        Command::ShowSearch { search } => page_decision(alloc, farm, *search),
-        Command::ShowFarm => Ok(Decision::Show(Reply::Farm(all_totals(farm)))),
-        Command::ShowOrders => Ok(Decision::Show(Reply::Orders(farm.order_page(alloc)?))),
+        _ => unreachable!(),
     }
 }
 
-/// What any command comes to, in a frame that has room for the search that an open makes.
-fn decision_on_any(
+/// What an open of a search comes to, in a frame that has room for the search.
+fn decision_on_open(
     alloc: Global,
     farm: &KeptFarm,
     command: &Command,
+    ask: &OpenAsk,
     at: Moment,
 ) -> Result<Decision, Memory>
+    requires { command.now ≡ Command.Open ask.now }
     ensures { IfOk result (λ found. found ≡ decide farm.now command.now at) }
 {
     let history = farm.history();
     let number = farm.searches_count() as u32 + 1;
-    let asked = match opening_asked(alloc, command, number)? {
-        Ok(asked) => asked,
+    let opening = match ask.opening(alloc, number)? {
+        Ok(opening) => opening,
         Err(fault) => return Ok(Decision::Refuse(Refusal::BadOpen(fault))),
     };
     if let Some(found) = known_decision(alloc, farm, command)? {
@@ -103,21 +79,17 @@ fn decision_on_any(
     if let Some(found) = full_decision(farm, command) {
         return Ok(found);
     }
-    let used = moment_used(history, at);
-    match asked {
-        Some(opening) => open_decision(alloc, farm, opening, used),
-        None => own_decision(alloc, farm, command, used),
-    }
+    open_decision(alloc, farm, opening, moment_used(history, at))
 }
 
-/// What a command comes to that opens no search.
+/// What a command comes to that asks for another entry.
 fn decision_on_other(
     alloc: Global,
     farm: &KeptFarm,
     command: &Command,
     at: Moment,
 ) -> Result<Decision, Memory>
-    requires { IsNoOpen command.now }
+    requires { AsksOther command.now }
     ensures { IfOk result (λ found. found ≡ decide farm.now command.now at) }
 {
     let history = farm.history();
@@ -130,7 +102,17 @@ fn decision_on_other(
     if let Some(found) = full_decision(farm, command) {
         return Ok(found);
     }
-    own_decision(alloc, farm, command, moment_used(history, at))
+    own_decision(farm, command, moment_used(history, at))
+}
+
+/// All orders, shown.
+fn orders_decision(alloc: Global, farm: &KeptFarm) -> Result<Decision, Memory>
+    ensures { IfOk result (λ found. found ≡ Decision.Show (Reply.Orders (order_lines farm.now))) }
+{
+    match farm.order_page(alloc) {
+        Ok(page) => Ok(Decision::Show(Reply::Orders(page))),
+        Err(memory) => Err(memory),
+    }
 }
 
 /// The decision on a command at a farm's history and a moment: the first that is there. First stands the shape of an
@@ -139,6 +121,7 @@ fn decision_on_other(
 /// # Errors
 ///
 /// [`Memory`].
+#[tactic(auto, using(crate::proofs::Shown::shown))]
 pub fn decide(
     alloc: Global,
     farm: &KeptFarm,
@@ -147,9 +130,13 @@ pub fn decide(
 ) -> Result<Decision, Memory>
     ensures { IfOk result (λ found. found ≡ decide farm.now command.now at) }
 {
-    // A search that is opened takes much room, which the other commands needn't clear and move.
+    // A command that only shows something has no key, and is answered at a full history too. A search that is opened
+    // takes much room, which the other commands needn't clear and move.
     match command {
-        Command::Open(_) => decision_on_any(alloc, farm, command, at),
+        Command::Open(ask) => decision_on_open(alloc, farm, command, ask, at),
+        Command::ShowSearch { search } => page_decision(alloc, farm, *search),
+        Command::ShowFarm => Ok(Decision::Show(Reply::Farm(all_totals(farm)))),
+        Command::ShowOrders => orders_decision(alloc, farm),
         _ => decision_on_other(alloc, farm, command, at),
     }
 }

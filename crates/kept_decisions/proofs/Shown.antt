@@ -1,0 +1,30 @@
+-- What a command comes to that only shows something: it has no key, and is answered at a full history too.
+use Rattle.std.proofs.Common.{◌≡◌, nat_le, not, ◌&&◌, ℕ, Bool, true, false, if◌then◌else◌, List, length, Some, None, refl}
+use Rattle.farm_types.specs.declared.moment.Moment.{Moment}
+use Rattle.farm_entry.specs.Decision.{decide, or_else, page_decision}
+use Rattle.farm_entry.specs.History.{opening_numbered, order_lines}
+use Rattle.farm_entry.specs.Pages.{totals}
+use Rattle.farm_entry.specs.declared.command.Command.TheVariants.{ShowSearch, ShowFarm, ShowOrders}
+use Rattle.farm_entry.specs.declared.decision.Decision.{Decision}
+use Rattle.farm_entry.specs.declared.decision.Decision.TheVariants.{Refuse, Show}
+use Rattle.farm_entry.specs.declared.entry.Entry.{Entry}
+use Rattle.farm_entry.specs.declared.limits.TheConstants.{MAX_ENTRIES}
+use Rattle.farm_entry.specs.declared.refusal.Refusal.TheVariants.{Full}
+use Rattle.farm_entry.specs.declared.reply.Reply.TheVariants as reply
+
+past-full : (full : Bool) (d : Decision) → or_else (if full && not true then Some (Refuse Full) else None) d ≡ d
+past-full true d = refl
+past-full false d = refl
+
+pub decide-search : (H : List Entry) (search : ℕ) (m : Moment)
+    → decide H (ShowSearch search) m ≡ page_decision H search (opening_numbered H search)
+decide-search H search m =
+    past-full (nat_le MAX_ENTRIES (length H)) (page_decision H search (opening_numbered H search))
+
+pub decide-farm : (H : List Entry) (m : Moment) → decide H ShowFarm m ≡ Show (reply.Farm (totals H))
+decide-farm H m = past-full (nat_le MAX_ENTRIES (length H)) (Show (reply.Farm (totals H)))
+
+pub decide-orders : (H : List Entry) (m : Moment) → decide H ShowOrders m ≡ Show (reply.Orders (order_lines H))
+decide-orders H m = past-full (nat_le MAX_ENTRIES (length H)) (Show (reply.Orders (order_lines H)))
+
+pub ruleset shown = (decide-search, decide-farm, decide-orders)
