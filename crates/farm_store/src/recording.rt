@@ -10,7 +10,7 @@ ghost use Rattle.farm_store.specs.StoreInside.{IsAhead, IsStore};
 ghost use Rattle.farm_store.specs.declared.asking.TheConstants.{MAX_BATCH};
 
 use crate::asking::CallFault;
-use entry_codec::write_entries;
+use entry_codec::write_entries_into;
 use farm_core::Farm;
 use farm_disk::Disk;
 use farm_entry::Entry;
@@ -18,9 +18,11 @@ use farm_journal::{Journal, JournalFault};
 use std::alloc::Global;
 
 /// Stores what stands in the farm's history from a place on, in one record, or takes it back. Where the disk failed, it
-/// may be committed again once a repair has found that it was kept. Where nothing stands there, nothing is written.
+/// may be committed again once a repair has found that it was kept. Where nothing stands there, nothing is written. The
+/// record's payload is put together in the room of `payload`.
 pub fn record_from<D: Disk>(
     alloc: Global,
+    payload: &mut Vec<u8>,
     farm: &mut Farm,
     journal: &mut Journal<D>,
     start: usize,
@@ -48,7 +50,7 @@ pub fn record_from<D: Disk>(
     ensures cause { HasCountFrom before result (D.count journal.old.disk) (D.count journal.new.disk) }
     ensures never_falls { D.count journal.old.disk ≤ D.count journal.new.disk }
 {
-    match write_new(alloc, journal, &farm.history()[start..], before) {
+    match write_new(alloc, payload, journal, &farm.history()[start..], before) {
         Ok(()) => Ok(()),
         Err(fault) => {
             farm.retract(farm.history().len() - start);
@@ -60,6 +62,7 @@ pub fn record_from<D: Disk>(
 /// Writes entries as one record, where there are any.
 fn write_new<D: Disk>(
     alloc: Global,
+    payload: &mut Vec<u8>,
     journal: &mut Journal<D>,
     entries: &[Entry],
     before: u64,
@@ -78,10 +81,10 @@ fn write_new<D: Disk>(
     if entries.is_empty() {
         return Ok(());
     }
-    let Ok(payload) = write_entries(alloc, entries) else {
+    let Ok(()) = write_entries_into(payload, entries) else {
         return Err(CallFault::Memory);
     };
-    match journal.append(alloc, &payload) {
+    match journal.append(alloc, payload) {
         Ok(()) => Ok(()),
         Err(JournalFault::StoreFault { after, .. }) => Err(CallFault::StoreFault { before, after }),
         Err(JournalFault::Memory) => Err(CallFault::Memory),

@@ -58,6 +58,8 @@ pub struct Store<D: Disk> {
     journal: Journal<D>,
     farm: Farm,
     recorded: usize,
+    /// The room in which payloads are put together, kept from one to the next.
+    payload: Vec<u8>,
 }
 
 impl<D: Disk> Model for Store<D> {
@@ -117,6 +119,7 @@ impl<D: Disk> Store<D> {
                 journal,
                 farm,
                 recorded: 0,
+                payload: Vec::new(alloc),
             }),
             Err(missed) => Err(missed),
         }
@@ -143,6 +146,7 @@ impl<D: Disk> Store<D> {
                     journal,
                     farm,
                     recorded: 0,
+                    payload: Vec::new(alloc),
                 }),
                 Err(fault) => Err((journal.into_disk(), fault)),
             },
@@ -373,7 +377,14 @@ impl<D: Disk> Store<D> {
         let start = self.farm.history().len();
         match answer(&mut self.farm, command, at) {
             Ok(Answer::Done(reply)) => {
-                record_from(alloc, &mut self.farm, &mut self.journal, start, before)?;
+                record_from(
+                    alloc,
+                    &mut self.payload,
+                    &mut self.farm,
+                    &mut self.journal,
+                    start,
+                    before,
+                )?;
                 self.recorded = self.farm.history().len() - start;
                 Ok(reply)
             }
@@ -400,7 +411,14 @@ impl<D: Disk> Store<D> {
         let start = self.farm.history().len();
         match answer_all(alloc, &mut self.farm, asks) {
             Ok(answers) => {
-                record_from(alloc, &mut self.farm, &mut self.journal, start, before)?;
+                record_from(
+                    alloc,
+                    &mut self.payload,
+                    &mut self.farm,
+                    &mut self.journal,
+                    start,
+                    before,
+                )?;
                 self.recorded = self.farm.history().len() - start;
                 Ok(Answers::of(answers))
             }
