@@ -1,11 +1,13 @@
 -- What is held of the bytes that were taken, and what they come to.
-use Rattle.std.proofs.Common.{◌≡◌, ◌+◌, ◌<◌, ◌≤◌, ◌↔◌, ℕ, Bool, true, false, List, [], ◌++◌, length, drop, slice_range, Result, IfOk, IfErr, Ok, Err, refl, sym, ap, subst, ◌∙◌, inl, inr, append_assoc, append-nil, length-append, length-drop, arith}
+use Rattle.std.proofs.Common.{◌≡◌, ◌+◌, ◌<◌, ◌≤◌, ◌↔◌, ℕ, Bool, true, false, List, [], ◌++◌, ◌-◌, length, take, drop, slice_range, Result, IfOk, IfErr, OnOk, Ok, Err, refl, sym, ap, subst, ◌∙◌, inl, inr, append_assoc, append-nil, length-append, length-drop, arith}
 use Rattle.http_responses.specs.Reading.{IsBefore, IsUnfinished, Says}
 use Rattle.http_responses.specs.Whole.{IsWhole}
 use Rattle.http_responses.specs.declared.progress.Progress.TheVariants as progress
 use Rattle.http_responses.specs.declared.progress.Response.{Response}
+use Rattle.link_io.specs.declared.source.TheConstants.{PIECE}
+use Rattle.std.proofs.lemmas.List.{length-take-le, take-append-drop}
 use Rattle.http_exchange.specs.Received.{IsHeld, IsOver, IsTaken, ReceivedBytes, TakesUntil, nothing_received}
-use Rattle.http_exchange.specs.Responses.{ComesTo, HasNone, IsBroken}
+use Rattle.http_exchange.specs.Responses.{ComesTo, HasJustCome, HasNone, IsBroken}
 use Rattle.http_exchange.specs.declared.response.NoResponse.{NoResponse}
 use Rattle.http_exchange.specs.declared.response.NoResponse.TheVariants.{Broken, Failed, Memory}
 use Rattle.http_exchange.specs.declared.response.Response as made
@@ -99,3 +101,35 @@ comes-made bytes ended (Ok response) status body status_is body_is short whole =
     (subst (λ (l : List ℕ). IsWhole bytes status l) (sym body_is) whole)
 comes-made bytes ended (Err none) status body status_is body_is short whole =
     subst (λ (x : NoResponse). ComesTo bytes ended (Err x)) (sym short) tt
+
+-- nothing was taken yet
+pub just-first : HasJustCome []
+just-first = record { before = []; last = []; is = refl; few = omega arith; none = inl refl }
+
+-- the last piece that was taken made a response whole
+pub just-until : (bytes : List ℕ) (r s : ReceivedBytes) (piece : List ℕ) (size : ℕ) (ended : Bool) → IsHeld bytes r →
+    IsUnfinished r.held size → TakesUntil size r s piece ended (Ok true) →
+    (length r.held < size → length s.held < size + PIECE) → HasJustCome (bytes ++ piece)
+just-until bytes r s piece size ended held waits takes most =
+    let ahead = waits.ahead in
+    let few : length s.held < size + PIECE = most ahead in
+    let all : length s.held ≡ length (r.held ++ piece) = ap length takes.0.held in
+    let both : length (r.held ++ piece) ≡ length r.held + length piece = length-append r.held piece in
+    let n : ℕ = size - 1 - length r.held in
+    let n_is : n + length r.held + 1 ≡ size = omega (arith, ahead) in
+    let within : n ≤ length piece = omega (arith, n_is, all, both, takes.1) in
+    let front : length (take n piece) ≡ n = length-take-le n piece within in
+    let rest : length (drop n piece) ≡ length piece - n = length-drop n piece in
+    record {
+      before = bytes ++ take n piece;
+      last = drop n piece;
+      is = ap (λ (l : List ℕ). bytes ++ l) (sym (take-append-drop n piece)) ∙ sym (append_assoc bytes (take n piece) (drop n piece));
+      few = omega (arith, rest, few, all, both, n_is, within);
+      none = inr (λ status body whole.
+          waits.none (take n piece) status body (omega (arith, front, n_is)) ((held.same (take n piece) status body).0 whole));
+    }
+
+-- what holds anyway holds where a call succeeded
+pub on_ok : {A E P : Type 0} (result : Result A E) → P → OnOk result P
+on_ok (Ok a) p = p
+on_ok (Err e) p = tt

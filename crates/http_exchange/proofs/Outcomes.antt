@@ -1,5 +1,5 @@
 -- What an exchange tells, and what it is answered by.
-use Rattle.std.proofs.Common.{◌≡◌, ℕ, Bool, List, [], ◌∷◌, take, drop, Option, Some, None, Result, Ok, Err, IfSome, IsErrOf, refl, sym, ap, subst, ◌∙◌, append-nil, arith}
+use Rattle.std.proofs.Common.{◌≡◌, ℕ, Bool, List, [], ◌∷◌, take, drop, Option, Some, None, Result, Ok, Err, IfOk, OnOk, IfSome, IsErrOf, refl, sym, ap, subst, ◌∙◌, append-nil, arith}
 use Rattle.std.proofs.lemmas.List.{take-append-drop}
 use Rattle.std.specs.Io.KnownBytes.{append_known}
 use Rattle.fault_types.specs.Counts.{Rose}
@@ -11,7 +11,7 @@ use Rattle.link_io.specs.declared.sink.PutFault.{PutFault}
 use Rattle.link_io.specs.declared.sink.PutFault.TheVariants as put_fault
 use Rattle.list_prefix.specs.Prefix.{IsPrefix}
 use Rattle.net_io.specs.Events.{NetworkEvent, returned}
-use Rattle.http_exchange.specs.Exchanges.{AnsweredBy, AskedOver, IsOutcome, talk_state, talked}
+use Rattle.http_exchange.specs.Exchanges.{AnsweredBy, AskedOver, IfAnswered, IsOutcome, talk_state, talked}
 use Rattle.http_exchange.specs.Responses.{unput}
 use Rattle.http_exchange.specs.declared.connection.Exchanged.{Exchanged}
 use Rattle.http_exchange.specs.declared.connection.Exchanged.TheVariants.{Answered, Broken, Failed}
@@ -72,3 +72,27 @@ answered-by request sent taken ended count (Err no_response.Failed) (Ok Broken) 
 answered-by request sent taken ended count (Err no_response.Failed) (Err memory) asked is rises = absurd is
 answered-by request sent taken ended count (Err no_response.Memory) (Ok came) asked is rises = absurd is
 answered-by request sent taken ended count (Err no_response.Memory) (Err memory) asked is rises = asked
+
+-- what follows of it where a call succeeded
+pub on_ok-weaker : {A E : Type 0} (P Q : Type 0) (result : Result A E) → OnOk result P → (P → Q) → OnOk result Q
+on_ok-weaker P Q (Ok a) p f = f p
+on_ok-weaker P Q (Err e) p f = tt
+
+-- a response is answered only where one came
+pub if_answered : (P : Type 0) (answer : Result Response NoResponse) (count : ℕ) (result : Result Exchanged Memory) →
+    IsOutcome answer count result → OnOk answer P → IfOk result (λ came. IfAnswered came P)
+if_answered P answer count (Err memory) is p = tt
+if_answered P answer count (Ok Failed) is p = tt
+if_answered P answer count (Ok Broken) is p = tt
+if_answered P (Ok response) count (Ok (Answered given)) is p = p
+if_answered P (Err no_response.Memory) count (Ok (Answered given)) is p = absurd is
+if_answered P (Err no_response.Broken) count (Ok (Answered given)) is p = absurd is
+if_answered P (Err no_response.Failed) count (Ok (Answered given)) is p = absurd is
+
+-- what follows of it where a response is answered
+pub if_answered-weaker : (P Q : Type 0) (result : Result Exchanged Memory) → IfOk result (λ came. IfAnswered came P) →
+    (P → Q) → IfOk result (λ came. IfAnswered came Q)
+if_answered-weaker P Q (Err memory) p f = tt
+if_answered-weaker P Q (Ok Failed) p f = tt
+if_answered-weaker P Q (Ok Broken) p f = tt
+if_answered-weaker P Q (Ok (Answered given)) p f = f p

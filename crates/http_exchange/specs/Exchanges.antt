@@ -51,6 +51,12 @@ AnsweredBy request (talked t) (Ok Failed) = (1 ≤ t.count) × IsPrefix t.put re
 AnsweredBy request (talked t) (Ok Broken) = (t.count ≡ 0) × (t.put ≡ request) × IsBroken t.taken t.ended
 AnsweredBy request (talked t) (Err memory) = IsPrefix t.put request
 
+-- what holds where a whole response was answered
+abbrev pub IfAnswered : Exchanged → Type 0 → Type 0
+IfAnswered (Answered response) P = P
+IfAnswered Failed P = ⊤
+IfAnswered Broken P = ⊤
+
 -- what was put to a connection and taken from it, and the response that came of it
 abbrev pub AskedOver : (request sent taken : List ℕ) → (ended : Bool) → Result Response NoResponse → Type 0
 AskedOver request sent taken ended (Ok response) = (sent ≡ request) × IsWhole taken response.status response.body

@@ -1,9 +1,10 @@
 -- What the bytes that were taken of a source come to.
-use Rattle.std.specs.Prelude.{◌⊎◌, ℕ, Bool, List, ◌++◌, length, Result, Ok, Err, ⊤}
+use Rattle.std.specs.Prelude.{◌≡◌, ◌≤◌, ◌⊎◌, ℕ, Bool, List, [], ◌++◌, length, Result, Ok, Err, ⊤}
 use Rattle.http_responses.specs.Whole.{IsWhole}
 use Rattle.http_exchange.specs.Received.{IsOver}
 use Rattle.link_io.specs.declared.sink.PutFault.{PutFault}
 use Rattle.link_io.specs.declared.sink.PutFault.TheVariants as put_fault
+use Rattle.link_io.specs.declared.source.TheConstants.{PIECE}
 use Rattle.http_exchange.specs.declared.response.NoResponse.{NoResponse}
 use Rattle.http_exchange.specs.declared.response.NoResponse.TheVariants.{Broken, Failed, Memory}
 use Rattle.http_exchange.specs.declared.response.Response.{Response}
@@ -15,6 +16,15 @@ HasNone bytes = (status : ℕ) (body : List ℕ) → ¬ IsWhole bytes status bod
 -- nor do any that go on from them
 abbrev pub NeverHasOne : List ℕ → Type 0
 NeverHasOne bytes = (more : List ℕ) → HasNone (bytes ++ more)
+
+-- No more was taken once a whole response was there: the last bytes, no more of them than one take gives, made it whole,
+-- and those before them begin with none.
+pub record HasJustCome (bytes : List ℕ) : Type 0 where
+  pub before : List ℕ
+  pub last : List ℕ
+  pub is : bytes ≡ before ++ last
+  pub few : length last ≤ PIECE
+  pub none : (before ≡ []) ⊎ HasNone before
 
 -- The other end sent no whole response: these bytes are none, and they can't be continued to one, or the input has
 -- ended, or as many were taken as are taken at most

@@ -1,11 +1,23 @@
 //! A request over a connection of its own.
-ghost use Rattle.std.specs.Prelude.{◌≡◌, ◌≤◌, ℕ, List, IfOk, IsErrOf, IfSome};
+ghost use Rattle.std.specs.Prelude.{◌≡◌, ◌≤◌, ℕ, List, IfOk, OnOk, IsErrOf, IfSome};
 ghost use Rattle.std.specs.Io.KnownBytes.{append_known};
 ghost use Rattle.fault_types.specs.Counts.{Rose};
 ghost use Rattle.link_io.specs.Links.{fresh_link, link_state};
 ghost use Rattle.link_io.specs.Telling.{add_told};
 ghost use Rattle.net_io.specs.Events.{returned};
-ghost use Rattle.http_exchange.specs.Exchanges.{AnsweredBy, AskedOver, Exchange, IsOutcome, Talk, exchange_events, talk_state, talked, tell_all};
+ghost use Rattle.http_exchange.specs.Exchanges.{
+  AnsweredBy,
+  AskedOver,
+  Exchange,
+  IfAnswered,
+  IsOutcome,
+  Talk,
+  exchange_events,
+  talk_state,
+  talked,
+  tell_all,
+};
+ghost use Rattle.http_exchange.specs.Responses.{HasJustCome};
 
 use crate::{NoResponse, Response, take_response};
 use fault_types::Memory;
@@ -32,6 +44,8 @@ pub fn exchange<N: Network>(
 ) -> Result<Exchanged, Memory>
     ensures told { (x : Exchange) × (N.told network.new ≡ tell_all (exchange_events x) (N.told network.old))
         × AnsweredBy request.now x result }
+    ensures enough { IfOk result (λ came. IfAnswered came ((t : Talk)
+        × (N.told network.new ≡ tell_all (exchange_events (talked t)) (N.told network.old)) × HasJustCome t.taken)) }
     ensures rises { IfOk result (λ came. came ≡ Exchanged.Failed → Rose (N.count network.old) (N.count network.new)) }
     ensures never_falls { N.count network.old ≤ N.count network.new }
 {
@@ -52,6 +66,8 @@ fn exchange_over<N: Network>(
     requires unfailed { N.End.Source.count link ≡ 0 }
     ensures told { (t : Talk) × (N.told network.new ≡ add_told (returned (talk_state t)) (N.told network.old))
         × AnsweredBy request.now (talked t) result }
+    ensures enough { IfOk result (λ came. IfAnswered came ((t : Talk)
+        × (N.told network.new ≡ add_told (returned (talk_state t)) (N.told network.old)) × HasJustCome t.taken)) }
     ensures rises { IfOk result (λ came. came ≡ Exchanged.Failed → Rose (N.count network.old) (N.count network.new)) }
     ensures never_falls { N.count network.old ≤ N.count network.new }
 {
@@ -67,6 +83,10 @@ fn ask<L: Link>(alloc: Global, link: &mut L, request: &[u8]) -> Result<Response,
         × (L.Sink.written link.new ≡ append_known (L.Sink.written link.old) sent)
         × (L.Source.taken link.new ≡ append_known (L.Source.taken link.old) taken)
         × AskedOver request.now sent taken (L.Source.ended link.new) result }
+    ensures enough { OnOk result ((sent taken : List ℕ)
+        × (L.Sink.written link.new ≡ append_known (L.Sink.written link.old) sent)
+        × (L.Source.taken link.new ≡ append_known (L.Source.taken link.old) taken)
+        × HasJustCome taken) }
     ensures rises { IsErrOf result NoResponse.Failed → Rose (L.Source.count link.old) (L.Source.count link.new) }
     ensures never_falls { L.Source.count link.old ≤ L.Source.count link.new }
 {

@@ -1,8 +1,8 @@
 //! The bytes that were taken of a source, behind the interim responses among them.
-ghost use Rattle.std.specs.Prelude.{◌≡◌, ◌≤◌, ◌<◌, ◌+◌, ◌++◌, ◌⊎◌, ℕ, List, [], true, false, IfOk, IfErr, OnErr, IsErrOf, length, drop, slice_range};
+ghost use Rattle.std.specs.Prelude.{◌≡◌, ◌≤◌, ◌<◌, ◌+◌, ◌++◌, ◌⊎◌, ℕ, List, [], true, false, IfOk, IfErr, OnOk, OnErr, IsErrOf, length, drop, slice_range};
 ghost use Rattle.std.specs.Io.KnownBytes.{append_known};
 ghost use Rattle.fault_types.specs.Counts.{Rose};
-ghost use Rattle.link_io.specs.declared.source.TheConstants.{INPUT_LIMIT};
+ghost use Rattle.link_io.specs.declared.source.TheConstants.{INPUT_LIMIT, PIECE};
 ghost use Rattle.http_exchange.specs.Received.{IsTaken, Takes, TakesUntil, nothing_received};
 
 use crate::{Body, NoResponse, Response};
@@ -81,6 +81,7 @@ impl Received {
         requires { self.old.taken < INPUT_LIMIT }
         ensures takes { (piece : List ℕ) × (S.taken link.new ≡ append_known (S.taken link.old) piece)
             × Takes self.old self.new piece (S.ended link.new) result }
+        ensures few { OnOk result (length self.new.held ≤ length self.old.held + PIECE) }
         ensures aside { S.aside link.new ≡ S.aside link.old }
         ensures rises { IsErrOf result NoResponse.Failed → Rose (S.count link.old) (S.count link.new) }
         ensures never_falls { S.count link.old ≤ S.count link.new }
@@ -107,6 +108,7 @@ impl Received {
     ) -> Result<bool, NoResponse>
         ensures takes { (piece : List ℕ) × (S.taken link.new ≡ append_known (S.taken link.old) piece)
             × TakesUntil size self.old self.new piece (S.ended link.new) result }
+        ensures few { OnOk result (length self.old.held < size → length self.new.held < size + PIECE) }
         ensures aside { S.aside link.new ≡ S.aside link.old }
         ensures rises { IsErrOf result NoResponse.Failed → Rose (S.count link.old) (S.count link.new) }
         ensures never_falls { S.count link.old ≤ S.count link.new }

@@ -1,8 +1,8 @@
 //! One response, taken of a source.
-ghost use Rattle.std.specs.Prelude.{◌≡◌, ◌≤◌, ℕ, List, IsErrOf};
+ghost use Rattle.std.specs.Prelude.{◌≡◌, ◌≤◌, ℕ, List, OnOk, IsErrOf};
 ghost use Rattle.std.specs.Io.KnownBytes.{append_known};
 ghost use Rattle.fault_types.specs.Counts.{Rose};
-ghost use Rattle.http_exchange.specs.Responses.{ComesTo};
+ghost use Rattle.http_exchange.specs.Responses.{ComesTo, HasJustCome};
 
 use crate::received::Received;
 use http_responses::{Progress, read_response};
@@ -64,6 +64,8 @@ impl From<AllocError> for NoResponse {
 pub fn take_response<S: Source>(alloc: Global, link: &mut S) -> Result<Response, NoResponse>
     ensures comes { (bytes : List ℕ) × (S.taken link.new ≡ append_known (S.taken link.old) bytes)
         × ComesTo bytes (S.ended link.new) result }
+    ensures enough { OnOk result ((bytes : List ℕ)
+        × (S.taken link.new ≡ append_known (S.taken link.old) bytes) × HasJustCome bytes) }
     ensures aside { S.aside link.new ≡ S.aside link.old }
     ensures rises { IsErrOf result NoResponse.Failed → Rose (S.count link.old) (S.count link.new) }
     ensures never_falls { S.count link.old ≤ S.count link.new }

@@ -3,7 +3,7 @@ use Rattle.std.proofs.lemmas.Result.{err_from_is_err_and}
 use Rattle.http_responses.specs.Reading.{IsUnfinished, Says}
 use Rattle.http_responses.specs.declared.progress.Progress.TheVariants as progress
 use Rattle.http_exchange.specs.Received.{TakesUntil}
-use Rattle.http_exchange.proofs.Held.{comes-fault, comes-never, comes-short, comes-made, comes-whole, held-until}
+use Rattle.http_exchange.proofs.Held.{comes-fault, comes-never, comes-short, comes-made, comes-whole, held-until, just-until, on_ok}
 use Rattle.http_exchange.proofs.Takes.{known-on}
 use Rattle.http_exchange.proofs.response.take_response.Goals as goal
 
@@ -60,6 +60,14 @@ loop-found-preserved g c =
             (λ (b : Bool). TakesUntil c.in-More.size c.loop-found.received c.take_until.new.self takes.0
             (g.S.Source.ended c.take_until.new.link) (Ok b))
             some takes.2),
+        just-until before.0 c.loop-found.received c.take_until.new.self takes.0 c.in-More.size
+            (g.S.Source.ended c.take_until.new.link) before.2
+            (subst (λ l. IsUnfinished l c.in-More.size) c.held.ensures.held c.in-More.ensures)
+            (subst
+            (λ (b : Bool). TakesUntil c.in-More.size c.loop-found.received c.take_until.new.self takes.0
+            (g.S.Source.ended c.take_until.new.link) (Ok b))
+            some takes.2)
+            c.in_ok-take_until-in-More.ensures.few,
       );
       aside = c.take_until.ensures.aside ∙ c.loop-found.invariant.aside;
       never_fell = le_trans c.loop-found.invariant.never_fell c.take_until.ensures.never_falls;
@@ -76,3 +84,8 @@ returns-in-Whole-clause-comes g c =
           c.response.ensures.status c.response.ensures.body c.response.ensures.short
           (comes-whole before.0 c.loop-found.received c.in-Whole.found before.2 says),
     )
+
+pub returns-in-Whole-clause-enough : goal.returns-in-Whole-clause-enough
+returns-in-Whole-clause-enough g c =
+    let before = c.loop-found.invariant.taken in
+    on_ok c.response.result (before.0, before.1, before.3)
