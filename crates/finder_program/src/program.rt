@@ -16,6 +16,7 @@ ghost use Rattle.finder_words.specs.Words.{
   run_journal,
   serve,
   show,
+  uses_input,
   uses_network,
   uses_runner,
   work,
@@ -98,7 +99,8 @@ where
     ensures untouched { asked (map string_bytes words.now) ≡ None
         → (input.new ≡ input.old) × (output.new ≡ output.old) × (result.1 ≡ disk) }
 
-    // A subcommand that has no use for the network, for the runner or for keys leaves them as they are.
+    // A subcommand that has no use for the input, for the network, for the runner or for keys leaves them as they are.
+    ensures no_input { uses_input (asked (map string_bytes words.now)) ≡ false → input.new ≡ input.old }
     ensures no_network { uses_network (asked (map string_bytes words.now)) ≡ false → result.2 ≡ network }
     ensures no_runner { uses_runner (asked (map string_bytes words.now)) ≡ false
         → (runner.new ≡ runner.old) × (keys.new ≡ keys.old) }

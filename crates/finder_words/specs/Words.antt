@@ -157,7 +157,22 @@ places_asked words = if is_some (asked_of words) then places_in words else nowhe
 abbrev pub places_named : List (List ℕ) → PlacesNamed
 places_named words = if fits words then places_asked words else nowhere
 
--- whether what is asked for uses the network
+-- whether what is asked for uses the input
+abbrev pub uses_input : Option Asked → Bool
+uses_input None = false
+uses_input (Some judge) = true
+uses_input (Some run) = true
+uses_input (Some (found lease_ms daily zone)) = false
+uses_input (Some show) = false
+uses_input (Some run_journal) = true
+uses_input (Some audit) = true
+uses_input (Some (serve handlers links)) = false
+uses_input (Some (work worker runs)) = false
+uses_input (Some rates) = false
+uses_input (Some (drill searches workers)) = false
+uses_input (Some (follow rounds)) = false
+
+-- whether it uses the network
 abbrev pub uses_network : Option Asked → Bool
 uses_network None = false
 uses_network (Some judge) = false
