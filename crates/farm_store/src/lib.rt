@@ -3,7 +3,8 @@
 //! A [`Store`] is a farm in memory over a journal. A command that records something is answered once its entry is
 //! stored in a record of its own, and a list of asks once the new entries of all of them are stored in one record, so
 //! that a crash leaves all of these or none. Where the disk fails, it is undecided whether the record was kept: its
-//! entries are pending, and the next call begins by finding out, before anything else is decided.
+//! entries are pending, and the next call begins by finding out, before anything else is decided. [`answer`] answers a
+//! command by a farm in memory alone, as a store does before it writes, for a farm that has no disk.
 //!
 //! The crate stands on `farm_core` for the farm, on `farm_journal` and `farm_disk` for the records and what a crash may
 //! leave of them, and on `entry_codec` for entries as bytes. The layers above may use every name below; clauses above
