@@ -5,7 +5,7 @@ ghost use Rattle.farm_answers.specs.Texts.{AnswerHasDates, answer_text};
 
 use farm_store::Answer;
 use farm_types::Memory;
-use farm_wire::{refusal_text, reply_text};
+use farm_wire::{refusal_text, reply_text, reply_text_in};
 use std::alloc::Global;
 
 /// The text of an answer: a JSON object with no space in it, whose members stand in the order of their names. The days
@@ -16,6 +16,17 @@ pub fn answer_text(alloc: Global, answer: &Answer) -> Result<String, Memory>
 {
     match answer {
         Answer::Done(reply) => reply_text(alloc, reply),
+        Answer::Refused(refusal) => refusal_text(alloc, refusal),
+    }
+}
+
+/// The same, where a reply is written in this room, whose bytes go.
+pub fn answer_text_in(alloc: Global, room: String, answer: &Answer) -> Result<String, Memory>
+    requires { AnswerHasDates answer.now }
+    ensures { IfOk result (λ text. string_bytes text ≡ answer_text answer.now) }
+{
+    match answer {
+        Answer::Done(reply) => reply_text_in(alloc, room, reply),
         Answer::Refused(refusal) => refusal_text(alloc, refusal),
     }
 }
