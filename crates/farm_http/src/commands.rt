@@ -20,7 +20,7 @@ use crate::front::Answered;
 use crate::received::Received;
 use crate::responses::{Says, put_behind, put_out, put_response};
 use connection_laws::ServeFault;
-use farm_answers::{answer_status, answer_text};
+use farm_answers::{answer_status, answer_text_in};
 use farm_disk::Disk;
 use farm_store::{Answer, Ask, CallFault};
 use farm_wire::{WireFault, command_of, fault_text};
@@ -32,9 +32,14 @@ use http_words::{Endpoint, Route, StatusCode};
 use link_io::{Clock, Link, Sink};
 use shared_farm::{Beginning, Pass, SharedFarm};
 use std::alloc::Global;
+use std::mem;
 use std::sync::Wait;
 
-/// Answers the command at the front, and with it those behind it that may share its turn.
+/// The most bytes of room for texts that a connection keeps.
+const MOST_ROOM: usize = 65_536;
+
+/// Answers the command at the front, and with it those behind it that may share its turn. Their texts are written in the
+/// room.
 pub(crate) fn answer_commands<R: Wait, L: Link, D: Disk, B: Beginning, C: Clock>(
     rt: &R,
     alloc: Global,
@@ -43,6 +48,7 @@ pub(crate) fn answer_commands<R: Wait, L: Link, D: Disk, B: Beginning, C: Clock>
     pass: &mut Pass,
     last: &mut LastHead,
     batch: &mut Batch,
+    room: &mut String,
     out: &mut Gathered,
     link: &mut L,
     clock: &C,
@@ -79,7 +85,8 @@ pub(crate) fn answer_commands<R: Wait, L: Link, D: Disk, B: Beginning, C: Clock>
         return Ok(Answered::one(first));
     }
     batch.gather(alloc, pages, last, clock, held, received.is_complete());
-    answer_batch(rt, alloc, shared, pass, out, link, batch)?;
+    answer_batch(rt, alloc, shared, pass, room, out, link, batch)?;
+    bound_room(alloc, room);
     let done = Answered {
         requests: batch.asks().len() as u64,
         size: batch.size(),
@@ -87,6 +94,13 @@ pub(crate) fn answer_commands<R: Wait, L: Link, D: Disk, B: Beginning, C: Clock>
     };
     batch.clear();
     Ok(done)
+}
+
+/// Lets room go that is larger than is kept from one batch to the next.
+fn bound_room(alloc: Global, room: &mut String) {
+    if room.capacity() > MOST_ROOM {
+        *room = String::new(alloc);
+    }
 }
 
 /// Answers a request whose body is no command, or for whose reading memory ran out.
@@ -126,6 +140,7 @@ fn answer_batch<R: Wait, L: Link, D: Disk, B: Beginning>(
     alloc: Global,
     shared: &SharedFarm<D, B>,
     pass: &mut Pass,
+    room: &mut String,
     out: &mut Gathered,
     link: &mut L,
     batch: &Batch,
@@ -143,7 +158,7 @@ fn answer_batch<R: Wait, L: Link, D: Disk, B: Beginning>(
     ensures never_falls { L.Sink.count link.old ≤ L.Sink.count link.new }
 {
     match shared.call_batch(rt, alloc, pass, batch.asks()) {
-        Ok(answers) => put_answers(alloc, out, link, batch.requests(), answers.as_slice()),
+        Ok(answers) => put_answers(alloc, room, out, link, batch.requests(), answers.as_slice()),
         Err(CallFault::StoreFault { .. }) => {
             let says = Says::plain(StatusCode::Unavailable, store_fault_text());
             put_each(out, link, batch.requests(), &says)
@@ -155,6 +170,7 @@ fn answer_batch<R: Wait, L: Link, D: Disk, B: Beginning>(
 /// Puts the answers of the farm, one for each request, in as few puts as there is room for.
 fn put_answers<K: Sink>(
     alloc: Global,
+    room: &mut String,
     out: &mut Gathered,
     link: &mut K,
     requests: &[Request],
@@ -173,15 +189,16 @@ fn put_answers<K: Sink>(
 {
     let mut place = 0;
     while place < requests.len() {
-        put_farm_answer(alloc, out, link, &requests[place], &answers[place])?;
+        put_farm_answer(alloc, room, out, link, &requests[place], &answers[place])?;
         place += 1;
     }
     put_out(out, link)
 }
 
-/// Puts an answer of the farm behind those that are gathered.
+/// Puts an answer of the farm behind those that are gathered. Its text is written in the room.
 fn put_farm_answer<K: Sink>(
     alloc: Global,
+    room: &mut String,
     out: &mut Gathered,
     link: &mut K,
     request: &Request,
@@ -195,9 +212,10 @@ fn put_farm_answer<K: Sink>(
     ensures cause { OnLinkFault result (Rose (K.count link.old) (K.count link.new)) }
     ensures never_falls { K.count link.old ≤ K.count link.new }
 {
-    match answer_text(alloc, answer) {
+    match answer_text_in(alloc, mem::replace(room, String::new(alloc)), answer) {
         Ok(text) => {
-            let says = Says::plain(answer_status(answer), text.as_bytes());
+            *room = text;
+            let says = Says::plain(answer_status(answer), room.as_bytes());
             put_behind(out, link, request, &says)
         }
         Err(_) => put_behind(out, link, request, &Says::no_memory()),

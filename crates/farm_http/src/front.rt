@@ -97,6 +97,7 @@ pub(crate) fn answer_front<R: Wait, L: Link, D: Disk, B: Beginning, C: Clock>(
             pass,
             &mut kept.last,
             &mut kept.batch,
+            &mut kept.text,
             out,
             link,
             clock,

@@ -5,11 +5,13 @@ use crate::told::ToldTotals;
 use http_requests::LastHead;
 use std::alloc::Global;
 
-/// What is kept: the head that was read last, room for a batch, and the answer that told totals last.
+/// What is kept: the head that was read last, room for a batch and for the text of an answer, and the answer that told
+/// totals last.
 #[derive(Drop)]
 pub(crate) struct Kept {
     pub last: LastHead,
     pub batch: Batch,
+    pub text: String,
     pub told: Option<ToldTotals>,
 }
 
@@ -19,6 +21,7 @@ impl Kept {
         Kept {
             last: LastHead::none(),
             batch: Batch::new(alloc),
+            text: String::new(alloc),
             told: None,
         }
     }
