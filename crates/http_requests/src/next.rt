@@ -51,7 +51,8 @@ pub enum Next {
 /// Bytes that can't begin a head any more are answered at the latest when twice as many are held, when an empty line
 /// ends them, or when 8,192 are held. While one request is read, each of its bytes is looked at once, and those given
 /// to the parser are at most three times the bytes of its head: the head as a whole, and before that some of its
-/// front, each time twice as many as the last time. No byte of a body is looked at.
+/// front, each time twice as many as the last time. No byte of a body is looked at. A head that came at once is
+/// compared with the one that was read last, which is kept in `last`: one that is the same isn't given to the parser.
 pub fn next_of(
     pages: &Pages,
     reading: &mut Reading,
