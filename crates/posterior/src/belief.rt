@@ -44,9 +44,9 @@ pub enum Noted {
 #[derive(Drop)]
 pub struct Belief {
     priors: Vec<u32>,
+    powers: Powers,
     factors: Factors,
     bar: Bar,
-    powers: Powers,
     budget: u32,
     tallies: Tallies,
     sums: Sums,

@@ -9,12 +9,13 @@ ghost use Rattle.posterior.specs.Counted.{AreCleared, counted};
 use std::alloc::{AllocError, Global};
 use weight_exact::Verdict;
 
-/// How many runs failed, and how many passed, at each position from 1 to n. Up to the floor none is counted.
+/// How many runs failed, and how many passed, at each position from 1 to n. Up to the floor none is counted. All that
+/// are counted are at most the budget of a search, which fits a byte.
 #[derive(Drop)]
 pub struct Tallies {
     pub floor: u16,
-    pub fails: Vec<u32>,
-    pub passes: Vec<u32>,
+    pub fails: Vec<u8>,
+    pub passes: Vec<u8>,
     pub failed: u32,
     pub passed: u32,
     pub ghost same_length: { vec_len passes ≡ vec_len fails },
@@ -46,7 +47,7 @@ impl Tallies {
     pub fn count(&mut self, position: u16, verdict: Verdict)
         requires above { self.old.floor < position }
         requires last { position ≤ vec_len self.old.fails }
-        requires room { self.old.failed + self.old.passed + 1 < 2 ^ 32 }
+        requires room { self.old.failed + self.old.passed + 1 < 2 ^ 8 }
         ensures floor { self.new.floor ≡ self.old.floor }
         ensures fails { self.new.fails.items ≡ (if is_fail verdict
             then slice_set self.old.fails.items (position - 1) (at self.old.fails.items position + 1)
@@ -104,16 +105,16 @@ impl Tallies {
 }
 
 /// As many zeros.
-fn zeros(alloc: Global, n: usize) -> Result<Vec<u32>, AllocError>
+fn zeros(alloc: Global, n: usize) -> Result<Vec<u8>, AllocError>
     ensures { IfOk result (λ v. v.items ≡ replicate n 0) }
 {
     vec![in alloc; 0; n]
 }
 
 /// Counts one run more at a position, and gives the new number of all.
-fn count_at(counts: &mut [u32], all: u32, position: u16) -> u32
+fn count_at(counts: &mut [u8], all: u32, position: u16) -> u32
     requires all { all ≡ counted counts.old }
-    requires room { all + 1 < 2 ^ 32 }
+    requires room { all + 1 < 2 ^ 8 }
     requires first { 1 ≤ position }
     requires last { position ≤ length counts.old }
     ensures after { counts.new ≡ slice_set counts.old (position - 1) (at counts.old position + 1) }
@@ -125,7 +126,7 @@ fn count_at(counts: &mut [u32], all: u32, position: u16) -> u32
 }
 
 /// Whether nothing is counted.
-fn are_zeros(counts: &[u32]) -> bool
+fn are_zeros(counts: &[u8]) -> bool
     ensures { IsTrue result ↔ EachIndex counts.now (λ k. slice_index counts.now k ≡ 0) }
 {
     counts.iter().all(|count| *count == 0)
@@ -133,7 +134,7 @@ fn are_zeros(counts: &[u32]) -> bool
 
 /// Counts nothing any more at the positions above `start` and up to `end`, where nothing is counted below them, and
 /// gives the number of those that stay.
-fn clear_between(counts: &mut [u32], all: u32, start: usize, end: usize) -> u32
+fn clear_between(counts: &mut [u8], all: u32, start: usize, end: usize) -> u32
     requires all { all ≡ counted counts.old }
     requires none { AreCleared start counts.old }
     requires order { start ≤ end }
@@ -143,9 +144,13 @@ fn clear_between(counts: &mut [u32], all: u32, start: usize, end: usize) -> u32
     ensures all { result ≡ counted counts.new }
     ensures fewer { result ≤ all }
 {
+    // (passes are counted only where a broken test may pass)
+    if all == 0 {
+        return 0;
+    }
     let mut left = all;
     for index in start..end {
-        left -= counts[index];
+        left -= u32::from(counts[index]);
         counts[index] = 0;
     }
     left

@@ -46,10 +46,10 @@ fn is_empty(counts: Counts) -> bool
 }
 
 /// How many are counted at an index, of which the last hypothesis has none.
-fn count_in(counts: &[u32], index: usize) -> u32
+fn count_in(counts: &[u8], index: usize) -> u32
     ensures { result ≡ slice_index counts.now index }
 {
-    counts.get(index).copied().unwrap_or(0)
+    u32::from(counts.get(index).copied().unwrap_or(0))
 }
 
 /// The counts for the next hypothesis: the runs at the position just passed had its culprit out.

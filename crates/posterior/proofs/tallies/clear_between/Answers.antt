@@ -1,7 +1,17 @@
-use Rattle.std.proofs.Common.{◌≡◌, ◌+◌, ◌<◌, ◌≤◌, length, arith, ◌∙◌, ⊎_elim}
+use Rattle.std.proofs.Common.{◌≡◌, ◌+◌, ◌-◌, ◌<◌, ◌≤◌, length, arith, ◌∙◌, ⊎_elim}
 use Rattle.std.proofs.lemmas.Bool.{cases_lt}
+use Rattle.posterior.specs.Kept.{at}
+use Rattle.posterior.specs.Counted.{counted}
 use Rattle.posterior.proofs.Counting.{counted-write, at-write_other, at-write_same, get_or-le-counted}
 use Rattle.posterior.proofs.tallies.clear_between.Goals as goal
+
+pub returns-then-all-eq0-clause-cleared : goal.returns-then-all-eq0-clause-cleared
+returns-then-all-eq0-clause-cleared c p low high =
+    let xs = c.args.counts.now in
+    let short : p - 1 < length xs = omega (arith, low, high) in
+    let none : c.args.all ≡ 0 = c.if-all-eq0.true in
+    let here : at xs p ≤ counted xs = get_or-le-counted xs (p - 1) short in
+    omega (arith, here, none, c.requires.all)
 
 pub overflow_sub-left : goal.overflow_sub-left
 overflow_sub-left c =
