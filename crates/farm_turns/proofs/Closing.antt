@@ -5,17 +5,18 @@ use Rattle.farm_entry.specs.Legal.{AreNext, IsFounding, IsLegal}
 use Rattle.farm_entry.specs.declared.entry.Entry.{Entry}
 use Rattle.farm_entry.specs.declared.entry.What.{What}
 use Rattle.farm_entry.specs.declared.entry.What.TheVariants.{Founded, Opened, Leased, Reported, Cancelled, Ordered}
+use Rattle.farm_laws.proofs.Bounds.{openings-bounded}
 use Rattle.farm_laws.proofs.Induct.{IsLegal-first, IsLegal-push}
 use Rattle.turn_laws.specs.TurnOrder.{AreTurns}
 use Rattle.turn_laws.proofs.NextTurns.{founded-turns}
-use Rattle.farm_turns.specs.Moves.{MayMove, MayUndo, Turns, change_of, count_after, count_before, made, move_in, turns_in, undone}
+use Rattle.farm_turns.specs.Moves.{AreFew, MayMove, MayUndo, Turns, change_of, count_after, count_before, made, move_in, turns_in, undone}
 use Rattle.farm_turns.specs.Turns.{change_at, changes_of, no_turns, turns_after, turns_of}
 use Rattle.farm_turns.specs.TurnsInside.{AreFarmTurns}
 use Rattle.farm_turns.specs.declared.moves.Change.{Change}
 use Rattle.farm_turns.specs.declared.moves.Move.{Move}
 use Rattle.farm_turns.specs.declared.turns.FarmTurns.TheInside.{Inside}
 use Rattle.farm_turns.proofs.Folds.{changes-more, turns-more}
-use Rattle.farm_turns.proofs.Steps.{AreTurnsOf, next_number, step-of}
+use Rattle.farm_turns.proofs.Steps.{AreTurnsOf, next_number, step-of, within}
 
 -- Each legal history makes the order of its turns.
 
@@ -44,6 +45,14 @@ turns-kept (f ∷ H) legal =
     (λ G e is longer turns.
     subst (AreTurnsOf (G ++ e ∷ [])) (sym (turns-more G e)) (step-of G e (turns_of G) is longer turns).after)
     (f ∷ []) H (legal.0, tt) (founding-turns f f.what refl legal.0) legal.1
+
+-- what stands in it are searches that a farm may have
+pub few-stand : (s : Inside) (u : Turns) → AreFarmTurns s → u ≡ turns_in s.active → AreFew u
+few-stand s u f is n stands =
+    let turns : AreTurnsOf s.state u = subst (AreTurnsOf s.state) (sym (is ∙ f.turns)) (turns-kept s.state f.legal) in
+    let high = (within s.state n f.legal (turns.only n stands)).1 in
+    let few = openings-bounded s.state f.legal in
+    omega (arith, high, few)
 
 -- One entry more.
 

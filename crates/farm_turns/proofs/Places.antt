@@ -1,5 +1,5 @@
 -- A search that is moved or struck in two lists, and is put back where it stood.
-use Rattle.std.proofs.Common.{◌≡◌, ◌≢◌, ℕ, ◌<◌, ◌⊎◌, Bool, true, false, cond, List, [], ◌∷◌, refl, sym, ap, ◌∙◌, ⊎_elim, true≢false}
+use Rattle.std.proofs.Common.{◌≡◌, ◌≢◌, ℕ, ◌<◌, ◌≤◌, ◌⊎◌, inl, inr, nat_eq, Bool, true, false, cond, if◌then◌else◌, List, [], ◌∷◌, refl, sym, ap, ◌∙◌, ⊎_elim, arith, true≢false}
 use Rattle.std.proofs.lemmas.Bool.{cases_eq}
 use Rattle.active_order.specs.Order.{has, prior_of, put_behind, strike, IsOnce}
 use Rattle.active_order.proofs.Lists.{has-here, has-rest, has-there, other, same, strike-absent, strike-gone}
@@ -81,3 +81,17 @@ may-by false t u s count i o is = record {
 pub may-back : (t u : Turns) (s count : ℕ) → IsIn t s count → IsOut t u s →
     MayPutIn u count s (has s t.never) (prior_in (has s t.never) s t)
 may-back t u s count i o = may-by (has s t.never) t u s count i o refl
+
+-- What stands in front of a search is one of the list, or what stands in front of that.
+
+prior_of-le : (s a m : ℕ) (xs : List ℕ) → a ≤ m → ((n : ℕ) → has n xs ≡ true → n ≤ m) → prior_of s a xs ≤ m
+prior_of-le s a m [] low all = omega arith
+prior_of-le s a m (x ∷ xs) low all =
+    let rest : prior_of s x xs ≤ m =
+    prior_of-le s x m xs (all x (has-here x x xs refl)) (λ n there. all n (has-there n x xs there)) in
+    elim (nat_eq s x) as (λ b. cond b a (prior_of s x xs) ≤ m) [ true ↦ low | false ↦ rest ]
+
+pub prior_in-le : (fresh : Bool) (s m : ℕ) (t : Turns) → ((n : ℕ) → StandsIn t n → n ≤ m) →
+    (if fresh then prior_of s 0 t.never else prior_of s 0 t.leased) ≤ m
+prior_in-le true s m t all = prior_of-le s 0 m t.never (omega arith) (λ n there. all n (inl there))
+prior_in-le false s m t all = prior_of-le s 0 m t.leased (omega arith) (λ n there. all n (inr there))

@@ -1,5 +1,5 @@
 -- What an entry changes in the order of turns, and how that is undone.
-use Rattle.std.specs.Prelude.{ℕ, ◌≡◌, ◌+◌, ◌-◌, ◌<◌, ◌⊎◌, Bool, true, false, List, [], ◌∷◌, ◌++◌, if◌then◌else◌, Option, Some, None, ⊤}
+use Rattle.std.specs.Prelude.{ℕ, ◌≡◌, ◌+◌, ◌-◌, ◌<◌, ◌≤◌, ◌⊎◌, Bool, true, false, List, [], ◌∷◌, ◌++◌, if◌then◌else◌, Option, Some, None, ⊤}
 use Rattle.active_order.specs.Active.{Active}
 use Rattle.active_order.specs.Order.{has, prior_of, put_behind, strike}
 use Rattle.farm_entry.specs.History.{lease_of, opening_numbered}
@@ -8,6 +8,7 @@ use Rattle.farm_entry.specs.declared.entry.Entry.{Entry}
 use Rattle.farm_entry.specs.declared.entry.What.{What}
 use Rattle.farm_entry.specs.declared.entry.What.TheVariants.{Founded, Opened, Leased, Reported, Cancelled, Ordered}
 use Rattle.farm_entry.specs.declared.lease.LeasedRun.{LeasedRun}
+use Rattle.farm_entry.specs.declared.limits.TheConstants.{MAX_SEARCHES}
 use Rattle.farm_entry.specs.declared.opening.Opening.{Opening}
 use Rattle.farm_turns.specs.declared.moves.Change.{Change}
 use Rattle.farm_turns.specs.declared.moves.Change.TheVariants as change
@@ -78,6 +79,10 @@ count_after _ count = count
 
 abbrev pub StandsIn : Turns → (search : ℕ) → Type 0
 StandsIn t search = (has search t.never ≡ true) ⊎ (has search t.leased ≡ true)
+
+-- what stands in the order are searches that a farm may have
+abbrev pub AreFew : Turns → Type 0
+AreFew t = (search : ℕ) → StandsIn t search → search ≤ MAX_SEARCHES
 
 -- a search that is moved stands in the order, and one that is opened has the next number
 abbrev pub MayMove : Turns → (count : ℕ) → Move → Type 0

@@ -1,7 +1,7 @@
 //! What an entry changes in the order of turns, and how that is undone.
 
 ghost use Rattle.std.specs.Prelude.{◌≡◌, ◌≤◌, ◌+◌};
-ghost use Rattle.farm_turns.specs.Moves.{MayMove, MayUndo, StandsIn, about_move, added, change_of, count_after, count_before, is_going, made, move_in, place_of, turns_in, undone};
+ghost use Rattle.farm_turns.specs.Moves.{AreFew, MayMove, MayUndo, StandsIn, about_move, added, change_of, count_after, count_before, is_going, made, move_in, place_of, turns_in, undone};
 
 use active_order::ActiveOrder;
 use farm_entry::What;
@@ -21,7 +21,8 @@ pub(crate) enum Move {
     Touch(u32),
 }
 
-/// What was changed in the order for an entry.
+/// What was changed in the order for an entry. Each entry keeps one: since the numbers of searches fit 16 bits, it takes
+/// 8 bytes.
 #[derive(Clone, Copy)]
 pub(crate) enum Change {
     /// Nothing.
@@ -31,11 +32,11 @@ pub(crate) enum Change {
     /// A search that stood in the order was moved or struck.
     Moved {
         /// The search.
-        search: u32,
+        search: u16,
         /// Whether it had never been leased.
         fresh: bool,
         /// The search in front of it among those that shared this with it, or 0.
-        prior: usize,
+        prior: u16,
     },
 }
 
@@ -80,6 +81,7 @@ fn is_going(state: &FarmState, search: u32) -> bool
 pub(crate) fn make(active: &mut ActiveOrder, state: &FarmState, step: Move) -> Change
     requires room { 1 ≤ active.old.room }
     requires may { MayMove (turns_in active.old) active.old.count step }
+    requires few { AreFew (turns_in active.old) }
     ensures change { result ≡ change_of state.now step (turns_in active.old) }
     ensures turns { turns_in active.new ≡ made state.now step (turns_in active.old) }
     ensures count { active.new.count ≡ count_after step active.old.count }
@@ -121,14 +123,15 @@ fn add(active: &mut ActiveOrder, search: u32, goes_on: bool)
 
 /// Where a search stands in the order, as it is kept.
 fn place(active: &ActiveOrder, search: u32) -> Change
-    requires { StandsIn (turns_in active.now) search }
+    requires stands { StandsIn (turns_in active.now) search }
+    requires few { AreFew (turns_in active.now) }
     ensures { result ≡ place_of search (turns_in active.now) }
 {
     let (fresh, prior) = active.place(search as usize);
     Change::Moved {
-        search,
+        search: search as u16,
         fresh,
-        prior,
+        prior: prior as u16,
     }
 }
 
@@ -145,6 +148,6 @@ pub(crate) fn undo(active: &mut ActiveOrder, change: Change)
             search,
             fresh,
             prior,
-        } => active.put_back(search as usize, fresh, prior),
+        } => active.put_back(usize::from(search), fresh, usize::from(prior)),
     }
 }

@@ -4,7 +4,7 @@ use Rattle.farm_entry.specs.declared.entry.Entry.{Entry}
 use Rattle.farm_turns.specs.Moves.{turns_in}
 use Rattle.farm_turns.specs.declared.moves.Change.{Change}
 use Rattle.farm_turns.specs.declared.turns.FarmTurns.TheInside.{Inside}
-use Rattle.farm_turns.proofs.Closing.{may-push, pushed-turns}
+use Rattle.farm_turns.proofs.Closing.{few-stand, may-push, pushed-turns}
 use Rattle.farm_turns.proofs.Places.{same_lists}
 use Rattle.farm_turns.proofs.turns.FarmTurns.push.Goals as goal
 
@@ -18,6 +18,12 @@ make-change-requires-clause-may c =
     same_lists (turns_in c.reserve.new.self) (turns_in s.active) c.reserve.ensures.never c.reserve.ensures.leased in
     may-push s e c.move_of-step.result (turns_in c.reserve.new.self) c.reserve.new.self.count c.self.invariant longer
     c.move_of-step.ensures turns_are c.reserve.ensures.count
+
+pub make-change-requires-clause-few : goal.make-change-requires-clause-few
+make-change-requires-clause-few c =
+    let s : Inside = c.self.inside in
+    few-stand s (turns_in c.reserve.new.self) c.self.invariant
+    (same_lists (turns_in c.reserve.new.self) (turns_in s.active) c.reserve.ensures.never c.reserve.ensures.leased)
 
 pub invariant_of-self-2 : goal.invariant_of-self-2
 invariant_of-self-2 c =
