@@ -21,8 +21,8 @@ pub(crate) enum Move {
     Touch(u32),
 }
 
-/// What was changed in the order for an entry. Each entry keeps one: since the numbers of searches fit 16 bits, it takes
-/// 8 bytes.
+/// What was changed in the order for an entry. Each entry keeps one: since the numbers of searches fit 16 bits, it
+/// takes 8 bytes.
 #[derive(Clone, Copy)]
 pub(crate) enum Change {
     /// Nothing.

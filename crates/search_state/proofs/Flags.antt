@@ -58,7 +58,8 @@ searching-parts s h =
     record { uncancelled = parts.0; within = parts.1; none = parts.2 }
 
 -- no hypothesis is at the bar of one that goes by its belief
-pub searching-none : (o : Opening) (again : List Run) (n : Option ℕ) → standing_of_reached o again n ≡ Searching → n ≡ None
+pub searching-none : (o : Opening) (again : List Run) (n : Option ℕ) → standing_of_reached o again n ≡ Searching →
+    n ≡ None
 searching-none o again n h = (parts-searching o false false again n h).2
 
 -- What verifies a suspect.
