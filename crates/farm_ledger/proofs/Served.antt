@@ -15,7 +15,7 @@ use Rattle.farm_entry.specs.History.{cancelled_in, lease_in, lease_of, opening_i
 use Rattle.farm_entry.specs.Legal.{IsLegal}
 use Rattle.farm_entry.specs.Orders.{confirmed_at, confirmed_searches, orders}
 use Rattle.farm_entry.specs.Setup.{commit_of}
-use Rattle.farm_entry.specs.Standing.{standing}
+use Rattle.farm_entry.specs.Standing.{is_confirmed, standing}
 use Rattle.farm_entry.specs.declared.entry.Entry.{Entry}
 use Rattle.farm_entry.specs.declared.entry.What.{What}
 use Rattle.farm_entry.specs.declared.entry.What.TheVariants.{Founded, Opened, Leased, Reported, Cancelled, Ordered}
@@ -70,6 +70,48 @@ waiting-read H X number o v s x same known has stands is =
     let stands_so : s ≡ standing H o = stands ∙ ap (λ (w : SearchView). standing_in w) view in
     ap (waiting_in H) (sym known)
     ∙ ap (unordered (orders H)) (sym (is ∙ ap (λ (t : Standing). confirmed_at t o) stands_so))
+
+-- one that isn't there waits for none, nor one that isn't confirmed
+waiting-none : (H X : List Entry) (number : ℕ) (x : Option Opening) → X ≡ H → opening_numbered H number ≡ x →
+    option_map (seen X) (opening_numbered X number) ≡ None → waiting_in H x ≡ None
+waiting-none H X number None same is none = refl
+waiting-none H X number (Some o) same is none =
+    absurd (none-some (seen H o) (sym none
+    ∙ ap (λ (Y : List Entry). option_map (seen Y) (opening_numbered Y number)) same
+    ∙ ap (option_map (seen H)) is))
+
+pub waiting-unknown : (H X : List Entry) (number : ℕ) → X ≡ H → option_map (seen X) (opening_numbered X number) ≡ None →
+    waiting_numbered H number ≡ None
+waiting-unknown H X number same none = waiting-none H X number (opening_numbered H number) same refl none
+
+unconfirmed-none : (s : Standing) (o : Opening) → is_confirmed s ≡ false → confirmed_at s o ≡ None
+unconfirmed-none (standings.Confirmed culprit) o other = absurd (true≢false other)
+unconfirmed-none standings.Searching o other = refl
+unconfirmed-none (standings.Verifying i) o other = refl
+unconfirmed-none (standings.Vindicated i) o other = refl
+unconfirmed-none standings.NoCulprit o other = refl
+unconfirmed-none standings.Inconclusive o other = refl
+unconfirmed-none standings.Cancelled o other = refl
+
+unconfirmed-in : (H X : List Entry) (number : ℕ) (x : Option Opening) (v : SearchView) (s : Standing) → X ≡ H →
+    opening_numbered H number ≡ x → Some v ≡ option_map (seen X) (opening_numbered X number) → s ≡ standing_in v →
+    is_confirmed s ≡ false → waiting_in H x ≡ None
+unconfirmed-in H X number None v s same is has stands other = refl
+unconfirmed-in H X number (Some o) v s same is has stands other =
+    let held : Some v ≡ Some (seen H o) =
+    has
+    ∙ ap (λ (Y : List Entry). option_map (seen Y) (opening_numbered Y number)) same
+    ∙ ap (option_map (seen H)) is in
+    let view : v ≡ seen H o = cc in
+    let stands_so : s ≡ standing H o = stands ∙ ap (λ (w : SearchView). standing_in w) view in
+    ap (unordered (orders H))
+    (unconfirmed-none (standing H o) o (subst (λ (t : Standing). is_confirmed t ≡ false) stands_so other))
+
+pub waiting-unconfirmed : (H X : List Entry) (number : ℕ) (v : SearchView) (s : Standing) → X ≡ H →
+    Some v ≡ option_map (seen X) (opening_numbered X number) → s ≡ standing_in v → is_confirmed s ≡ false →
+    waiting_numbered H number ≡ None
+waiting-unconfirmed H X number v s same has stands other =
+    unconfirmed-in H X number (opening_numbered H number) v s same refl has stands other
 
 pub unordered-by : (H : List Entry) (os : List rules.Ordered) (c : Candidate) (b : Bool) → os ≡ orders H →
     has_order os c.commit ≡ b → unordered (orders H) (Some c) ≡ (if b then None else Some c)

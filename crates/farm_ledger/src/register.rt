@@ -111,13 +111,18 @@ impl Register {
     pub(crate) fn waiting(&self, number: u32) -> Option<Candidate>
         ensures { result ≡ waiting_numbered self.now number }
     {
-        let Some(opening) = self.opening(number) else {
-            return None;
-        };
+        // (most searches aren't confirmed, so their openings aren't looked at)
         let Some(search) = self.state().search(number) else {
             return None;
         };
-        let Some(candidate) = confirmed_at(search.standing(), opening) else {
+        let standing = search.standing();
+        if !standing.is_confirmed() {
+            return None;
+        }
+        let Some(opening) = self.opening(number) else {
+            return None;
+        };
+        let Some(candidate) = confirmed_at(standing, opening) else {
             return None;
         };
         if self.orders.has_order(candidate.commit) {
