@@ -26,9 +26,9 @@ pub fn due_search(plan: &[u16], outstanding: &[u16]) -> Option<u16>
     None
 }
 
-/// Whether the next entry of a plan, at `position`, is left, where outstanding runs stand for each entry `before` it: it
-/// is, where as many entries before it stand at its position as runs are outstanding there. What comes after it in the
-/// plan doesn't matter, so a plan can be made entry by entry, up to the one that is due.
+/// Whether the next entry of a plan, at `position`, is left, where outstanding runs stand for each entry `before` it:
+/// it is, where as many entries before it stand at its position as runs are outstanding there. What comes after it in
+/// the plan doesn't matter, so a plan can be made entry by entry, up to the one that is due.
 pub fn is_left(position: u16, before: &[u16], outstanding: &[u16]) -> bool
     requires { struck before.now outstanding.now ≡ [] }
     ensures left { result ≡ true → (after : List ℕ) →
