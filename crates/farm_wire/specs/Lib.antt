@@ -1,3 +1,4 @@
+pub mod Bodies
 pub mod Dates
 pub mod Fields
 pub mod Forms
@@ -8,4 +9,3 @@ pub mod Pieces
 pub mod Reading
 pub mod Refusals
 pub mod Replies
-pub mod Bodies
