@@ -104,7 +104,7 @@ more-none H (e ∷ more) few = absurd (omega (arith, few, length-append H (e ∷
 
 module _ {D : Type 0} (old mid new : StoreState D) (none : mid.pending ≡ [])
     (repaired : IsRepaired old mid.history) where
-  repaired-on : (H : List Entry) → IsRepaired mid H → IsRepaired old H
+  pub repaired-on : (H : List Entry) → IsRepaired mid H → IsRepaired old H
   repaired-on H found = subst (λ (l : List Entry). IsRepaired old l) (sym (repaired-idle mid H none found)) repaired
 
   -- what was decided after a repair

@@ -30,7 +30,8 @@ use Rattle.farm_store.specs.declared.asking.Answer.TheVariants as answer
 use Rattle.farm_store.specs.declared.asking.Ask.{Ask}
 use Rattle.farm_store.specs.declared.asking.CallFault.{CallFault}
 use Rattle.farm_store.specs.declared.asking.CallFault.TheVariants as fault
-use Rattle.farm_store.proofs.Calls.{Grows, undecided-none, undecided-some}
+use Rattle.farm_store.specs.declared.asking.TheConstants.{MAX_RECORD}
+use Rattle.farm_store.proofs.Calls.{Grows, history_after-grows, undecided-none, undecided-some}
 use Rattle.farm_store.proofs.Repairs.{leaves-idle-view}
 
 -- a decision keeps a history legal
@@ -46,6 +47,10 @@ history_after-legal H [] legal = legal
 history_after-legal H (ask ∷ asks) legal =
     history_after-legal (after H (decide H ask.command ask.at)) asks
     (after-legal H ask.command ask.at (decide H ask.command ask.at) refl legal)
+
+-- asks add one entry each at most
+pub grows-by : (H K : List Entry) (asks : List Ask) → K ≡ history_after H asks → Grows H K (length asks)
+grows-by H K asks is = subst (λ (l : List Entry). Grows H l (length asks)) (sym is) (history_after-grows H asks)
 
 -- a refusal adds nothing
 pub refused-after : (H : List Entry) (d : Decision) (x : Refusal) → IsAnswer H d (answer.Refused x) → after H d ≡ H
@@ -131,7 +136,7 @@ module _ {D : Type 0} (tells : D → Bool) (told : D → DiskState) (farm : Farm
     long = ap length grows.longer ∙ length-append farm.history grows.more
 
     -- the farm is ahead of its journal by what was added
-    pub ahead : (start : ℕ) → start ≡ length farm.history → most ≤ 16 → IsLegal farm'.history
+    pub ahead : (start : ℕ) → start ≡ length farm.history → most ≤ MAX_RECORD → IsLegal farm'.history
         → IsAhead tells told start farm' journal
     ahead start is few legal =
         let some = grows.few in

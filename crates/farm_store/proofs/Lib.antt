@@ -8,4 +8,5 @@ pub mod GoingOn
 pub mod Repairs
 pub mod Spellings
 pub mod Standing
+pub mod Together
 pub mod Crossing

@@ -18,6 +18,7 @@ use Rattle.farm_journal.specs.declared.layout.TheConstants.{FIRST_GATE, GATE_LIM
 use Rattle.farm_journal.proofs.Scan.{gate_of-push}
 use Rattle.farm_store.specs.Bytes.{Spells, joined}
 use Rattle.farm_store.specs.StoreInside.{Keeps}
+use Rattle.farm_store.specs.declared.asking.TheConstants.{MAX_RECORD}
 
 -- the bytes of all payloads, one after the other
 abbrev all_bytes : List (List ℕ) → List ℕ
@@ -120,9 +121,9 @@ keeps-room payloads H keeps =
     let few : length H ≤ MAX_ENTRIES = entries-bounded H keeps.legal in
     omega (arith, low, few)
 
--- the entries of a batch fit a record
+-- as many entries as a record may have fit its payload
 pub batch-fits : (entries : List Entry) (p : List ℕ) → AreSpelled entries → p ≡ spelling entries → entries ≢ []
-    → length entries ≤ 16 → IsPayload p
+    → length entries ≤ MAX_RECORD → IsPayload p
 batch-fits entries p spelled is some few =
     let size : length p ≡ length (spelling entries) = ap length is in
     let short : length (spelling entries) ≤ length entries * MAX_ENTRY_BYTES = spelling-short entries spelled in

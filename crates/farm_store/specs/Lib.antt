@@ -8,3 +8,4 @@ pub mod Opened
 pub mod Recorded
 pub mod State
 pub mod StoreInside
+pub mod Together

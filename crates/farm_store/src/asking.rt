@@ -8,6 +8,9 @@ use thiserror::Error;
 /// The most asks of one batch. The fewest is one.
 pub const MAX_BATCH: usize = 16;
 
+/// The most asks of the callers who share a record, all together: the longest entries of as many fit its payload.
+pub const MAX_RECORD: usize = 40;
+
 /// A command, and the moment at which it is asked.
 #[derive(Debug, Drop)]
 pub struct Ask {
@@ -28,6 +31,17 @@ pub enum Answer {
 
 /// The answers to a batch, one for each ask, in their order.
 pub type Answers = ItemList<Answer>;
+
+/// The asks of one caller among those who share a record, and what they were answered.
+#[derive(Debug, Drop)]
+pub struct Part {
+    /// What is asked.
+    pub asks: Vec<Ask>,
+    /// The answers, one for each ask, in their order. Before the call they may be any.
+    pub answers: Answers,
+    /// How many entries the history has right after the last of these asks. Before the call it may be any number.
+    pub end: usize,
+}
 
 /// Why a call was not answered.
 #[derive(Clone, Copy, Debug, PartialEq, Eq, Error)]

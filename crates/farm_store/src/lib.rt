@@ -3,12 +3,13 @@
 //! A [`Store`] is a farm in memory over a journal. A command that records something is answered once its entry is
 //! stored in a record of its own, and a list of asks once the new entries of all of them are stored in one record, so
 //! that a crash leaves all of these or none. Where the disk fails, it is undecided whether the record was kept: its
-//! entries are pending, and the next call begins by finding out, before anything else is decided. [`answer`] answers a
-//! command by a farm in memory alone, as a store does before it writes, for a farm that has no disk.
+//! entries are pending, and the next call begins by finding out, before anything else is decided. Several callers can
+//! share a record: their asks, each caller's a [`Part`], are answered one after the other, and stored at once. [`answer`]
+//! answers a command by a farm in memory alone, as a store does before it writes, for a farm that has no disk.
 //!
 //! The crate stands on `farm_core` for the farm, on `farm_journal` and `farm_disk` for the records and what a crash may
 //! leave of them, and on `entry_codec` for entries as bytes. The layers above may use every name below; clauses above
-//! cite `specs/` (`Bytes`, `Damage`, `State`, `Answering`, `Opened`, `Founded`, `Faults`).
+//! cite `specs/` (`Bytes`, `Damage`, `State`, `Answering`, `Together`, `Opened`, `Founded`, `Faults`).
 #![tactic(auto)]
 
 mod admitting;
@@ -22,6 +23,6 @@ mod store;
 
 pub use admitting::farm_of;
 pub use answering::answer;
-pub use asking::{Answer, Answers, Ask, CallFault, MAX_BATCH};
+pub use asking::{Answer, Answers, Ask, CallFault, MAX_BATCH, MAX_RECORD, Part};
 pub use farm_journal::{CreateFault, OpeningFault};
 pub use store::Store;

@@ -7,7 +7,7 @@ ghost use Rattle.entry_codec.specs.Grammar.{IsWithinLimits};
 ghost use Rattle.farm_store.specs.Faults.{HasCountFrom, IsOfStore, OnCallFault, OnCallMemory};
 ghost use Rattle.farm_store.specs.Recorded.{IsOpen, LeavesNew, Wrote};
 ghost use Rattle.farm_store.specs.StoreInside.{IsAhead, IsStore};
-ghost use Rattle.farm_store.specs.declared.asking.TheConstants.{MAX_BATCH};
+ghost use Rattle.farm_store.specs.declared.asking.TheConstants.{MAX_RECORD};
 
 use crate::asking::CallFault;
 use entry_codec::write_entries_into;
@@ -69,7 +69,7 @@ fn write_new<D: Disk>(
 ) -> Result<(), CallFault>
     requires open { IsOpen D.tells D.told journal.old }
     requires within { All (λ entry. IsWithinLimits entry.what) entries.now }
-    requires few { length entries.now ≤ MAX_BATCH }
+    requires few { length entries.now ≤ MAX_RECORD }
 
     ensures same { D.tells journal.new.disk ≡ D.tells journal.old.disk }
     ensures wrote { Wrote D.tells D.told entries.now result journal.old journal.new }

@@ -12,6 +12,7 @@ ghost use Rattle.std.specs.Prelude.{
   false,
   List,
   length,
+  map,
   IfOk,
   IfErr,
   OnOk,
@@ -32,11 +33,12 @@ ghost use Rattle.farm_store.specs.Faults.{HasCallCause, HasCountFrom};
 ghost use Rattle.farm_store.specs.Founded.{Founds, IsUnbornOrFounding, disk_founded, founding};
 ghost use Rattle.farm_store.specs.Opened.{OpensTo, disk_opened};
 ghost use Rattle.farm_store.specs.State.{IsLeft, IsRepaired, IsStored, IsWithOrWithout};
-ghost use Rattle.farm_store.specs.declared.asking.TheConstants.{MAX_BATCH};
+ghost use Rattle.farm_store.specs.Together.{TogetherSays, all_asks};
+ghost use Rattle.farm_store.specs.declared.asking.TheConstants.{MAX_BATCH, MAX_RECORD};
 
 use crate::admitting::farm_of;
-use crate::answering::{answer, answer_all};
-use crate::asking::{Answer, Answers, Ask, CallFault};
+use crate::answering::{answer, answer_all, answer_parts};
+use crate::asking::{Answer, Answers, Ask, CallFault, Part};
 use crate::founding::found;
 use crate::recording::record_from;
 use crate::showing::page_in;
@@ -243,6 +245,50 @@ impl<D: Disk> Store<D> {
         answered
     }
 
+    /// Answers 1 to `MAX_RECORD` asks of several callers as batches one after the other would, but for this: the new
+    /// entries of all of them are stored in one record, before any caller's answers are given. So a crash leaves all of
+    /// them or none. A part keeps its asks, and is given the answers to these and the end of the history that they leave.
+    ///
+    /// # Errors
+    ///
+    /// [`CallFault::StoreFault`] or [`CallFault::Memory`], of all parts, as of a single call; what then stands in them as
+    /// answers and ends means nothing. A refusal is an answer.
+    pub fn call_together(&mut self, alloc: Global, parts: &mut [Part]) -> Result<(), CallFault>
+        requires some { 1 ≤ length (all_asks parts.old) }
+        requires few { length (all_asks parts.old) ≤ MAX_RECORD }
+
+        ensures same { D.tells self.new.disk ≡ D.tells self.old.disk }
+        ensures says { TogetherSays parts.old parts.new result self.old self.new }
+        ensures asks { map (λ part. part.asks) parts.new ≡ map (λ part. part.asks) parts.old }
+        ensures longer { (more : List Entry) × (self.new.history ≡ self.old.history ++ more) }
+        ensures legal { IsLegal (self.new.history ++ self.new.pending) }
+
+        ensures any_moment { D.tells self.old.disk ≡ true
+            → LeavesOnly (D.told self.old.disk) (D.told self.new.disk) (IsLeft self.old self.new) }
+        ensures stored { D.tells self.old.disk ≡ true
+            → IsStored self.new.history self.new.pending (D.told self.new.disk) }
+        ensures untouched { self.old.pending ≡ [] → self.new.history ≡ self.old.history
+            → OnOk result (self.new.disk ≡ self.old.disk) }
+        ensures only { D.tells self.old.disk ≡ true → self.new.recorded ≡ 0
+            → OnOk result (ReadsOnly (D.told self.old.disk) (D.told self.new.disk)) }
+        ensures two_calls { D.tells self.old.disk ≡ true → self.old.pending ≢ [] → self.new.recorded ≡ 0
+            → OnOk result (moment (D.told self.new.disk) ≡ moment (D.told self.old.disk) + 2) }
+        ensures new_version { D.tells self.old.disk ≡ true → length self.old.history < length self.new.history
+            → OnOk result (version_of (D.told self.new.disk).bytes ≡ 2) }
+
+        ensures cause { HasCallCause result (D.count self.old.disk) (D.count self.new.disk) }
+        ensures never_falls { D.count self.old.disk ≤ D.count self.new.disk }
+    {
+        let before = self.faults();
+        if let Err(fault) = self.repair(before) {
+            self.tell();
+            return Err(fault);
+        }
+        let answered = self.decide_together(alloc, parts, before);
+        self.tell();
+        answered
+    }
+
     /// The history, without what is pending.
     pub fn history(&self) -> &[Entry]
         ensures value { result.now ≡ self.now.history }
@@ -421,6 +467,48 @@ impl<D: Disk> Store<D> {
                 )?;
                 self.recorded = self.farm.history().len() - start;
                 Ok(Answers::of(answers))
+            }
+            Err(_) => {
+                self.farm.retract(self.farm.history().len() - start);
+                Err(CallFault::Memory)
+            }
+        }
+    }
+
+    /// Answers the asks of several callers while nothing is pending.
+    fn decide_together(
+        &mut self,
+        alloc: Global,
+        parts: &mut [Part],
+        before: u64,
+    ) -> Result<(), CallFault>
+        requires decided { self.old.pending ≡ [] }
+        requires none_recorded { self.old.recorded ≡ 0 }
+        requires few { length (all_asks parts.old) ≤ MAX_RECORD }
+        ensures same { D.tells self.new.disk ≡ D.tells self.old.disk }
+        ensures says { TogetherSays parts.old parts.new result self.old self.new }
+        ensures asks { map (λ part. part.asks) parts.new ≡ map (λ part. part.asks) parts.old }
+        ensures any_moment { D.tells self.old.disk ≡ true
+            → LeavesOnly (D.told self.old.disk) (D.told self.new.disk) (IsLeft self.old self.new) }
+        ensures untouched { self.new.history ≡ self.old.history → OnOk result (self.new.disk ≡ self.old.disk) }
+        ensures new_version { D.tells self.old.disk ≡ true → length self.old.history < length self.new.history
+            → OnOk result (version_of (D.told self.new.disk).bytes ≡ 2) }
+        ensures cause { HasCountFrom before result (D.count self.old.disk) (D.count self.new.disk) }
+        ensures never_falls { D.count self.old.disk ≤ D.count self.new.disk }
+    {
+        let start = self.farm.history().len();
+        match answer_parts(alloc, &mut self.farm, parts) {
+            Ok(()) => {
+                record_from(
+                    alloc,
+                    &mut self.payload,
+                    &mut self.farm,
+                    &mut self.journal,
+                    start,
+                    before,
+                )?;
+                self.recorded = self.farm.history().len() - start;
+                Ok(())
             }
             Err(_) => {
                 self.farm.retract(self.farm.history().len() - start);

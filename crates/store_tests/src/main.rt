@@ -8,11 +8,13 @@ mod faults;
 mod images;
 mod openings;
 mod plays;
+mod sharing;
 mod words;
 
 use faults::play_faults;
 use openings::play_open;
 use plays::{play_batches, play_calls, play_found};
+use sharing::play_together;
 use std::alloc::Global;
 use std::io;
 use words::word;
@@ -25,6 +27,7 @@ fn play(rt: &impl Print, alloc: Global, line: &str) -> io::Result<()> {
         "open" => play_open(rt, alloc, rest),
         "calls" => play_calls(rt, alloc, first, second),
         "batches" => play_batches(rt, alloc, first, second),
+        "together" => play_together(rt, alloc, first, second),
         "calls_with_faults" => play_faults(rt, alloc, false, first, second),
         "batches_with_faults" => play_faults(rt, alloc, true, first, second),
         _ => println!(rt; "{line}"),

@@ -72,14 +72,14 @@ fn print_reply(rt: &impl Print, reply: &Reply) -> io::Result<()> {
     }
 }
 
-fn print_answer(rt: &impl Print, answer: &Answer) -> io::Result<()> {
+pub(crate) fn print_answer(rt: &impl Print, answer: &Answer) -> io::Result<()> {
     match answer {
         Answer::Done(reply) => print_reply(rt, reply),
         Answer::Refused(refusal) => print!(rt; "{refusal:?}"),
     }
 }
 
-fn print_fault(rt: &impl Print, fault: CallFault) -> io::Result<()> {
+pub(crate) fn print_fault(rt: &impl Print, fault: CallFault) -> io::Result<()> {
     match fault {
         CallFault::Refused(refusal) => print!(rt; "{refusal:?}"),
         CallFault::StoreFault { before, after } => print!(rt; "fault {before} to {after}"),
@@ -149,7 +149,7 @@ fn print_payloads(
 }
 
 /// Prints what the file of a store holds: its payloads, its entries, and those of the images of a crash.
-fn print_held(rt: &impl Print, alloc: Global, disk: MemDisk) -> io::Result<()> {
+pub(crate) fn print_held(rt: &impl Print, alloc: Global, disk: MemDisk) -> io::Result<()> {
     match Store::open_on(alloc, CalmDisk::of(image_of(&disk)?)) {
         Ok(store) => {
             let printed = print_images(rt, alloc, &disk, store.history());

@@ -1,5 +1,5 @@
 -- What each end of deciding a list of asks came to, by the lemmas of `Decided`.
-use Rattle.std.proofs.Common.{◌≡◌, ◌-◌, List, length, sym, ap, subst}
+use Rattle.std.proofs.Common.{◌≡◌, ◌-◌, List, length, sym, ap, subst, arith}
 use Rattle.farm_entry.specs.Legal.{IsLegal}
 use Rattle.farm_entry.specs.declared.entry.Entry.{Entry}
 use Rattle.farm_store.specs.StoreInside.{store_view}
@@ -23,9 +23,10 @@ record_from-requires g c =
     let is : start ≡ length farm.history = ap length c.history-start.ensures.value in
     let legal : IsLegal farm'.history = subst IsLegal (sym c.in-Ok.ensures.history)
     (history_after-legal farm.history asks c.self.invariant.keeps.legal) in
+    let few = c.requires.few in
     record {
       ahead = ahead t d farm journal c.self.invariant c.self.inside.recorded s c.self.view_is c.requires.decided
-          farm' most grows start is c.requires.few legal;
+          farm' most grows start is (omega (arith, few)) legal;
     }
 
 pub returns-in_err-record_from-in-Ok-clause-any_moment : goal.returns-in_err-record_from-in-Ok-clause-any_moment
