@@ -20,6 +20,11 @@ const NEAR_LOOKS: u64 = 20;
 /// With so many pauses of the processor after each.
 const PAUSES: u32 = 4;
 
+/// Whether the caller with this number waits as if turns were short.
+pub fn is_trial(ticket: u64) -> bool {
+    ticket % TRIAL == 0
+}
+
 /// How often the callers of a lock look before they sleep, by how their latest waits went: where one had to sleep, half
 /// as often, and where one came to its turn by looking, as often as ever.
 #[derive(Drop)]
@@ -40,7 +45,7 @@ impl SpinLimit {
     }
 
     fn of(&self, ticket: u64) -> u64 {
-        if ticket % TRIAL == 0 {
+        if is_trial(ticket) {
             MOST_LOOKS
         } else {
             self.looks.load(Ordering::SeqCst)

@@ -1,0 +1,226 @@
+-- The steps by which a turn goes on from one caller to another keep the rule of the lock.
+use Rattle.std.proofs.Common.{◌≡◌, ◌≢◌, ◌⊎◌, ◌++◌, ◌∷◌, [], List, Option, Some, None, ℕ, length, take, get_or, set, ◌≤◌, arith, sym, refl, ap, ◌∙◌, subst, inl, inr, ⊎_elim, le_refl}
+use Rattle.std.specs.Prelude.{IfSome}
+use Rattle.std.proofs.lemmas.Option.{none-some, same_Some}
+use mathlib.Core.Option.{some, none}
+use lib.ListN.{get_elem?}
+use lib.Seq.{set-get_or}
+use Rattle.atomic_table.specs.Table.{State, Me, keeps, step, Allows, Splits, Joins}
+use Rattle.atomic_table.proofs.Lists.{at_set, set_else, at_longer}
+use Rattle.farm_entry.specs.declared.entry.Entry.{Entry}
+use Rattle.list_prefix.specs.Prefix.{IsPrefix}
+use Rattle.list_prefix.proofs.Prefixes.{IsPrefix-refl, IsPrefix-nil}
+use Rattle.turn_lock.specs.Known.{IsSettled}
+use Rattle.turn_lock.specs.Places.{ArePlaces}
+use Rattle.turn_lock.specs.Rule.{HasTicket, HasPlace, ArePlacesApart, IsSeenBy, IsHome, IsOut, IsKept}
+use Rattle.turn_lock.specs.Steps.{Notes, Meets}
+use Rattle.turn_lock.specs.Views.{idle_again, noted, spent, turn_alone, taken_over}
+use Rattle.turn_lock.specs.declared.view.Home.{Home}
+use Rattle.turn_lock.specs.declared.view.Taken.{Taken}
+use Rattle.turn_lock.specs.declared.view.View.{View}
+use Rattle.turn_lock.proofs.Keeps.{IsSomewhere-set, IsSomewhere-push, unmoved}
+use Rattle.turn_lock.proofs.Parts.{both_ways, AreTickets-same, AreTickets-push, ArePlacesApart-set, ArePlacesApart-recorded, IsSeenBy-set, IsSeenBy-grown}
+use Rattle.turn_lock.proofs.Rows.{at-lt-length, set-comm, set-snoc, Each-set, Each-set_else, Each-push, Some_seat-set, Some_seat-here, Apart-push_new}
+
+module _ {T : Type 0} (entries : T → List Entry) (count : T → ℕ) (pending : T → List Entry) where
+  abbrev St : Type 0
+  St = State (Option (Home T)) View
+
+  abbrev Seat : Type 0
+  Seat = Me (Option (Home T)) View
+
+  abbrev table : List ℕ → List (mathlib.Core.Option.Option (Option (Home T))) → List View → St
+  table words homes views = record { words = words; homes = homes; views = views }
+
+  abbrev IsKeptIn : St → Type 0
+  IsKeptIn = IsKept entries count pending
+
+  abbrev IsSomewhere : St → Type 0
+  IsSomewhere s = IsHome entries count pending s ⊎ IsOut s
+
+  abbrev Joined : View → Type 0
+  Joined v = IfSome v.joined (λ two. IsPrefix two.0 v.seen × IsPrefix two.1 v.seen)
+
+  -- a seat took the value for which a number stands, if it took it
+  abbrev Serves : ℕ → Taken → View → Type 0
+  Serves served taken v = (t : Taken) → v.taken ≡ Some t → (t ≡ taken) × HasTicket v served
+
+  -- the value stays where it is while what a seat knows changes and its turn doesn't
+  IsSomewhere-same : (s : St) (id : ℕ) (v w : View) → get_elem? s.views id ≡ some v → v.ticket ≡ w.ticket
+      → v.taken ≡ w.taken
+      → ((all : List Entry) (c : ℕ) (o : List Entry) → IsSeenBy s.views all c o
+      → IsPrefix w.seen all × (w.faults ≤ c) × IsSettled w.pending w.faults c o)
+      → IsSomewhere s → IsSomewhere (table s.words s.homes (set s.views id w))
+  IsSomewhere-same s id v w at number turn sees where_it_is = ⊎_elim
+      (λ (h : IsHome entries count pending s).
+      let r = sees (entries h.home.value) (count h.home.value) (pending h.home.value) h.seen in
+      inl record {
+        home = h.home;
+        there = h.there;
+        seen = IsSeenBy-set s.views (entries h.home.value) (count h.home.value) (pending h.home.value) id w r.0 r.1 r.2
+            h.seen;
+        nobody = Each-set s.views (λ u. u.taken ≡ None) id w h.nobody (sym turn ∙ h.nobody id v at);
+      })
+      (λ (o : IsOut s).
+      let r = sees o.taken.entries o.taken.count o.taken.pending o.seen in
+      inr record {
+        taken = o.taken;
+        holder = Some_seat-set s.views (λ u. u.taken ≡ Some o.taken) id v w at (λ has. sym turn ∙ has) o.holder;
+        seen = IsSeenBy-set s.views o.taken.entries o.taken.count o.taken.pending id w r.0 r.1 r.2 o.seen;
+        served = Each-set s.views (Serves (get_or s.words 1 0) o.taken) id w o.served
+            (λ t has. let it = o.served id v at t (turn ∙ has) in (it.0, sym number ∙ it.1));
+      })
+      where_it_is
+
+  -- nothing is seen by a seat that is spent
+  nothing_seen : (all : List Entry) (c : ℕ) (o : List Entry)
+      → IsPrefix spent.seen all × (spent.faults ≤ c) × IsSettled spent.pending spent.faults c o
+  nothing_seen all c o = (IsPrefix-nil all, omega arith, λ e _ _. absurd (none-some [] e))
+
+  noting : (s : St) (k : IsKeptIn s) (id : ℕ) (v : View) (now : List Entry) (own : List ℕ) (c : ℕ) (p : List Entry)
+      (o : IsOut s) → get_elem? s.views id ≡ some v → HasTicket v (get_or s.words 1 0) → IsPrefix o.taken.entries now
+      → o.taken.count ≤ c → IsSettled (Some o.taken.pending) o.taken.count c p
+      → ArePlaces (length o.taken.entries) (length now) own
+      → IsKeptIn (table s.words s.homes (set s.views id (noted now own c p v)))
+  noting s k id v now own c p o at mine grown at_least settled places =
+      let served : ℕ = get_or s.words 1 0 in
+      let w : View = noted now own c p v in
+      let t : Taken = record { entries = now; count = c; pending = p } in
+      record {
+        words = k.words;
+        tickets = AreTickets-same served (get_or s.words 0 0) s.views id v w at refl k.tickets;
+        places = ArePlacesApart-recorded s.views id v w o.taken.entries now own at refl refl o.seen.seen grown places
+            k.places;
+        value = inr record {
+          taken = t;
+          holder = Some_seat-here s.views (λ u. u.taken ≡ Some t) id v w at refl;
+          seen = IsSeenBy-set s.views now c p id w (IsPrefix-refl now) (le_refl c) (λ e _ _. same_Some p [] e)
+              (IsSeenBy-grown s.views o.taken.entries now o.taken.count c o.taken.pending p grown at_least settled
+              o.seen);
+          served = Each-set_else s.views (Serves served t) id w
+              (λ i u ne a x has. absurd (ne (k.tickets.apart i id u v served a at (o.served i u a x has).1 mine)))
+              (λ x has. (sym (same_Some t x has), mine));
+        };
+        joined = Each-set s.views Joined id w k.joined tt;
+      }
+
+  -- note what the value stands for now
+  pub notes : (id : ℕ) (v : View) (home : Home T) (t : Taken) → v.taken ≡ Some t
+      → IsPrefix t.entries (take home.shown (entries home.value)) → t.count ≤ count home.value
+      → IsSettled (Some t.pending) t.count (count home.value) (pending home.value)
+      → ArePlaces (length t.entries) (length (take home.shown (entries home.value))) home.own
+      → Allows IsKeptIn 1 id (v, (0, Some home) ∷ []) 1 (λ n. n)
+      (Notes entries count pending (step 1 1 0 0 none) (v, (0, Some home) ∷ []))
+  notes id v home t has grown at_least settled own s k one at fits = ⊎_elim
+      (λ (h : IsHome entries count pending s). absurd (both_ways v.taken t (h.nobody id v at) has))
+      (λ (o : IsOut s).
+      let it = o.served id v at t has in
+      let now : List Entry = take home.shown (entries home.value) in
+      let w : View = noted now home.own (count home.value) (pending home.value) v in (
+        w,
+        keeps,
+        tt,
+        subst (λ (ws : List ℕ). IsKeptIn (table ws s.homes (set s.views id w))) (sym (set-get_or s.words 1 0))
+            (noting s k id v now home.own (count home.value) (pending home.value) o at it.1
+            (subst (λ (x : Taken). IsPrefix x.entries now) it.0 grown)
+            (subst (λ (x : Taken). x.count ≤ count home.value) it.0 at_least)
+            (subst (λ (x : Taken). IsSettled (Some x.pending) x.count (count home.value) (pending home.value)) it.0
+            settled)
+            (subst (λ (x : Taken). ArePlaces (length x.entries) (length now) home.own) it.0 own)),
+        (home, refl, refl),
+      ))
+      k.value
+
+  -- what a seat knows goes to a new one, and its turn stays
+  pub leaves : (id : ℕ) (v : View) → Splits IsKeptIn id v (turn_alone v) (idle_again v)
+  leaves id v s k at =
+      let u : View = turn_alone v in
+      let w : View = idle_again v in
+      let views : List View = set s.views id u in
+      let in_both : get_elem? (s.views ++ w ∷ []) id ≡ some v = at_longer s.views (w ∷ []) id v at in
+      record {
+        words = k.words;
+        tickets = AreTickets-push (get_or s.words 1 0) (get_or s.words 0 0) views w refl
+            (AreTickets-same (get_or s.words 1 0) (get_or s.words 0 0) s.views id v u at refl k.tickets);
+        places = record {
+          within = Each-push views (λ x. ArePlaces 0 (length x.seen) x.mine) w
+              (Each-set s.views (λ x. ArePlaces 0 (length x.seen) x.mine) id u k.places.within tt)
+              (k.places.within id v at);
+          apart = Apart-push_new views HasPlace w
+              (ArePlacesApart-set s.views id v u at tt (λ n one. absurd one) k.places).apart
+              (λ n i x had a one. ⊎_elim
+              (λ (e : (i ≡ id) × (u ≡ x)). subst (λ (y : View). HasPlace y n) (sym e.1) one)
+              (λ (e : (i ≢ id) × (get_elem? s.views i ≡ some x)). e.0 (k.places.apart i id x v n e.1 at one had))
+              (at_set s.views id i u x a));
+        };
+        value = subst (λ (vs : List View). IsSomewhere (table s.words s.homes vs))
+            (set-snoc s.views id u w (at-lt-length s.views id v at))
+            (IsSomewhere-same (table s.words s.homes (s.views ++ w ∷ [])) id v u in_both refl refl
+            (λ all c o _. nothing_seen all c o)
+            (IsSomewhere-push entries count pending s w refl
+            (λ all c o sees. (sees.seen id v at, sees.faults id v at, sees.settled id v at)) k.value));
+        joined = Each-push views Joined w (Each-set s.views Joined id u k.joined tt) tt;
+      }
+
+  -- the places of the seat that takes over a turn move with it
+  moved_places : (s : St) (k : IsKeptIn s) (id other : ℕ) (v w : View) → get_elem? s.views id ≡ some v
+      → get_elem? s.views other ≡ some w → other ≢ id
+      → ArePlacesApart (set (set s.views other spent) id (taken_over v w))
+  moved_places s k id other v w at there ne =
+      ArePlacesApart-set (set s.views other spent) id v (taken_over v w)
+      (set_else s.views other id spent (λ e. ne (sym e)) ∙ at)
+      (k.places.within other w there)
+      (λ n theirs. inr (λ i u a had. ⊎_elim
+      (λ (e : (i ≡ other) × (spent ≡ u)). subst (λ (x : View). HasPlace x n) (sym e.1) had)
+      (λ (e : (i ≢ other) × (get_elem? s.views i ≡ some u)). e.0 (k.places.apart i other u w n e.1 there had theirs))
+      (at_set s.views other i spent u a)))
+      (ArePlacesApart-set s.views other w spent there tt (λ n one. absurd one) k.places)
+
+  -- another seat takes over a turn
+  pub takes_over : (id : ℕ) (v : View) (other : ℕ) (w : View) → w ≡ idle_again w
+      → Joins IsKeptIn id v other w (taken_over v w) spent
+  takes_over id v other w idles s k at ne there_then =
+      let b : View = taken_over v w in
+      let views : List View = set s.views id b in
+      let there : get_elem? s.views other ≡ some w = sym (set_else s.views id other b ne) ∙ there_then in
+      record {
+        words = k.words;
+        tickets = AreTickets-same (get_or s.words 1 0) (get_or s.words 0 0) views other w spent there_then
+            (ap (λ (x : View). x.ticket) idles)
+            (AreTickets-same (get_or s.words 1 0) (get_or s.words 0 0) s.views id v b at refl k.tickets);
+        places = subst (λ (vs : List View). ArePlacesApart vs) (set-comm s.views other id spent b ne)
+            (moved_places s k id other v w at there ne);
+        value = IsSomewhere-set entries count pending (table s.words s.homes views) s.words other w spent there_then
+            (ap (λ (x : View). x.taken) idles) refl refl (λ all c o _. nothing_seen all c o)
+            (IsSomewhere-same s id v b at refl refl
+            (λ all c o sees. (sees.seen other w there, sees.faults other w there, sees.settled other w there)) k.value);
+        joined = Each-set views Joined other spent
+            (Each-set s.views Joined id b k.joined (k.joined other w there)) tt;
+      }
+
+  -- the seat that took over a turn is told how what it has seen goes with what the turn began with
+  pub meets : (id : ℕ) (m : Seat) (t : Taken) → m.0.taken ≡ Some t
+      → Allows IsKeptIn 1 id m 1 (λ n. n) (Meets (step 1 1 0 0 none) m)
+  meets id m t has s k one at fits = ⊎_elim
+      (λ (h : IsHome entries count pending s). absurd (both_ways m.0.taken t (h.nobody id m.0 at) has))
+      (λ (o : IsOut s).
+      let v : View = m.0 in
+      let it : o.taken ≡ t = sym (o.served id v at t has).0 in (
+        v,
+        keeps,
+        tt,
+        unmoved entries count pending s k 1 id m at,
+        (
+          record {
+            taken = t;
+            is = has;
+            seen = subst (λ (x : Taken). IsPrefix v.seen x.entries) it (o.seen.seen id v at);
+            faults = subst (λ (x : Taken). v.faults ≤ x.count) it (o.seen.faults id v at);
+            settled = subst (λ (x : Taken). IsSettled v.pending v.faults x.count x.pending) it
+                (o.seen.settled id v at);
+            places = k.places.within id v at;
+          },
+          refl,
+        ),
+      ))
+      k.value
