@@ -84,6 +84,20 @@ fn raise_slowly<R: Wait + Clock>(rt: &R, lock: &TurnLock<Counter>, pass: Pass) -
     pass
 }
 
+/// One more for each of two callers, at a turn that goes on from the first to the second.
+fn raise_for_both<R: Wait>(rt: &R, lock: &TurnLock<Counter>, pass: &mut Pass, next: &mut Pass)
+    requires pass { IsReady lock.now pass.old }
+    requires next { IsReady lock.now next.old }
+    ensures pass { IsReady lock.entry.now pass.new }
+    ensures next { IsReady lock.entry.now next.new }
+{
+    let mut turn = lock.turn(rt, pass);
+    turn.value.count = turn.value.count.saturating_add(1);
+    let mut turn = lock.hand_on(turn, pass, next, 0);
+    turn.value.count = turn.value.count.saturating_add(1);
+    lock.back(turn, next);
+}
+
 /// A long turn of one thread, behind which another one waits in the midst of its own.
 fn wait_behind<R: Threads + Wait + Sync + Clock>(
     rt: &R,
@@ -123,5 +137,21 @@ fn a_caller_behind_a_long_turn_goes_on(rt: HostRuntime) -> Result<(), Fail> {
     let pass = wait_behind(&rt, &lock, pass);
     let counter = lock.close(&rt, pass);
     assert_eq!(rt; counter.count, TURNS + 1);
+    Ok(())
+}
+
+#[test]
+fn a_turn_goes_on_from_one_caller_to_another(rt: HostRuntime) -> Result<(), Fail> {
+    let Ok((lock, mut pass)) = TurnLock::new(rt.alloc(), Counter { count: 0 }) else {
+        return Err(Fail::from("no memory"));
+    };
+    let mut other = lock.split(&mut pass);
+    raise_for_both(&rt, &lock, &mut pass, &mut other);
+    assert!(rt; lock.is_free());
+    assert!(rt; !lock.turns_are_long());
+    let mut pass = raise_by_two(&rt, &lock, pass, TURNS);
+    lock.join(&mut pass, other.take());
+    let counter = lock.close(&rt, pass);
+    assert_eq!(rt; counter.count, 2 * TURNS + 2);
     Ok(())
 }
