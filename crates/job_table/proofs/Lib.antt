@@ -1,0 +1,4 @@
+pub mod Rows
+pub mod Hands
+pub mod Stages
+pub mod Keeps

@@ -1,0 +1,52 @@
+use Rattle.std.proofs.Common.{arith, sym, ap, ◌∙◌, [], Some}
+use Rattle.job_table.specs.Views.{asking, claiming}
+use Rattle.job_table.specs.declared.view.Slot.TheVariants.{Job}
+use Rattle.job_table.proofs.Hands.{in_hands, emptied}
+use Rattle.job_table.proofs.Keeps.{retracts, frees}
+use Rattle.job_table.proofs.jobs.JobTable.retract.Goals as goal
+
+pub compare_exchange-found-requires : goal.compare_exchange-found-requires
+compare_exchange-found-requires g c =
+    let p = g.P.JobRule in
+    let shared = c.self.inside.table.shared in
+    let held = c.posted.inside in
+    let own = ap (λ t. t.table) c.posted.view_is ∙ c.requires.own ∙ sym c.self.view_is in (
+      ap (λ t. t.id) own,
+      omega (arith, c.posted.invariant.0, c.self.invariant.0),
+      retracts p.may p.says shared.key shared.table_id.slots held.seat.id held.slot held.seat.me held.job.value
+          c.self.invariant.1
+          (c.posted.invariant.1 ∙ ap (λ t. (asking t.key held.slot held.job.value, [])) own) c.posted.invariant.0,
+    )
+
+pub exchange-left-requires : goal.exchange-left-requires
+exchange-left-requires g c =
+    let held = c.posted.inside in
+    let own = ap (λ t. t.table) c.posted.view_is ∙ c.requires.own ∙ sym c.self.view_is in
+    let took = c.compare_exchange-found.ensures.2.0 c.if-found-ne-POSTED.false in
+    let left = Some (Job took.0) in (
+      c.compare_exchange-found.ensures.0 ∙ ap (λ t. t.id) own,
+      (
+        left,
+        in_hands c.compare_exchange-found.new.seat.me (claiming held.seat.me.0.key held.slot) held.slot left
+            held.seat.me.1 took.2,
+      ),
+    )
+
+pub store-requires : goal.store-requires
+store-requires g c =
+    let p = g.P.JobRule in
+    let shared = c.self.inside.table.shared in
+    let held = c.posted.inside in
+    let slot = held.slot in
+    let job = held.job.value in
+    let seat = c.exchange-left.new.seat in
+    let own = ap (λ t. t.table) c.posted.view_is ∙ c.requires.own ∙ sym c.self.view_is in
+    let asks = c.posted.invariant.1 ∙ ap (λ t. (asking t.key slot job, [])) own in
+    let took = c.compare_exchange-found.ensures.2.0 c.if-found-ne-POSTED.false in (
+      c.exchange-left.ensures.0 ∙ c.compare_exchange-found.ensures.0 ∙ ap (λ t. t.id) own,
+      omega (arith, c.posted.invariant.0, c.self.invariant.0),
+      frees p.may p.says shared.key shared.table_id.slots seat.id slot seat.me c.self.invariant.1
+          (emptied held.seat.me c.compare_exchange-found.new.seat.me seat.me shared.key slot job (Some (Job took.0))
+          asks took.2 c.exchange-left.ensures.3)
+          c.posted.invariant.0,
+    )

@@ -1,0 +1,4 @@
+pub mod Jobs
+pub mod Views
+pub mod Rule
+pub mod Steps
