@@ -96,7 +96,7 @@ module _ {D : Type 0} where
       let both : IsPrefix t.found.history t.left.history × (t.left.recorded ≡ 0) =
       elim t.says as (λ _. IsPrefix t.found.history t.left.history × (t.left.recorded ≡ 0)) [
         | inl u ↦ (subst (λ (l : List Entry). IsPrefix t.found.history l) (sym u.history) (IsPrefix-refl t.found.history), u.none)
-        | inr u ↦ (repaired-longer t.found t.left.history u.found, u.none)
+        | inr u ↦ (repaired-longer t.found t.left.history u.undecided.found, u.undecided.none)
       ] in
       record {
         unanswered = unanswered count c asks (Err (fault.StoreFault before after)) old new w t both.0 both.1;

@@ -5,16 +5,23 @@ ghost use Rattle.connection_laws.specs.Kinds.{commands, kind_of};
 ghost use Rattle.connection_laws.specs.Moments.{MayGive};
 ghost use Rattle.farm_store.specs.declared.asking.TheConstants.{MAX_BATCH};
 ghost use Rattle.farm_http.specs.Batches.{IsBatch};
+ghost use Rattle.farm_entry.specs.Legal.{IsLegal};
+ghost use Rattle.shared_farm.specs.Turns.{IsTurn};
+ghost use Rattle.turn_lock.specs.Known.{IsReady};
 
+use farm_disk::Disk;
 use farm_entry::Command;
-use farm_store::{Ask, MAX_BATCH};
+use farm_store::{Answers, Ask, CallFault, MAX_BATCH};
 use farm_wire::command_of;
 use http_requests::{LastHead, Next, Reading, Request, next_of};
 use http_routes::Pages;
 use http_words::{Endpoint, Fault};
 use link_io::Clock;
+use shared_farm::{Beginning, SharedFarm};
 use std::alloc::Global;
 use std::marker::Model;
+use std::sync::Wait;
+use turn_lock::Pass;
 
 /// The commands of a batch, the request of each, and how many of the bytes held the requests take. A connection keeps
 /// one, so that its room is made once: it has no commands before the first batch.
@@ -88,6 +95,25 @@ impl Batch {
     /// Lets the commands go, whose memory isn't kept while more bytes are waited for.
     pub fn clear(&mut self) {
         self.asks.clear();
+    }
+
+    /// Asks the farm for the commands, of which there are some, at one turn of the pass.
+    pub fn ask<R: Wait, D: Disk, B: Beginning>(
+        &mut self,
+        rt: &R,
+        alloc: Global,
+        shared: &SharedFarm<D, B>,
+        pass: &mut Pass,
+    ) -> Result<Answers, CallFault>
+        requires ready { IsReady shared.now pass.old }
+        requires some { 1 ≤ length self.old.asks }
+        ensures same { self.new ≡ self.old }
+        ensures ready { IsReady shared.now pass.new }
+        ensures turn { IsTurn D.count self.old.asks result pass.old pass.new }
+        ensures legal { IsLegal pass.new.seen }
+        ensures faults { pass.old.faults ≤ pass.new.faults }
+    {
+        shared.call_batch(rt, alloc, pass, &mut self.asks)
     }
 
     /// The commands, with their moments.

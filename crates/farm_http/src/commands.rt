@@ -143,21 +143,22 @@ fn answer_batch<R: Wait, L: Link, D: Disk, B: Beginning>(
     room: &mut String,
     out: &mut Gathered,
     link: &mut L,
-    batch: &Batch,
+    batch: &mut Batch,
 ) -> Result<(), ServeFault>
     requires ready { IsReady shared.now pass.old }
-    requires some { 1 ≤ length batch.now.asks }
+    requires some { 1 ≤ length batch.old.asks }
     requires empty { out.old ≡ [] }
+    ensures same { batch.new ≡ batch.old }
     ensures ready { IsReady shared.now pass.new }
     ensures empty { OnOk result (out.new ≡ []) }
     ensures faults { pass.old.faults ≤ pass.new.faults }
-    ensures says { IsBatchPut D.count batch.now.asks batch.now.requests pass.old pass.new (L.Sink.written link.old)
+    ensures says { IsBatchPut D.count batch.old.asks batch.old.requests pass.old pass.new (L.Sink.written link.old)
         (L.Sink.written link.new) result }
     ensures aside { L.Sink.aside link.new ≡ L.Sink.aside link.old }
     ensures cause { OnLinkFault result (Rose (L.Sink.count link.old) (L.Sink.count link.new)) }
     ensures never_falls { L.Sink.count link.old ≤ L.Sink.count link.new }
 {
-    match shared.call_batch(rt, alloc, pass, batch.asks()) {
+    match batch.ask(rt, alloc, shared, pass) {
         Ok(answers) => put_answers(alloc, room, out, link, batch.requests(), answers.as_slice()),
         Err(CallFault::StoreFault { .. }) => {
             let says = Says::plain(StatusCode::Unavailable, store_fault_text());

@@ -1,11 +1,12 @@
 -- What a caller knows after a turn, from what the lock and the store say.
-use Rattle.std.proofs.Common.{◌≡◌, ◌++◌, List, ℕ, true, ◌+◌, ◌-◌, ◌≤◌, ◌⊎◌, [], Option, Some, IfSome, ⊎_elim, length, arith, sym, refl, ap, ◌∙◌, subst, append-nil, length-append, zero, suc}
-use Rattle.std.specs.Prelude.{Result}
+use Rattle.std.proofs.Common.{◌≡◌, ◌++◌, List, ℕ, true, ◌+◌, ◌-◌, ◌≤◌, ◌⊎◌, [], Option, Some, IfSome, inl, inr, ⊎_elim, length, arith, sym, refl, ap, ◌∙◌, subst, append-nil, length-append, zero, suc}
+use Rattle.std.specs.Prelude.{Result, Ok, Err}
+use Rattle.farm_store.specs.Answering.{BatchSays, IsUndecided, IsUnrepaired}
+use Rattle.farm_store.specs.declared.asking.CallFault.TheVariants.{Refused, StoreFault, Memory}
 use Rattle.std.specs.List.{range_with_len}
 use Rattle.atomic_table.specs.Seated.{TableId}
 use Rattle.farm_entry.specs.declared.entry.Entry.{Entry}
 use Rattle.farm_entry.specs.Legal.{IsLegal}
-use Rattle.farm_store.specs.Answering.{BatchSays}
 use Rattle.farm_store.specs.Faults.{HasCallCause}
 use Rattle.farm_disk.specs.declared.disk.Disk as disk
 use Rattle.farm_store.specs.State.{StoreState}
@@ -13,13 +14,13 @@ use Rattle.farm_store.specs.declared.asking.Answer.{Answer}
 use Rattle.farm_store.specs.declared.asking.Ask.{Ask}
 use Rattle.farm_store.specs.declared.asking.CallFault.{CallFault}
 use Rattle.list_prefix.specs.Prefix.{IsPrefix}
-use Rattle.list_prefix.proofs.Prefixes.{IsPrefix-length, IsPrefix-same, IsPrefix-trans}
+use Rattle.list_prefix.proofs.Prefixes.{IsPrefix-equal, IsPrefix-length, IsPrefix-same, IsPrefix-trans}
 use Rattle.turn_lock.specs.Known.{Before, IsSettled, Known, MayRise}
 use Rattle.turn_lock.specs.Places.{ArePlaces}
 use Rattle.turn_lock.specs.declared.view.Taken.{Taken}
 use Rattle.turn_lock.proofs.PlaceLists.{ArePlaces-append, ArePlaces-widen}
-use Rattle.shared_farm.specs.Rests.{Begun, CameBy, TurnKeeps, TurnLeaves, rest_of}
-use Rattle.shared_farm.specs.Turns.{AreOwn, IsTurn, StaysSettled, own_places}
+use Rattle.shared_farm.specs.Rests.{Begun, CameBy, RecordKeeps, TurnKeeps, TurnLeaves, rest_of}
+use Rattle.shared_farm.specs.Turns.{AreOwn, IsTurn, StaysSettled, TurnSays, own_places}
 use Rattle.shared_farm.proofs.Recorded.{ArePlaces-own_places, IsOwnFrom}
 
 -- the places that a turn tells, from the history and the number of entries that it looked at
@@ -100,7 +101,7 @@ module _ {D : Type 0} {count : D → ℕ} {old new : Known} {held : Before} {fou
             ∙ ap (λ (l : List Entry). Some l) (s.answered now_is (omega (arith, last, rises))),
       )
 
-  pub served-turn : (asks : List Ask) (result : Result (List Answer) CallFault) → BatchSays asks result found left
+  pub served-turn : (asks : List Ask) (result : Result (List Answer) CallFault) → TurnSays asks result found left
       → HasCallCause result (count found.disk) (count left.disk) → IsTurn count asks result old new
   served-turn asks result says cause = record {
     found = found;
@@ -149,6 +150,35 @@ served-keeps meant begun {found = found} {left = left} s leaves came = record {
   leaves = leaves;
   came = came;
 }
+
+-- what is kept of a batch's record, which had no others, is what is kept of its turn
+pub kept-alone : {D : Type 0} (meant : disk.Ghosts D) (begun : Option Begun) (pass : Known) → TurnKeeps meant begun pass
+    → RecordKeeps meant begun pass
+kept-alone meant begun pass k = record {
+  found = k.found;
+  left = k.left;
+  begins = IsPrefix-equal k.found.history pass.last.entries (sym (ap (λ (t : Taken). t.entries) k.took));
+  seen = IsPrefix-equal pass.seen k.left.history k.seen;
+  pending = k.pending;
+  faults = k.faults;
+  leaves = k.leaves;
+  came = k.came;
+}
+
+module _ {D : Type 0} where
+  -- what a call of a store came to is what its turn came to, whose record had no others
+  pub says-alone : (asks : List Ask) (result : Result (List Answer) CallFault) (old new : StoreState D)
+      → BatchSays asks result old new → TurnSays asks result old new
+  says-alone asks (Ok answers) old new says = says
+  says-alone asks (Err (Refused cause)) old new says = absurd says
+  says-alone asks (Err (StoreFault before after)) old new says = ⊎_elim
+      (λ (u : IsUnrepaired old new). inl u)
+      (λ (u : IsUndecided asks old new). inr record {
+        others = [];
+        undecided = subst (λ (l : List Ask). IsUndecided l old new) (sym (append-nil asks)) u;
+      })
+      says
+  says-alone asks (Err Memory) old new says = says
 
 length-run : (first count : ℕ) → length (range_with_len first count) ≡ count
 length-run first zero = refl

@@ -71,6 +71,18 @@ pub record TurnKeeps {D : Type 0} (meant : disk.Ghosts D) (begun : Option Begun)
   pub leaves : meant.tells found.disk ≡ true → TurnLeaves (rest_of meant found) (rest_of meant left)
   pub came : IfSome begun (λ b. CameBy meant b found × CameBy meant b left)
 
+-- The same of a batch, whose record others may share: the store that the turn of all of them took is the one found, and
+-- the pass has seen the one left up to its own entries.
+pub record RecordKeeps {D : Type 0} (meant : disk.Ghosts D) (begun : Option Begun) (pass : Known) : Type 0 where
+  pub found : StoreState D
+  pub left : StoreState D
+  pub begins : IsPrefix found.history pass.last.entries
+  pub seen : IsPrefix pass.seen left.history
+  pub pending : pass.pending ≡ Some left.pending
+  pub faults : pass.faults ≡ meant.count left.disk
+  pub leaves : meant.tells found.disk ≡ true → TurnLeaves (rest_of meant found) (rest_of meant left)
+  pub came : IfSome begun (λ b. CameBy meant b found × CameBy meant b left)
+
 -- what a farm begins with that is shared now
 abbrev pub begun_of : {D : Type 0} → disk.Ghosts D → StoreState D → Begun
 begun_of meant store = record { tells = meant.tells store.disk; store = rest_of meant store }

@@ -1,20 +1,34 @@
 -- What one turn at a shared farm came to.
-use Rattle.std.specs.Prelude.{◌≡◌, ◌≤◌, ◌+◌, ◌-◌, ◌⊎◌, ◌++◌, ℕ, List, [], length, Some, Result}
+use Rattle.std.specs.Prelude.{◌≡◌, ◌≤◌, ◌+◌, ◌-◌, ◌⊎◌, ◌++◌, ℕ, List, [], length, Some, Result, Ok, Err}
 use Rattle.std.specs.List.{range_with_len}
 use Rattle.farm_entry.specs.Legal.{IsLegal}
 use Rattle.farm_entry.specs.declared.entry.Entry.{Entry}
-use Rattle.farm_store.specs.Answering.{BatchSays}
+use Rattle.farm_store.specs.Answering.{IsAnswered, IsUnanswered, IsUndecided, IsUnrepaired}
 use Rattle.farm_store.specs.Faults.{HasCallCause}
 use Rattle.farm_store.specs.State.{StoreState}
 use Rattle.farm_store.specs.declared.asking.Answer.{Answer}
 use Rattle.farm_store.specs.declared.asking.Ask.{Ask}
 use Rattle.farm_store.specs.declared.asking.CallFault.{CallFault}
+use Rattle.farm_store.specs.declared.asking.CallFault.TheVariants as fault
 use Rattle.list_prefix.specs.Prefix.{IsPrefix}
 use Rattle.turn_lock.specs.Known.{Known, IsSettled, MayRise}
 
 -- the places of the entries that the last call of a store recorded for its asks
 abbrev pub own_places : {D : Type 0} → StoreState D → List ℕ
 own_places store = range_with_len (length store.history - store.recorded) store.recorded
+
+-- The disk failed as the new entries of these asks were stored, in one record with those of the asks of other callers
+-- where there are any: the history is as the repair left it, and all of them are pending.
+pub record IsUndecidedWith {D : Type 0} (asks : List Ask) (old new : StoreState D) : Type 0 where
+  pub others : List Ask
+  pub undecided : IsUndecided (asks ++ others) old new
+
+-- what a turn with these asks came to, by what it answers
+abbrev pub TurnSays : {D : Type 0} → List Ask → Result (List Answer) CallFault → (old new : StoreState D) → Type 0
+TurnSays asks (Ok answers) old new = IsAnswered asks answers old new
+TurnSays asks (Err (fault.Refused cause)) old new = ⊥
+TurnSays asks (Err (fault.StoreFault before after)) old new = IsUnrepaired old new ⊎ IsUndecidedWith asks old new
+TurnSays asks (Err fault.Memory) old new = IsUnanswered old new
 
 -- The pass was used once, and the store that its turn took had a legal history that begins with all that the caller
 -- had seen. That store answered the asks, and the pass has then seen the store as it was given back. The places of the
@@ -30,7 +44,7 @@ pub record IsTurn {D : Type 0} (count : D → ℕ) (asks : List Ask) (result : R
   pub legal : IsLegal found.history
   pub begins : IsPrefix old.seen found.history
   pub faults : old.faults ≤ count found.disk
-  pub says : BatchSays asks result found left
+  pub says : TurnSays asks result found left
   pub cause : HasCallCause result (count found.disk) (count left.disk)
   pub seen : new.seen ≡ left.history
   pub pending : new.pending ≡ Some left.pending

@@ -7,7 +7,7 @@ ghost use Rattle.farm_store.specs.declared.asking.TheConstants.{MAX_BATCH};
 ghost use Rattle.list_prefix.specs.Prefix.{IsPrefix, longer};
 ghost use Rattle.turn_lock.specs.Known.{IsReady, both_pending, no_turn};
 ghost use Rattle.turn_lock.specs.Places.{ArePlaces, both_places};
-ghost use Rattle.shared_farm.specs.Rests.{CameBy, TurnKeeps};
+ghost use Rattle.shared_farm.specs.Rests.{CameBy, RecordKeeps, TurnKeeps};
 ghost use Rattle.shared_farm.specs.Turns.{AreOwn, IsLook, IsTurn, StaysSettled};
 
 use crate::beginning::Beginning;
@@ -160,14 +160,15 @@ impl<D: Disk, B: Beginning> SharedFarm<D, B> {
         rt: &R,
         alloc: Global,
         pass: &mut Pass,
-        asks: &[Ask],
+        asks: &mut Vec<Ask>,
     ) -> Result<Answers, CallFault>
         requires ready { IsReady self.now pass.old }
-        requires some { 1 ≤ length asks.now }
-        requires few { length asks.now ≤ MAX_BATCH }
+        requires some { 1 ≤ length asks.old.items }
+        requires few { length asks.old.items ≤ MAX_BATCH }
+        ensures asks { asks.new.items ≡ asks.old.items }
         ensures ready { IsReady self.now pass.new }
-        ensures turn { IsTurn D.count asks.now result pass.old pass.new }
-        ensures keeps { TurnKeeps D.Disk B.begun pass.new }
+        ensures turn { IsTurn D.count asks.old.items result pass.old pass.new }
+        ensures keeps { RecordKeeps D.Disk B.begun pass.new }
         ensures own { AreOwn pass.old pass.new }
         ensures settled { StaysSettled pass.old pass.new }
         ensures longer { IsPrefix pass.old.seen pass.new.seen }

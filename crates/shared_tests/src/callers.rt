@@ -179,7 +179,13 @@ fn is_answered(answers: &[Answer]) -> bool {
 }
 
 /// Whether a batch of leases is answered as it should be.
-fn ask_all<R: Wait>(rt: &R, alloc: Global, farm: &Shared, pass: &mut Pass, asks: &[Ask]) -> bool
+fn ask_all<R: Wait>(
+    rt: &R,
+    alloc: Global,
+    farm: &Shared,
+    pass: &mut Pass,
+    asks: &mut Vec<Ask>,
+) -> bool
     requires { IsReady farm.now pass.old }
     ensures { IsReady farm.entry.now pass.new }
 {
@@ -219,10 +225,10 @@ fn call_all<R: Wait>(rt: &R, alloc: Global, farm: &Shared, pass: Pass, caller: u
     let Some((_, entries)) = seen(rt, farm, &mut pass) else {
         return (pass, false);
     };
-    let Some(asks) = batch(alloc, caller, entries) else {
+    let Some(mut asks) = batch(alloc, caller, entries) else {
         return (pass, false);
     };
-    let also = ask_all(rt, alloc, farm, &mut pass, &asks);
+    let also = ask_all(rt, alloc, farm, &mut pass, &mut asks);
     (pass, good && also)
 }
 

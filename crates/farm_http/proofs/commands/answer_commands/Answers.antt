@@ -11,7 +11,7 @@ use Rattle.farm_wire.specs.declared.fault.WireFault.{WireFault}
 use Rattle.http_requests.specs.Next.{item_in}
 use Rattle.http_words.specs.declared.endpoint.Endpoint.{Endpoint}
 use Rattle.http_words.specs.declared.fault.Fault.{Fault}
-use Rattle.farm_http.specs.Batches.{IsBatch, all_answered}
+use Rattle.farm_http.specs.Batches.{BatchState, IsBatch, all_answered}
 use Rattle.farm_http.specs.Bytes.{PutSays, request_bytes}
 use Rattle.farm_http.specs.Received.{is_complete}
 use Rattle.farm_http.specs.declared.front.Answered.{Answered}
@@ -124,11 +124,14 @@ returns-clause-says g c = λ prog w.
     let is = subst (λ (l : List ℕ). IsBatch clock (is_complete r) l b) c.held-held.ensures
     (subst (λ (x : Bool). IsBatch clock x c.held-held.result.now b) c.is_complete.ensures c.gather.ensures) in
     let d : Answered = record { requests = length c.asks.result.now; size = c.size.result; closes = c.closes.result } in
+    let same = c.in_ok-answer_batch.ensures.same in
     batch-says g.D.Disk.count clock prog (is_complete r) r.held r.interim (g.L.Sink.written c.args.link.now)
     (g.L.Sink.written c.answer_batch.new.link) c.args.pass.now c.answer_batch.new.pass b is
     (c.requires.interim ∙ batch-shown clock (is_complete r) r.held b c.args.first.now is c.requires.next) w
     c.in_ok-answer_batch.ensures.faults (Ok d)
     (ok-answer (all_answered b) d
-    (answered-all d b (ap (λ (l : List Ask). length l) c.asks.ensures.value) c.size.ensures c.closes.ensures))
+    (answered-all d b
+    (ap (λ (l : List Ask). length l) c.asks.ensures.value ∙ ap (λ (x : BatchState). length x.asks) same)
+    (c.size.ensures ∙ ap (λ (x : BatchState). x.size) same) (c.closes.ensures ∙ ap (λ (x : BatchState). x.closes) same)))
     (batch-put_ok g.D.Disk.count b.asks b.requests c.args.pass.now c.answer_batch.new.pass (g.L.Sink.written c.args.link.now)
     (g.L.Sink.written c.answer_batch.new.link) d _ c.in_ok-answer_batch.ensures.says)

@@ -6,7 +6,7 @@ use Rattle.turn_lock.specs.Places.{ArePlaces}
 use Rattle.turn_lock.specs.declared.view.Taken.{Taken}
 use Rattle.shared_farm.specs.Turns.{own_places}
 use Rattle.shared_farm.proofs.Recorded.{ArePlaces-own_places, cause-as_batch, recorded-own}
-use Rattle.shared_farm.proofs.Turning.{IsServed, IsTaken, own_places-told, served-keeps, served-longer, served-own, served-places, served-settled, served-turn}
+use Rattle.shared_farm.proofs.Turning.{IsServed, IsTaken, own_places-told, says-alone, served-keeps, served-longer, served-own, served-places, served-settled, served-turn}
 use Rattle.shared_farm.proofs.farm.SharedFarm.call.Goals as goal
 
 pub back-requires-clause-places : goal.back-requires-clause-places
@@ -78,7 +78,8 @@ returns-clause-turn g c =
     let answer = c.call-result in
     let count = g.D.Disk.count in
     let ask : Ask = record { command = c.args.command.now; at = c.args.at } in
-    served-turn (served g c) (ask ∷ []) (as_batch answer.result) answer.ensures.says
+    served-turn (served g c) (ask ∷ []) (as_batch answer.result)
+    (says-alone (ask ∷ []) (as_batch answer.result) c.deref_mut.result.now.store answer.new.self.store answer.ensures.says)
     (cause-as_batch answer.result (count c.deref_mut.result.now.store.disk) (count answer.new.self.store.disk)
     answer.ensures.cause)
 
