@@ -3,6 +3,7 @@ mod Asks
 mod Leases
 mod Reports
 mod Orders
+mod Out
 mod Growing
 mod Marks
 mod Counts

@@ -69,15 +69,15 @@ impl Keys {
     }
 }
 
-/// So many keys, none of them marked.
-fn unused(alloc: Global, count: usize) -> Result<Vec<bool>, Memory>
+/// So many marks, none of them set.
+pub(crate) fn unused(alloc: Global, count: usize) -> Result<Vec<bool>, Memory>
     ensures { IfOk result (λ used. used.items ≡ replicate count false) }
 {
     Ok(vec![in alloc; false; count]?)
 }
 
 /// Marks the key of an entry, where it is among these.
-fn mark(used: &mut Vec<bool>, entry: &Entry)
+pub(crate) fn mark(used: &mut Vec<bool>, entry: &Entry)
     ensures length { length used.new.items ≡ length used.old.items }
     ensures marks { (number : ℕ) → number < length used.old.items → get_or used.new.items number true
         ≡ (get_or used.old.items number true || has_key (key_numbered number) entry.now) }

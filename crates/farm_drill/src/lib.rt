@@ -15,6 +15,7 @@ mod asking;
 mod crew;
 mod keys;
 mod line;
+mod look;
 mod names;
 mod opens;
 mod reporting;

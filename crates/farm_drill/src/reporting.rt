@@ -57,6 +57,8 @@ pub(crate) fn report_missing(alloc: Global, store: &mut Store<CalmDisk>) -> Resu
     requires decided { store.old.pending ≡ [] }
     requires legal { IsLegal store.old.history }
     ensures reported { IfOk result (λ all. MatchBool all (AllReported store.new.history) (IsFull store.new.history)) }
+    ensures keys { OnOk result ((key : Key) → place_of_key store.old.history key ≡ None
+        → place_of_key store.new.history key ≡ None) }
     ensures decided { OnOk result (store.new.pending ≡ []) }
     ensures longer { IsPrefix store.old.history store.new.history }
     ensures legal { OnOk result (IsLegal store.new.history) }

@@ -8,6 +8,7 @@ ghost use Rattle.farm_types.specs.Moment.{moment_ms};
 ghost use Rattle.farm_entry.specs.Legal.{IsLegal};
 ghost use Rattle.drill_plan.specs.Start.{drill_founding, revert_ms};
 ghost use Rattle.farm_drill.specs.Ends.{AreOrders, RevertsEnded};
+ghost use Rattle.farm_drill.specs.Free.{AreFree};
 ghost use Rattle.farm_drill.specs.Steps.{GivesOrder};
 
 use crate::asking::ask;
@@ -20,18 +21,22 @@ use farm_store::Store;
 use farm_types::{Key, Memory, Moment};
 use std::alloc::Global;
 
-/// Takes reverts until no order is given.
-pub(crate) fn take_reverts(alloc: Global, store: &mut Store<CalmDisk>) -> Result<(), Memory>
+/// Takes reverts, under keys that stand in no entry, until no order is given.
+pub(crate) fn take_reverts(
+    alloc: Global,
+    store: &mut Store<CalmDisk>,
+    keys: &mut Keys,
+) -> Result<(), Memory>
     requires decided { store.old.pending ≡ [] }
     requires founded { IsPrefix (drill_founding ∷ []) store.old.history }
     requires legal { IsLegal store.old.history }
+    requires free { AreFree store.old.history keys.old }
     ensures ended { OnOk result (RevertsEnded store.new.history) }
     ensures decided { OnOk result (store.new.pending ≡ []) }
     ensures orders { OnOk result
         ((orders : List Entry) × AreOrders orders × (store.new.history ≡ store.old.history ++ orders)) }
     ensures legal { OnOk result (IsLegal store.new.history) }
 {
-    let mut keys = Keys::of(alloc, store.history())?;
     loop {
         let key = keys.fresh(alloc, store.history())?;
         if !take_revert(alloc, store, key)? {

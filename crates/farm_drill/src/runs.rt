@@ -1,14 +1,17 @@
 //! What is left of the runs when the workers have ended.
-ghost use Rattle.std.specs.Prelude.{◌≡◌, ◌++◌, ◌∷◌, ◌⊎◌, ℕ, [], IfOk, OnOk, IfSome, IfNone, None};
+ghost use Rattle.std.specs.Prelude.{◌≡◌, ◌++◌, ◌∷◌, ◌⊎◌, ℕ, [], true, IfOk, OnOk, IfSome, IfNone, MatchBool, None};
 ghost use Rattle.list_prefix.specs.Prefix.{IsPrefix};
 ghost use Rattle.farm_entry.specs.History.{all_leases, is_reported, place_of_key};
 ghost use Rattle.farm_entry.specs.Legal.{IsLegal};
 ghost use Rattle.drill_plan.specs.Start.{drill_founding};
 ghost use Rattle.farm_drill.specs.Ends.{AllReported, AreRun, IsFull};
+ghost use Rattle.farm_drill.specs.Free.{AreFree};
+ghost use Rattle.farm_types.specs.declared.key.Key.{Key as FarmKey};
 ghost use Rattle.farm_drill.specs.Steps.{FindsNone, HandsOut, run_given, run_of};
 
 use crate::asking::ask;
 use crate::keys::Keys;
+use crate::look::{Found, look_through};
 use crate::names::{caller_name, drill_moment};
 use crate::reporting::{report, report_missing};
 use farm_disk::CalmDisk;
@@ -18,33 +21,58 @@ use farm_types::{Key, Memory};
 use std::alloc::Global;
 
 /// Decides what is pending, reports the runs that have no report, and leases and reports until no run is due or the
-/// history is full.
-pub(crate) fn end_runs(alloc: Global, store: &mut Store<CalmDisk>) -> Result<(), Memory>
+/// history is full. It gives keys that stand in no entry.
+pub(crate) fn end_runs(alloc: Global, store: &mut Store<CalmDisk>) -> Result<Keys, Memory>
     requires founded { IsPrefix (drill_founding ∷ []) store.old.history }
     ensures ended { OnOk result (IsFull store.new.history ⊎ AreRun store.new.history) }
+    ensures free { IfOk result (λ keys. AreFree store.new.history keys) }
     ensures decided { OnOk result (store.new.pending ≡ []) }
     ensures longer { IsPrefix store.old.history store.new.history }
     ensures legal { OnOk result (IsLegal store.new.history) }
 {
     let _shown = ask(alloc, store, &Command::ShowFarm, drill_moment())?;
-    if !report_missing(alloc, store)? {
-        return Ok(());
+    let found = look_through(alloc, store.history())?;
+    let Found { keys, reported } = found;
+    let mut keys = keys;
+    if !report_rest(alloc, store, reported)? {
+        return Ok(keys);
     }
-    lease_rest(alloc, store)
+    lease_rest(alloc, store, &mut keys)?;
+    Ok(keys)
 }
 
-/// Leases and reports until no run is due or the history is full.
-fn lease_rest(alloc: Global, store: &mut Store<CalmDisk>) -> Result<(), Memory>
+/// Reports the runs that have no report, unless it is known that each has one. Answers whether all are reported then:
+/// they aren't only where the history is full.
+fn report_rest(alloc: Global, store: &mut Store<CalmDisk>, reported: bool) -> Result<bool, Memory>
     requires decided { store.old.pending ≡ [] }
-    requires reported { AllReported store.old.history }
-    requires founded { IsPrefix (drill_founding ∷ []) store.old.history }
+    requires reported { reported ≡ true → AllReported store.old.history }
     requires legal { IsLegal store.old.history }
-    ensures ended { OnOk result (IsFull store.new.history ⊎ AreRun store.new.history) }
+    ensures reported { IfOk result (λ all. MatchBool all (AllReported store.new.history) (IsFull store.new.history)) }
+    ensures keys { OnOk result ((key : FarmKey) → place_of_key store.old.history key ≡ None
+        → place_of_key store.new.history key ≡ None) }
     ensures decided { OnOk result (store.new.pending ≡ []) }
     ensures longer { IsPrefix store.old.history store.new.history }
     ensures legal { OnOk result (IsLegal store.new.history) }
 {
-    let mut keys = Keys::of(alloc, store.history())?;
+    if reported {
+        return Ok(true);
+    }
+    report_missing(alloc, store)
+}
+
+/// Leases, under keys that stand in no entry, and reports until no run is due or the history is full.
+fn lease_rest(alloc: Global, store: &mut Store<CalmDisk>, keys: &mut Keys) -> Result<(), Memory>
+    requires decided { store.old.pending ≡ [] }
+    requires reported { AllReported store.old.history }
+    requires founded { IsPrefix (drill_founding ∷ []) store.old.history }
+    requires legal { IsLegal store.old.history }
+    requires free { AreFree store.old.history keys.old }
+    ensures ended { OnOk result (IsFull store.new.history ⊎ AreRun store.new.history) }
+    ensures free { OnOk result (AreFree store.new.history keys.new) }
+    ensures decided { OnOk result (store.new.pending ≡ []) }
+    ensures longer { IsPrefix store.old.history store.new.history }
+    ensures legal { OnOk result (IsLegal store.new.history) }
+{
     loop {
         let key = keys.fresh(alloc, store.history())?;
         match lease(alloc, store, key)? {

@@ -57,8 +57,8 @@ fn end_drill(alloc: Global, store: &mut Store<CalmDisk>) -> Result<String, Memor
         → IsPrefix start store.old.history → IsDrilled searches store.new.history) }
     ensures decided { OnOk result (store.new.pending ≡ []) }
 {
-    end_runs(alloc, store)?;
-    take_reverts(alloc, store)?;
+    let mut keys = end_runs(alloc, store)?;
+    take_reverts(alloc, store, &mut keys)?;
     let line = drill_line(alloc, store)?;
     Ok(line)
 }

@@ -40,6 +40,7 @@ loop-lease-preserved c =
       legal = c.report.ensures.legal;
       longer = prefix-trans c.args.store.now.history G new c.loop-lease.invariant.longer c.report.ensures.longer;
       leases = c.in_ok-report.ensures.leases ∙ c.loop-lease.invariant.leases;
+      keys = λ key none. c.in_ok-report.ensures.keys key (c.loop-lease.invariant.keys key none);
       reported = missing-more G new items c.loop-lease.lease-index none_leased below c.report.ensures.longer
           c.loop-lease.invariant.reported now;
     }

@@ -7,8 +7,8 @@ use Rattle.farm_drill.specs.Ends.{AllReported}
 use Rattle.farm_drill.specs.Free.{AreFree}
 use Rattle.farm_drill.proofs.runs.lease_rest.Given as goal
 
-abbrev pub invariant-loop-keys : goal.invariant-loop-keys
-invariant-loop-keys l = record {
+abbrev pub invariant-loop-key : goal.invariant-loop-key
+invariant-loop-key l = record {
   decided : l.store.pending ≡ [];
   founded : IsPrefix (drill_founding ∷ []) l.store.history;
   legal : IsLegal l.store.history;
@@ -17,5 +17,5 @@ invariant-loop-keys l = record {
   free : AreFree l.store.history l.keys;
 }
 
-abbrev pub decreases-loop-keys : goal.decreases-loop-keys
-decreases-loop-keys l = MAX_ENTRIES - length l.store.history
+abbrev pub decreases-loop-key : goal.decreases-loop-key
+decreases-loop-key l = MAX_ENTRIES - length l.store.history

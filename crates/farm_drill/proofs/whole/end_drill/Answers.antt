@@ -22,7 +22,7 @@ returns-clause-drilled c searches start opened begins =
     subst (λ (s : StoreState DiskState). IsDrilled searches s.history) (sym c.drill_line.ensures.kept)
     (drilled searches start c.args.store.now.history c.end_runs.new.store.history c.take_reverts.new.store.history
     opened
-    begins c.end_runs.ensures.longer c.in_ok-end_runs.ensures.ended c.in_ok-take_reverts.ensures.orders
+    begins c.end_runs.ensures.longer c.in_ok-keys.ensures.ended c.in_ok-take_reverts.ensures.orders
     c.in_ok-take_reverts.ensures.ended c.in_ok-take_reverts.ensures.legal)
 
 pub returns-clause-decided : goal.returns-clause-decided
