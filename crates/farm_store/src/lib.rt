@@ -4,8 +4,9 @@
 //! stored in a record of its own, and a list of asks once the new entries of all of them are stored in one record, so
 //! that a crash leaves all of these or none. Where the disk fails, it is undecided whether the record was kept: its
 //! entries are pending, and the next call begins by finding out, before anything else is decided. Several callers can
-//! share a record: their asks, each caller's a [`Part`], are answered one after the other, and stored at once. [`answer`]
-//! answers a command by a farm in memory alone, as a store does before it writes, for a farm that has no disk.
+//! share a record: the asks of each, a [`Part`], are answered after those of the one before, and what all of them
+//! record is stored at once. [`answer`] answers a command by a farm in memory alone, as a store does before it writes,
+//! for a farm that has no disk.
 //!
 //! The crate stands on `farm_core` for the farm, on `farm_journal` and `farm_disk` for the records and what a crash may
 //! leave of them, and on `entry_codec` for entries as bytes. The layers above may use every name below; clauses above

@@ -246,13 +246,13 @@ impl<D: Disk> Store<D> {
     }
 
     /// Answers 1 to `MAX_RECORD` asks of several callers as batches one after the other would, but for this: the new
-    /// entries of all of them are stored in one record, before any caller's answers are given. So a crash leaves all of
-    /// them or none. A part keeps its asks, and is given the answers to these and the end of the history that they leave.
+    /// entries of all of them are stored in one record, before any answer is given. So a crash leaves all of them or
+    /// none. A part keeps its asks, and is given their answers and the end of the history that they leave.
     ///
     /// # Errors
     ///
-    /// [`CallFault::StoreFault`] or [`CallFault::Memory`], of all parts, as of a single call; what then stands in them as
-    /// answers and ends means nothing. A refusal is an answer.
+    /// [`CallFault::StoreFault`] or [`CallFault::Memory`], of all parts, as of a single call. What stands in them as
+    /// answers and ends then means nothing. A refusal is an answer.
     pub fn call_together(&mut self, alloc: Global, parts: &mut [Part]) -> Result<(), CallFault>
         requires some { 1 ≤ length (all_asks parts.old) }
         requires few { length (all_asks parts.old) ≤ MAX_RECORD }
