@@ -1,6 +1,7 @@
 -- A shared farm may be lent to several threads where its disk may be handed to another one: its lock is `Sync`, since
--- what the lock holds is `Send`. The checker shows both of each type, but not of a `ToldList`, which holds snapshots of
--- itself, nor of what has one in it: of those each crate has the lemma on its own.
+-- what the lock holds is `Send`, and so is the table of its callers' errands. The checker shows both of each type, but
+-- not of a `ToldList`, which holds snapshots of itself, nor of what has one in it: of those each crate has the lemma on
+-- its own.
 use denote.RattleType.{RattleType}
 use denote.Param.Send.{IsSend, IsSync, sendable}
 use Rattle.std.proofs.Crossing.{crosses}
@@ -8,6 +9,9 @@ use Rattle.farm_disk.specs.declared.disk.Disk.{Ghosts}
 use Rattle.farm_store.proofs.Crossing.{store-send}
 use Rattle.turn_lock.proofs.lock.TurnLock.TheSendSync as TurnLock
 use Rattle.turn_lock.proofs.pass.Pass.TheSendSync as Pass
+use Rattle.job_table.proofs.jobs.JobTable.TheSendSync as JobTable
+use Rattle.shared_farm.proofs.errand.Errand.TheSendSync as Errand
+use Rattle.shared_farm.proofs.errand.Outcome.TheSendSync as Outcome
 use Rattle.farm_board.proofs.board.Board.TheSendSync as Board
 use Rattle.farm_board.proofs.pass.BoardPass.TheSendSync as BoardPass
 use Rattle.shared_farm.specs.contracts.locked.Locked as Locked
@@ -30,7 +34,8 @@ locked-send D B ghosts begun disk mark =
 pub shared_farm-sync : (D B : RattleType) (ghosts : Ghosts D.Denot) (begun : beginning.Ghosts B.Denot) → IsSend D → IsSend B
     → IsSync (SharedFarm.the_row D B ghosts begun)
 shared_farm-sync D B ghosts begun disk mark =
-    let locked = locked-send D B ghosts begun disk mark in search (TurnLock.the_sync, sendable, crosses) depth 20
+    let locked = locked-send D B ghosts begun disk mark in
+    search (TurnLock.the_sync, JobTable.the_sync, Errand.the_send, Outcome.the_send, sendable, crosses) depth 20
 
 -- what a closure takes along to a thread beside the farm
 pub ruleset along = (Pass.the_send, sendable, crosses)

@@ -1,4 +1,8 @@
 pub mod Crossing
+pub mod Handing
+pub mod Helping
+pub mod Members
 pub mod Recorded
 pub mod Resting
+pub mod Taking
 pub mod Turning

@@ -8,7 +8,7 @@ use Rattle.farm_entry.specs.declared.decision.Decision.{Decision}
 use Rattle.farm_entry.specs.declared.decision.Decision.TheVariants.{New, Refuse, Repeat, Show}
 use Rattle.farm_entry.specs.declared.entry.Entry.{Entry}
 use Rattle.farm_entry.specs.declared.reply.Reply.{Reply}
-use Rattle.farm_store.specs.Answering.{as_batch, asked, BatchSays, IsAnswered, IsUndecided, IsUnrepaired}
+use Rattle.farm_store.specs.Answering.{as_batch, asked, BatchSays, history_after, IsAnswered, IsUndecided, IsUnrepaired}
 use Rattle.farm_store.specs.Faults.{HasCallCause}
 use Rattle.farm_store.specs.State.{StoreState, IsRepaired}
 use Rattle.farm_store.specs.declared.asking.Answer.{Answer}
@@ -36,6 +36,9 @@ played-begins H [] = IsPrefix-refl H
 played-begins H (q ∷ more) =
     let next : List Entry = after H (decide H q.0 q.1) in
     IsPrefix-trans H next (played next more) (after-begins H (decide H q.0 q.1)) (played-begins next more)
+
+pub history_after-begins : (H : List Entry) (asks : List Ask) → IsPrefix H (history_after H asks)
+history_after-begins H asks = played-begins H (map asked asks)
 
 -- what is new in a store's history is what it recorded, past what a repair found
 pub record IsOwnFrom {D : Type 0} (old new : StoreState D) : Type 0 where

@@ -5,13 +5,22 @@ use Rattle.farm_disk.specs.declared.disk.Disk as disk
 use Rattle.farm_store.specs.Answering.{BatchSays, IsAnswered}
 use Rattle.farm_store.specs.Faults.{HasCallCause}
 use Rattle.farm_store.specs.State.{IsLeft, IsStored, StoreState}
+use Rattle.farm_store.specs.Together.{IsGiven, TogetherSays, all_asks}
 use Rattle.farm_store.specs.declared.asking.Answer.{Answer}
 use Rattle.farm_store.specs.declared.asking.Ask.{Ask}
+use Rattle.farm_store.specs.declared.asking.Part.{Part}
 use Rattle.farm_store.specs.declared.asking.CallFault.{CallFault}
 use Rattle.farm_store.specs.declared.asking.CallFault.TheVariants.{Refused, StoreFault, Memory}
 use Rattle.fault_types.specs.Counts.{Rose}
 use Rattle.list_prefix.specs.Prefix.{IsPrefix}
 use Rattle.shared_farm.specs.Rests.{Begun, CameBy, TurnLeaves, rest_of}
+
+-- a fault has the same cause, whatever would have been answered without it
+pub cause_of-fault : (f : CallFault) (first last : ℕ) → HasCallCause {T = Unit {0}} (Err f) first last
+    → HasCallCause {T = List Answer} (Err f) first last
+cause_of-fault (Refused refusal) first last cause = tt
+cause_of-fault (StoreFault before after) first last cause = cause
+cause_of-fault Memory first last cause = tt
 
 module _ {D : Type 0} where
   -- nothing is pending after a call, or the disk failed in it
@@ -22,6 +31,15 @@ module _ {D : Type 0} where
   decided-or_rose asks (Err (Refused refusal)) old new first last says cause = absurd says
   decided-or_rose asks (Err (StoreFault before after)) old new first last says cause = inr cause.2
   decided-or_rose asks (Err Memory) old new first last says cause = inl says.decided
+
+  -- the same of a call of several
+  pub together-decided_or_rose : (parts given : List Part) (result : Result (Unit {0}) CallFault) (old new : StoreState D)
+      (first last : ℕ) → TogetherSays parts given result old new → HasCallCause result first last
+      → (new.pending ≡ []) ⊎ Rose first last
+  together-decided_or_rose parts given (Ok done) old new first last says cause =
+      let is : IsGiven parts given old new = says in inl is.decided
+  together-decided_or_rose parts given (Err f) old new first last says cause =
+      decided-or_rose (all_asks parts) (Err f) old new first last says (cause_of-fault f first last cause)
 
   -- what a turn leaves, by what a call of the store ensures
   pub turn-leaves : (meant : disk.Ghosts D) (old new : StoreState D) → IsPrefix old.history new.history

@@ -1,2 +1,4 @@
+pub mod Errands
 pub mod Rests
+pub mod Rounds
 pub mod Turns

@@ -7,18 +7,22 @@ ghost use Rattle.farm_store.specs.declared.asking.TheConstants.{MAX_BATCH};
 ghost use Rattle.list_prefix.specs.Prefix.{IsPrefix, longer};
 ghost use Rattle.turn_lock.specs.Known.{IsReady, both_pending, no_turn};
 ghost use Rattle.turn_lock.specs.Places.{ArePlaces, both_places};
+ghost use Rattle.shared_farm.specs.Errands.{IsDone, IsErrand};
 ghost use Rattle.shared_farm.specs.Rests.{CameBy, RecordKeeps, TurnKeeps};
 ghost use Rattle.shared_farm.specs.Turns.{AreOwn, IsLook, IsTurn, StaysSettled};
 
 use crate::beginning::Beginning;
+use crate::errand::{Errands, FarmLock};
 use crate::locked::Locked;
 use crate::reader::TotalsReader;
+use crate::sharing::{ask_alone, hand_in};
 use crate::since::StoreSince;
 use farm_board::Board;
 use farm_disk::Disk;
 use farm_entry::{Command, Reply};
 use farm_store::{Answers, Ask, CallFault, Store};
 use farm_types::{Memory, Moment};
+use job_table::JobTable;
 use std::alloc::Global;
 use std::marker::{Brand, Model};
 use std::sync::{Arc, Wait};
@@ -28,16 +32,20 @@ use turn_lock::{Pass, Places, TurnLock};
 /// which a pass is known to be its own. `B` is what it began with.
 #[derive(Drop)]
 pub struct SharedFarm<D: Disk, B: Beginning = Brand> {
-    // In a box, so that a turn takes and gives back a pointer, and moves neither the store nor the board.
-    lock: TurnLock<Box<Locked<D, B>>>,
+    lock: FarmLock<D, B>,
+    // None where there was no memory for it: each caller then makes its own calls.
+    errands: Option<Errands<D, B>>,
 }
 
 impl<D: Disk, B: Beginning> Model for SharedFarm<D, B> {
+    ghost use Rattle.std.specs.Prelude.{◌≡◌, IfSome};
     ghost use Rattle.atomic_table.specs.Seated.{TableId};
 
     ghost Value = { TableId };
 
     ghost view = { λ s. s.lock };
+
+    ghost invariant = { λ s. IfSome s.errands (λ errands. errands.key ≡ s.lock) };
 }
 
 impl<D: Disk, B: Beginning> SharedFarm<D, B> {
@@ -72,7 +80,10 @@ impl<D: Disk, B: Beginning> SharedFarm<D, B> {
             Err(failed) => return Err(failed.value.into_store()),
         };
         match TurnLock::new(alloc, locked) {
-            Ok((lock, pass)) => Ok((SharedFarm { lock }, pass)),
+            Ok((lock, pass)) => {
+                let errands = JobTable::new(alloc, &lock).ok();
+                Ok((SharedFarm { lock, errands }, pass))
+            }
             Err(locked) => Err(Box::into_inner(locked).into_store()),
         }
     }
@@ -146,11 +157,14 @@ impl<D: Disk, B: Beginning> SharedFarm<D, B> {
         let recorded = turn.value.store.recorded();
         turn.own = Places::run(turn.value.store.history().len() - recorded, recorded);
         self.lock.back(turn, pass);
+        self.ring_next();
         result
     }
 
     /// Answers 1 to `MAX_BATCH` asks in one turn, as single calls one after the other would be, their new entries
-    /// stored in one record.
+    /// stored in one record. Callers who wait while turns are long share a record: whoever has the turn then answers
+    /// their asks behind its own, each caller's at a turn of its own in the history, and stores them all at once. The
+    /// asks come back as they are.
     ///
     /// # Errors
     ///
@@ -176,12 +190,16 @@ impl<D: Disk, B: Beginning> SharedFarm<D, B> {
         ensures places { ArePlaces 0 (length pass.new.seen) pass.new.mine }
         ensures faults { pass.old.faults ≤ pass.new.faults }
     {
-        let mut turn = self.lock.turn(rt, pass);
-        let result = turn.value.call_batch(alloc, asks);
-        let recorded = turn.value.store.recorded();
-        turn.own = Places::run(turn.value.store.history().len() - recorded, recorded);
-        self.lock.back(turn, pass);
-        result
+        match &self.errands {
+            Some(errands) if self.lock.turns_are_long() => {
+                hand_in(rt, &self.lock, errands, alloc, pass, asks)
+            }
+            _ => {
+                let result = ask_alone(rt, &self.lock, alloc, pass, asks);
+                self.ring_next();
+                result
+            }
+        }
     }
 
     /// A reader of totals, made in a turn that changes nothing: it has seen that turn's history, and so has the pass.
@@ -199,6 +217,7 @@ impl<D: Disk, B: Beginning> SharedFarm<D, B> {
         let mut turn = self.lock.turn(rt, pass);
         let reader = turn.value.reader();
         self.lock.back(turn, pass);
+        self.ring_next();
         reader
     }
 
@@ -232,6 +251,7 @@ impl<D: Disk, B: Beginning> SharedFarm<D, B> {
         let turn = self.lock.turn(rt, pass);
         let page = turn.value.tail(alloc, from);
         self.lock.back(turn, pass);
+        self.ring_next();
         page
     }
 
@@ -242,7 +262,14 @@ impl<D: Disk, B: Beginning> SharedFarm<D, B> {
         ensures faults { pass.faults ≤ D.count result.disk }
         ensures came { IfSome B.begun (λ begun. CameBy D.Disk begun result) }
     {
-        let SharedFarm { lock } = self;
+        let SharedFarm { lock, errands: _ } = self;
         Box::into_inner(lock.close(rt, pass)).into_store()
+    }
+
+    /// Has one of the callers go on who wait for their batches: the turn that was given back took none of these over.
+    fn ring_next(&self) {
+        if let Some(errands) = &self.errands {
+            errands.ring_next();
+        }
     }
 }

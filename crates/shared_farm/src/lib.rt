@@ -17,9 +17,12 @@
 #![tactic(auto)]
 
 mod beginning;
+mod errand;
 mod farm;
 mod locked;
 mod reader;
+mod round;
+mod sharing;
 mod since;
 
 pub use beginning::Beginning;

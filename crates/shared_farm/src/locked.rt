@@ -1,12 +1,13 @@
 //! What the lock of a shared farm holds.
-ghost use Rattle.std.specs.Prelude.{◌≡◌, ◌≤◌, ◌<◌, ◌↔◌, ◌+◌, [], true, List, ℕ, IfOk, IfSome, length};
+ghost use Rattle.std.specs.Prelude.{◌≡◌, ◌≤◌, ◌<◌, ◌↔◌, ◌+◌, [], true, List, ℕ, IfOk, IfSome, length, map};
 ghost use Rattle.std.specs.Arc.{arc_value};
 ghost use Rattle.entry_codec.specs.LogPage.{log_page};
 ghost use Rattle.farm_entry.specs.Legal.{IsLegal};
 ghost use Rattle.farm_entry.specs.declared.entry.Entry.{Entry};
 ghost use Rattle.farm_store.specs.Answering.{BatchSays, CallSays};
 ghost use Rattle.farm_store.specs.Faults.{HasCallCause};
-ghost use Rattle.farm_store.specs.declared.asking.TheConstants.{MAX_BATCH};
+ghost use Rattle.farm_store.specs.Together.{TogetherSays, all_asks};
+ghost use Rattle.farm_store.specs.declared.asking.TheConstants.{MAX_BATCH, MAX_RECORD};
 ghost use Rattle.list_prefix.specs.Prefix.{IsPrefix};
 ghost use Rattle.turn_lock.specs.Known.{MayRise};
 ghost use Rattle.shared_farm.specs.Rests.{CameBy, TurnLeaves, rest_of};
@@ -18,7 +19,7 @@ use entry_codec::write_log_page;
 use farm_board::{Board, BoardPass};
 use farm_disk::Disk;
 use farm_entry::{Command, Reply};
-use farm_store::{Answers, Ask, CallFault, Store};
+use farm_store::{Answers, Ask, CallFault, Part, Store};
 use farm_types::{Memory, Moment};
 use std::alloc::Global;
 use std::sync::Arc;
@@ -88,6 +89,30 @@ impl<D: Disk, B: Beginning> Locked<D, B> {
     {
         let _ = self.store.history();
         let result = self.store.call_batch(alloc, asks);
+        let totals = self.store.totals();
+        self.board
+            .post(&mut self.posting, totals, self.store.history());
+        result
+    }
+
+    /// Answers the asks of several callers, whose new entries share a record, and posts the totals.
+    pub fn call_together(&mut self, alloc: Global, parts: &mut [Part]) -> Result<(), CallFault>
+        requires some { 1 ≤ length (all_asks parts.old) }
+        requires few { length (all_asks parts.old) ≤ MAX_RECORD }
+        ensures found { IsLegal self.old.store.history }
+        ensures says { TogetherSays parts.old parts.new result self.old.store self.new.store }
+        ensures asks { map (λ part. part.asks) parts.new ≡ map (λ part. part.asks) parts.old }
+        ensures longer { IsPrefix self.old.store.history self.new.store.history }
+        ensures legal { IsLegal self.new.store.history }
+        ensures leaves { D.tells self.old.store.disk ≡ true
+            → TurnLeaves (rest_of D.Disk self.old.store) (rest_of D.Disk self.new.store) }
+        ensures came { IfSome B.begun
+            (λ begun. CameBy D.Disk begun self.old.store × CameBy D.Disk begun self.new.store) }
+        ensures cause { HasCallCause result (D.count self.old.store.disk) (D.count self.new.store.disk) }
+        ensures never_falls { D.count self.old.store.disk ≤ D.count self.new.store.disk }
+    {
+        let _ = self.store.history();
+        let result = self.store.call_together(alloc, parts);
         let totals = self.store.totals();
         self.board
             .post(&mut self.posting, totals, self.store.history());

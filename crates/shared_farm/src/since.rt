@@ -1,17 +1,18 @@
 //! A store of which it is known what it began as.
-ghost use Rattle.std.specs.Prelude.{◌≡◌, ◌≤◌, ◌++◌, true, IfSome, length};
+ghost use Rattle.std.specs.Prelude.{◌≡◌, ◌≤◌, ◌++◌, true, IfSome, length, map};
 ghost use Rattle.farm_entry.specs.Legal.{IsLegal};
 ghost use Rattle.farm_entry.specs.Pages.{totals};
 ghost use Rattle.farm_store.specs.Answering.{BatchSays, CallSays};
 ghost use Rattle.farm_store.specs.Faults.{HasCallCause};
-ghost use Rattle.farm_store.specs.declared.asking.TheConstants.{MAX_BATCH};
+ghost use Rattle.farm_store.specs.Together.{TogetherSays, all_asks};
+ghost use Rattle.farm_store.specs.declared.asking.TheConstants.{MAX_BATCH, MAX_RECORD};
 ghost use Rattle.list_prefix.specs.Prefix.{IsPrefix};
 ghost use Rattle.shared_farm.specs.Rests.{CameBy, TurnLeaves, rest_of};
 
 use crate::beginning::Beginning;
 use farm_disk::Disk;
 use farm_entry::{Command, Entry, Reply, Totals};
-use farm_store::{Answers, Ask, CallFault, Store};
+use farm_store::{Answers, Ask, CallFault, Part, Store};
 use farm_types::Moment;
 use std::alloc::Global;
 use std::marker::{Model, PhantomData};
@@ -77,6 +78,23 @@ impl<D: Disk, B: Beginning> StoreSince<D, B> {
         ensures never_falls { D.count self.old.disk ≤ D.count self.new.disk }
     {
         self.store.call_batch(alloc, asks)
+    }
+
+    /// Answers the asks of several callers, whose new entries share a record.
+    pub fn call_together(&mut self, alloc: Global, parts: &mut [Part]) -> Result<(), CallFault>
+        requires some { 1 ≤ length (all_asks parts.old) }
+        requires few { length (all_asks parts.old) ≤ MAX_RECORD }
+        ensures says { TogetherSays parts.old parts.new result self.old self.new }
+        ensures asks { map (λ part. part.asks) parts.new ≡ map (λ part. part.asks) parts.old }
+        ensures longer { IsPrefix self.old.history self.new.history }
+        ensures legal { IsLegal (self.new.history ++ self.new.pending) }
+        ensures leaves { D.tells self.old.disk ≡ true → TurnLeaves (rest_of D.Disk self.old) (rest_of D.Disk self.new) }
+        ensures came { IfSome B.begun
+            (λ begun. CameBy D.Disk begun self.old × CameBy D.Disk begun self.new) }
+        ensures cause { HasCallCause result (D.count self.old.disk) (D.count self.new.disk) }
+        ensures never_falls { D.count self.old.disk ≤ D.count self.new.disk }
+    {
+        self.store.call_together(alloc, parts)
     }
 
     /// The history, without what is pending.

@@ -35,7 +35,7 @@ back-requires-clause-settled g c nothing same rises =
     rises
 
 -- the store that answers is the one that the turn took
-taken : (g : _) (c : goal.After-back g)
+taken : (g : _) (c : goal.After-ring_next g)
     → IsTaken g.D.Disk.count c.args.pass.now c.turn-turn.result.before c.deref_mut.result.now.store
 taken g c =
     let turn = c.turn-turn in
@@ -49,7 +49,7 @@ taken g c =
     })
 
 -- the turn that the caller had
-served : (g : _) (c : goal.After-back g) → IsServed g.D.Disk.count c.args.pass.now c.back.new.pass
+served : (g : _) (c : goal.After-ring_next g) → IsServed g.D.Disk.count c.args.pass.now c.back.new.pass
     c.turn-turn.result.before c.deref_mut.result.now.store c.call-result.new.self.store c.run-turn.result
 served g c =
     let turn = c.turn-turn in

@@ -11,10 +11,11 @@ abbrev taken_of : {D : Type 0} → (D → ℕ) → StoreState D → Taken
 taken_of count s = record { entries = s.history; count = count s.disk; pending = s.pending }
 
 -- the turn took just the store that it gave back
-same_store : (g : _) (c : goal.After-back g) → c.reader-reader.new.self.store ≡ c.turn-turn.result.value.value.store
+same_store : (g : _) (c : goal.After-ring_next g)
+    → c.reader-reader.new.self.store ≡ c.turn-turn.result.value.value.store
 same_store g c = c.reader-reader.ensures.same ∙ ap (λ l. l.store) c.deref_mut.ensures.value
 
-same_taken : (g : _) (c : goal.After-back g) → c.turn-turn.result.before.taken
+same_taken : (g : _) (c : goal.After-ring_next g) → c.turn-turn.result.before.taken
     ≡ taken_of g.D.Disk.count c.reader-reader.new.self.store
 same_taken g c =
     c.turn-turn.ensures.taken

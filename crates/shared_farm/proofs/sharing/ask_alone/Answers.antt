@@ -1,13 +1,12 @@
-use Rattle.std.proofs.Common.{ap, subst, sym, ◌∙◌, ◌≡◌, List, ℕ, length}
-use Rattle.farm_store.specs.Answering.{BatchSays}
+use Rattle.std.proofs.Common.{ap, subst, sym, refl, ◌∙◌, ◌≡◌, List, ℕ, length}
 use Rattle.farm_store.specs.State.{StoreState}
-use Rattle.farm_store.specs.declared.asking.Ask.{Ask}
 use Rattle.turn_lock.specs.Places.{ArePlaces}
 use Rattle.turn_lock.specs.declared.view.Taken.{Taken}
 use Rattle.shared_farm.specs.Turns.{own_places}
 use Rattle.shared_farm.proofs.Recorded.{ArePlaces-own_places, recorded-own}
-use Rattle.shared_farm.proofs.Turning.{IsServed, IsTaken, kept-alone, own_places-told, says-alone, served-keeps, served-longer, served-own, served-places, served-settled, served-turn}
-use Rattle.shared_farm.proofs.farm.SharedFarm.call_batch.Goals as goal
+use Rattle.shared_farm.proofs.Members.{had-turn}
+use Rattle.shared_farm.proofs.Turning.{IsServed, IsTaken, kept-alone, own_places-told, says-alone, served-keeps}
+use Rattle.shared_farm.proofs.sharing.ask_alone.Goals as goal
 
 pub back-requires-clause-places : goal.back-requires-clause-places
 back-requires-clause-places g c =
@@ -19,8 +18,8 @@ back-requires-clause-places g c =
     let own : c.run-turn.result ≡ own_places left =
     c.run-turn.ensures
     ∙ own_places-told left c.history.result.now c.recorded-recorded.result
-    (c.history.ensures.value ∙ ap (λ l. l.store.history) c.deref-3.ensures)
-    (c.recorded-recorded.ensures ∙ ap (λ l. l.store.recorded) c.deref-2.ensures) in
+    (c.history.ensures.value ∙ ap (λ l. l.store.history) c.deref-2.ensures)
+    (c.recorded-recorded.ensures ∙ ap (λ l. l.store.recorded) c.deref.ensures) in
     subst (λ (l : List ℕ). ArePlaces (length turn.result.before.taken.entries) (length left.history) l) (sym own)
     (subst (λ (t : Taken). ArePlaces (length t.entries) (length left.history) (own_places left))
     (sym turn.ensures.taken)
@@ -48,13 +47,6 @@ taken g c =
       faults = turn.ensures.faults;
     })
 
--- what the store answered to the caller's asks
-asked : (g : _) (c : goal.After-back g) → BatchSays c.args.asks.now.items c.call_batch-result.result
-    c.deref_mut.result.now.store c.call_batch-result.new.self.store
-asked g c =
-    subst (λ (l : List Ask). BatchSays l c.call_batch-result.result c.deref_mut.result.now.store
-    c.call_batch-result.new.self.store) c.deref.ensures.value c.call_batch-result.ensures.says
-
 -- the turn that the caller had
 served : (g : _) (c : goal.After-back g) → IsServed g.D.Disk.count c.args.pass.now c.back.new.pass
     c.turn-turn.result.before c.deref_mut.result.now.store c.call_batch-result.new.self.store c.run-turn.result
@@ -67,41 +59,28 @@ served g c =
       answered = answer.ensures.settled;
       at_least = answer.ensures.never_falls;
       legal = answer.ensures.found;
-      recorded = recorded-own c.args.asks.now.items answer.result c.deref_mut.result.now.store answer.new.self.store
-          (asked g c) answer.ensures.longer;
+      recorded = recorded-own c.args.asks.now answer.result c.deref_mut.result.now.store answer.new.self.store
+          answer.ensures.says answer.ensures.longer;
       places = turn.ensures.places;
       longer = answer.ensures.longer;
       room = answer.ensures.recorded;
       own_is = c.run-turn.ensures
           ∙ own_places-told answer.new.self.store c.history.result.now c.recorded-recorded.result
-          (c.history.ensures.value ∙ ap (λ l. l.store.history) c.deref-3.ensures)
-          (c.recorded-recorded.ensures ∙ ap (λ l. l.store.recorded) c.deref-2.ensures);
-      lock = c.self.inside.lock;
+          (c.history.ensures.value ∙ ap (λ l. l.store.history) c.deref-2.ensures)
+          (c.recorded-recorded.ensures ∙ ap (λ l. l.store.recorded) c.deref.ensures);
+      lock = c.args.lock.now;
       new_is = c.back.ensures.pass;
     }
 
-pub returns-clause-turn : goal.returns-clause-turn
-returns-clause-turn g c =
+pub returns : goal.returns
+unfolding served
+returns g c =
     let answer = c.call_batch-result in
-    let count = g.D.Disk.count in
-    served-turn (served g c) c.args.asks.now.items answer.result
-    (says-alone c.args.asks.now.items answer.result c.deref_mut.result.now.store answer.new.self.store (asked g c))
-    answer.ensures.cause
-
-pub returns-clause-keeps : goal.returns-clause-keeps
-returns-clause-keeps g c =
-    kept-alone g.D.Disk g.B.Beginning.begun c.back.new.pass
-    (served-keeps g.D.Disk g.B.Beginning.begun (served g c) c.call_batch-result.ensures.leaves
-    c.call_batch-result.ensures.came)
-
-pub returns-clause-own : goal.returns-clause-own
-returns-clause-own g c = served-own (served g c)
-
-pub returns-clause-settled : goal.returns-clause-settled
-returns-clause-settled g c = served-settled (served g c)
-
-pub returns-clause-longer : goal.returns-clause-longer
-returns-clause-longer g c = served-longer (served g c)
-
-pub returns-clause-places : goal.returns-clause-places
-returns-clause-places g c = served-places (served g c)
+    let meant = g.D.Disk in
+    let begun = g.B.Beginning.begun in
+    let asks = c.args.asks.now in
+    had-turn meant begun c.args.lock.now asks answer.result (served g c) refl
+    (says-alone asks answer.result c.deref_mut.result.now.store answer.new.self.store answer.ensures.says)
+    answer.ensures.cause answer.ensures.legal
+    (kept-alone meant begun c.back.new.pass
+    (served-keeps meant begun (served g c) answer.ensures.leaves answer.ensures.came))

@@ -1,0 +1,50 @@
+//! Calls that whoever has the turn makes for those who wait.
+ghost use Rattle.shared_farm.specs.Errands.{IsDone, IsErrand};
+
+use crate::beginning::Beginning;
+use crate::locked::Locked;
+use farm_disk::Disk;
+use farm_store::{Answers, Ask, CallFault};
+use job_table::{JobRule, JobTable, Taken};
+use std::marker::PhantomData;
+use turn_lock::{Pass, TurnLock};
+
+/// The lock of a farm. In a box, so that a turn takes and gives back a pointer, and moves neither the store nor the
+/// board.
+pub type FarmLock<D, B> = TurnLock<Box<Locked<D, B>>>;
+
+/// A batch that its caller lets another one ask: the caller's pass, which goes along, and the asks.
+#[derive(Drop)]
+pub struct Errand {
+    pub pass: Pass,
+    pub asks: Vec<Ask>,
+}
+
+/// What an errand came to: the pass after its turn, the asks again, and the answers.
+#[derive(Drop)]
+pub struct Outcome {
+    pub pass: Pass,
+    pub asks: Vec<Ask>,
+    pub result: Result<Answers, CallFault>,
+}
+
+/// An errand that was taken over, without its asks.
+pub struct Helped<K> {
+    pub taken: Taken<K, Errand, Outcome>,
+    pub pass: Pass,
+}
+
+/// What errands and their outcomes hold to, of the farm with this lock: the outcome is what the caller's own call could
+/// have come to.
+pub struct ByTurns<D, B> {
+    marker: PhantomData<(D, B)>,
+}
+
+impl<D: Disk, B: Beginning> JobRule<FarmLock<D, B>, Errand, Outcome> for ByTurns<D, B> {
+    ghost may = { λ key errand. IsErrand key errand };
+
+    ghost says = { λ key errand outcome. IsDone D.Disk B.begun key errand outcome };
+}
+
+/// The errands of a farm's callers.
+pub type Errands<D, B> = JobTable<FarmLock<D, B>, Errand, Outcome, ByTurns<D, B>>;

@@ -1,0 +1,132 @@
+//! The turns of those whose batches were asked at another caller's turn.
+ghost use Rattle.std.specs.Prelude.{◌≡◌, ◌≤◌, ◌+◌, ◌++◌, [], false, true, Some, length, take};
+ghost use Rattle.list_prefix.specs.Prefix.{IsPrefix};
+ghost use Rattle.turn_lock.specs.Known.{IsReady, IsSettled};
+ghost use Rattle.turn_lock.specs.Places.{ArePlaces};
+ghost use Rattle.shared_farm.specs.Rounds.{AreHelped, IsShared};
+
+use crate::beginning::Beginning;
+use crate::errand::{Errands, FarmLock, Helped, Outcome};
+use crate::locked::Locked;
+use farm_disk::Disk;
+use farm_store::Part;
+use std::alloc::Global;
+use turn_lock::{Pass, Places, Turn};
+
+/// Gives each of those whose asks share a record with these its turn and its answers, one after the other: the pass
+/// that has the turn has then seen the first `shown` entries, and each other one the entries up to those of its asks.
+/// The last one gives the turn back.
+pub fn share_out<D: Disk, B: Beginning>(
+    lock: &FarmLock<D, B>,
+    errands: &Errands<D, B>,
+    turn: Turn<Box<Locked<D, B>>>,
+    pass: &mut Pass,
+    shown: usize,
+    parts: &mut Vec<Part>,
+    group: &mut Vec<Helped<FarmLock<D, B>>>,
+)
+    requires key { errands.now.key ≡ lock.now }
+    requires own { turn.before.pass.lock ≡ lock.now }
+    requires out { pass.old.ready ≡ false }
+    requires grown { IsPrefix turn.before.taken.entries (take shown turn.value.value.store.history) }
+    requires faults { turn.before.taken.count ≤ D.count turn.value.value.store.disk }
+    requires settled { IsSettled (Some turn.before.taken.pending) turn.before.taken.count
+        (D.count turn.value.value.store.disk) turn.value.value.store.pending }
+    requires places { ArePlaces (length turn.before.taken.entries)
+        (length (take shown turn.value.value.store.history)) turn.own }
+    requires shared { IsShared D.Disk B.begun turn.value.value.store shown parts.old.items }
+    requires helped { AreHelped lock.now errands.now parts.old.items group.old.items }
+    ensures pass { pass.new ≡ record {
+      lock = lock.now;
+      ready = true;
+      seen = take shown turn.value.value.store.history;
+      mine = turn.before.pass.mine ++ turn.own;
+      faults = D.count turn.value.value.store.disk;
+      uses = turn.before.pass.uses + 1;
+      last = turn.before.taken;
+      pending = Some turn.value.value.store.pending;
+    } }
+    ensures all { group.new.items ≡ [] }
+{
+    if group.is_empty() {
+        lock.back(turn, pass);
+        return;
+    }
+    let Helped {
+        taken,
+        pass: mut next,
+    } = group.remove(0);
+    let Part { asks, answers, end } = parts.remove(0);
+    let mut turn = lock.hand_on(turn, pass, &mut next, shown);
+    turn.own = Places::run(shown, end - shown);
+    share_out(lock, errands, turn, &mut next, end, parts, group);
+    errands.answer(
+        taken,
+        Outcome {
+            pass: next,
+            asks,
+            result: Ok(answers),
+        },
+    );
+}
+
+/// Asks the batch of each of those at a turn of its own, one after the other, and gives it its answers. The last one
+/// gives the turn back.
+pub fn ask_each<D: Disk, B: Beginning>(
+    lock: &FarmLock<D, B>,
+    errands: &Errands<D, B>,
+    alloc: Global,
+    turn: Turn<Box<Locked<D, B>>>,
+    pass: &mut Pass,
+    parts: &mut Vec<Part>,
+    group: &mut Vec<Helped<FarmLock<D, B>>>,
+)
+    requires key { errands.now.key ≡ lock.now }
+    requires own { turn.before.pass.lock ≡ lock.now }
+    requires out { pass.old.ready ≡ false }
+    requires grown { IsPrefix turn.before.taken.entries turn.value.value.store.history }
+    requires faults { turn.before.taken.count ≤ D.count turn.value.value.store.disk }
+    requires settled { IsSettled (Some turn.before.taken.pending) turn.before.taken.count
+        (D.count turn.value.value.store.disk) turn.value.value.store.pending }
+    requires places { ArePlaces (length turn.before.taken.entries) (length turn.value.value.store.history) turn.own }
+    requires helped { AreHelped lock.now errands.now parts.old.items group.old.items }
+    ensures pass { pass.new ≡ record {
+      lock = lock.now;
+      ready = true;
+      seen = turn.value.value.store.history;
+      mine = turn.before.pass.mine ++ turn.own;
+      faults = D.count turn.value.value.store.disk;
+      uses = turn.before.pass.uses + 1;
+      last = turn.before.taken;
+      pending = Some turn.value.value.store.pending;
+    } }
+    ensures all { group.new.items ≡ [] }
+{
+    if group.is_empty() {
+        lock.back(turn, pass);
+        return;
+    }
+    let Helped {
+        taken,
+        pass: mut next,
+    } = group.remove(0);
+    let Part {
+        asks,
+        answers: _,
+        end: _,
+    } = parts.remove(0);
+    let shown = turn.value.store.history().len();
+    let mut turn = lock.hand_on(turn, pass, &mut next, shown);
+    let result = turn.value.call_batch(alloc, &asks);
+    let recorded = turn.value.store.recorded();
+    turn.own = Places::run(turn.value.store.history().len() - recorded, recorded);
+    ask_each(lock, errands, alloc, turn, &mut next, parts, group);
+    errands.answer(
+        taken,
+        Outcome {
+            pass: next,
+            asks,
+            result,
+        },
+    );
+}
