@@ -1,8 +1,8 @@
 //! The farm.
 
 use crate::prepared::{CoreFault, Prepared};
-use crate::tail::{cut, reply_of};
-use farm_entry::{Command, Decision, Entry, Reply, Settings, Standing, Totals, What};
+use crate::tail::{cut, handed_out, reply_of, run_at};
+use farm_entry::{Command, Decision, Entry, LeasedRun, Reply, Settings, Standing, Totals, What};
 use farm_types::{Memory, Moment};
 use kept_decisions::{KeptFarm, decide, is_next, standing_of};
 use std::alloc::Global;
@@ -66,7 +66,7 @@ impl Farm {
     ghost use Rattle.farm_entry.specs.Reply.{reply_at};
     ghost use Rattle.farm_entry.specs.Standing.{standing};
     ghost use Rattle.farm_core.specs.FarmFaults.{IsRefusedBy, IsUnfit};
-    ghost use Rattle.farm_core.specs.Outcome.{IsPrepared, IsReplied, ready_after};
+    ghost use Rattle.farm_core.specs.Outcome.{IsHandedOut, IsPrepared, IsReplied, IsRunAt, ready_after};
 
     /// A farm that was founded with these settings at this moment: its history is that one entry.
     ///
@@ -176,6 +176,41 @@ impl Farm {
         }
     }
 
+    /// Answers a command as [`Farm::answer`] does, but gives of its reply only the run that it hands out, if it does:
+    /// neither the commit nor the test of that run is looked up. Nothing that was ready before may be committed any
+    /// more.
+    ///
+    /// # Errors
+    ///
+    /// Those of [`Farm::answer`]. The history stays.
+    pub fn enter(&mut self, command: &Command, at: Moment) -> Result<Option<LeasedRun>, CoreFault>
+        ensures handed { IfOk result (IsHandedOut self.old.history (decide self.old.history command.now at)) }
+        ensures refused { IfErr result (IsRefusedBy self.old.history command.now at) }
+        ensures history { OnOk result
+            (self.new.history ≡ after self.old.history (decide self.old.history command.now at)) }
+        ensures kept { OnErr result (self.new.history ≡ self.old.history) }
+        ensures legal { IsLegal self.new.history }
+        ensures ready { self.new.ready ≡ [] }
+    {
+        self.forget_ready();
+        match self.decide(command, at) {
+            Ok(Decision::Refuse(refusal)) => Err(CoreFault::Refused(refusal)),
+            Ok(Decision::Repeat(place)) => Ok(self.repeated_run(place as usize)),
+            Ok(Decision::Show(reply)) => Ok(handed_out(&reply)),
+            Ok(Decision::New(entry)) => {
+                let run = entry.what.lease();
+                match self.make_ready(entry) {
+                    Ok(()) => {
+                        self.commit_next();
+                        Ok(run)
+                    }
+                    Err(Memory) => Err(CoreFault::Memory),
+                }
+            }
+            Err(Memory) => Err(CoreFault::Memory),
+        }
+    }
+
     /// Commits the entry that may be committed next: the history ends with it from now on.
     pub fn commit(&mut self, entry: Entry)
         requires { slice_get self.old.ready 0 ≡ Some entry }
@@ -268,6 +303,16 @@ impl Farm {
         ensures { IfOk result (λ reply. reply_at self.now.history place ≡ Some reply) }
     {
         reply_of(&self.kept, place)
+    }
+
+    /// The run that an entry past the founding hands out, if it does, where nothing may be committed.
+    fn repeated_run(&self, place: usize) -> Option<LeasedRun>
+        requires none_ready { self.now.ready ≡ [] }
+        requires later { 0 < place }
+        requires there { place < length self.now.history }
+        ensures { IsRunAt self.now.history place result }
+    {
+        run_at(&self.kept, place)
     }
 
     /// Makes an entry the one that may be committed.

@@ -2,13 +2,14 @@
 //!
 //! A [`Farm`] answers a command in two steps. `prepare` says what the command comes to at the history and a moment, by
 //! the farm's definitions, and makes the room for its entry; `commit` then appends that entry and takes no memory, so
-//! that an entry which was stored elsewhere in between can't be lost. `answer` does both at once. `admit` takes an
-//! entry that came from elsewhere, if it may come next, and `retract` takes the last entries back. Contracts see the
-//! history, and the entries that may be committed next.
+//! that an entry which was stored elsewhere in between can't be lost. `answer` does both at once, and `enter` does so
+//! for a caller who needs no reply but the run that it hands out. `admit` takes an entry that came from elsewhere, if
+//! it may come next, and `retract` takes the last entries back. Contracts see the history, and the entries that may be
+//! committed next.
 //!
 //! What is kept for the history and for what may be committed next is kept once, by `kept_farm`: where an entry was
 //! made ready, its look-ups, its search and its totals are carried on with it, so that a commit moves one number. What
-//! was made ready and not committed is taken away again by the next `prepare`, `answer`, `admit` or `retract`.
+//! was made ready and not committed is taken away again by the next `prepare`, `answer`, `enter`, `admit` or `retract`.
 //!
 //! It stands on `kept_farm` for what is kept, on `kept_decisions` for what a command comes to, on `farm_entry` for the
 //! types and the definitions of the farm, and on `farm_types` for moments and the out-of-memory error. The layer above

@@ -1,9 +1,10 @@
-//! The end of what is kept: what is left of it where it is cut, and the reply of an entry.
+//! The end of what is kept: what is left of it where it is cut, and the reply of an entry or the run that it hands out.
 
 ghost use Rattle.std.specs.Prelude.{◌≡◌, ◌<◌, ◌≤◌, length, take, Some, IfOk};
 ghost use Rattle.farm_entry.specs.Reply.{reply_at};
+ghost use Rattle.farm_core.specs.Outcome.{IsRunAt, handed_out};
 
-use farm_entry::Reply;
+use farm_entry::{LeasedRun, Reply};
 use farm_types::Memory;
 use kept_decisions::KeptFarm;
 
@@ -29,5 +30,37 @@ pub fn reply_of(kept: &KeptFarm, place: usize) -> Result<Reply, Memory>
         Ok(Some(reply)) => Ok(reply),
         Ok(None) => unreachable!(),
         Err(memory) => Err(memory),
+    }
+}
+
+/// The run that the entry at a place past the founding hands out, if it does.
+pub fn run_at(kept: &KeptFarm, place: usize) -> Option<LeasedRun>
+    requires later { 0 < place }
+    requires there { place < length kept.now }
+    ensures { IsRunAt kept.now place result }
+{
+    kept.history()[place].what.lease()
+}
+
+/// The run that a reply hands out, if it does.
+pub fn handed_out(reply: &Reply) -> Option<LeasedRun>
+    ensures { result ≡ handed_out reply.now }
+{
+    match reply {
+        Reply::Leased {
+            run,
+            search,
+            stage,
+            position,
+            deadline,
+            ..
+        } => Some(LeasedRun {
+            run: *run,
+            search: *search,
+            stage: *stage,
+            position: *position,
+            deadline: *deadline,
+        }),
+        _ => None,
     }
 }
