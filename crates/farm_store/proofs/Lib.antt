@@ -2,6 +2,7 @@ pub mod Ahead
 pub mod Batches
 pub mod Calls
 pub mod Decided
+pub mod Entered
 pub mod Excluded
 pub mod Foundings
 pub mod GoingOn

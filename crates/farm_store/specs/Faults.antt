@@ -37,3 +37,10 @@ abbrev pub IsOfStore : CallFault → Type 0
 IsOfStore (Refused cause) = ⊥
 IsOfStore (StoreFault before after) = ⊤
 IsOfStore Memory = ⊤
+
+-- what holds where the call was answered; a refusal is an answer
+abbrev pub OnAnswered : {T : Type 0} → Result T CallFault → Type 0 → Type 0
+OnAnswered (Ok answered) P = P
+OnAnswered (Err (Refused cause)) P = P
+OnAnswered (Err (StoreFault before after)) P = ⊤
+OnAnswered (Err Memory) P = ⊤

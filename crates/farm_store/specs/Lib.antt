@@ -2,6 +2,7 @@ pub mod Admitted
 pub mod Answering
 pub mod Bytes
 pub mod Damage
+pub mod Entering
 pub mod Faults
 pub mod Founded
 pub mod Opened

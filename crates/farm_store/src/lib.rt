@@ -5,12 +5,13 @@
 //! that a crash leaves all of these or none. Where the disk fails, it is undecided whether the record was kept: its
 //! entries are pending, and the next call begins by finding out, before anything else is decided. Several callers can
 //! share a record: the asks of each, a [`Part`], are answered after those of the one before, and what all of them
-//! record is stored at once. [`answer`] answers a command by a farm in memory alone, as a store does before it writes,
-//! for a farm that has no disk.
+//! record is stored at once. A caller who needs no reply but the run that it hands out enters a command, which spares
+//! the look at the search that the run is for. [`answer`] answers a command by a farm in memory alone, as a store does
+//! before it writes, for a farm that has no disk.
 //!
 //! The crate stands on `farm_core` for the farm, on `farm_journal` and `farm_disk` for the records and what a crash may
 //! leave of them, and on `entry_codec` for entries as bytes. The layers above may use every name below; clauses above
-//! cite `specs/` (`Bytes`, `Damage`, `State`, `Answering`, `Together`, `Opened`, `Founded`, `Faults`).
+//! cite `specs/` (`Bytes`, `Damage`, `State`, `Answering`, `Together`, `Entering`, `Opened`, `Founded`, `Faults`).
 #![tactic(auto)]
 
 mod admitting;

@@ -29,7 +29,8 @@ ghost use Rattle.farm_journal.specs.Layout.{is_unborn, version_of};
 ghost use Rattle.farm_journal.specs.Opened.{OpeningCause};
 ghost use Rattle.farm_journal.specs.ReadsOnly.{ReadsOnly};
 ghost use Rattle.farm_store.specs.Answering.{BatchSays, CallSays, IsUnrepairedBy, as_batch};
-ghost use Rattle.farm_store.specs.Faults.{HasCallCause, HasCountFrom};
+ghost use Rattle.farm_store.specs.Entering.{Enters};
+ghost use Rattle.farm_store.specs.Faults.{HasCallCause, HasCountFrom, OnAnswered};
 ghost use Rattle.farm_store.specs.Founded.{Founds, IsUnbornOrFounding, disk_founded, founding};
 ghost use Rattle.farm_store.specs.Opened.{OpensTo, disk_opened};
 ghost use Rattle.farm_store.specs.State.{IsLeft, IsRepaired, IsStored, IsWithOrWithout};
@@ -42,9 +43,9 @@ use crate::asking::{Answer, Answers, Ask, CallFault, Part};
 use crate::founding::found;
 use crate::recording::record_from;
 use crate::showing::page_in;
-use farm_core::Farm;
+use farm_core::{CoreFault, Farm};
 use farm_disk::Disk;
-use farm_entry::{Command, Entry, Reply, SearchPage, Settings, Standing, Totals};
+use farm_entry::{Command, Entry, LeasedRun, Reply, SearchPage, Settings, Standing, Totals};
 use farm_journal::{CreateFault, Journal, JournalFault, OpeningFault, Repaired};
 use farm_types::{Memory, Moment};
 use std::alloc::Global;
@@ -200,6 +201,49 @@ impl<D: Disk> Store<D> {
         let answered = self.decide(alloc, command, at, before);
         self.tell();
         answered
+    }
+
+    /// Answers a command as [`Store::call`] does, but gives of its reply only the run that it hands out, if it does:
+    /// neither the commit nor the test of that run is looked up.
+    ///
+    /// # Errors
+    ///
+    /// Those of [`Store::call`].
+    pub fn enter(
+        &mut self,
+        alloc: Global,
+        command: &Command,
+        at: Moment,
+    ) -> Result<Option<LeasedRun>, CallFault>
+        ensures same { D.tells self.new.disk ≡ D.tells self.old.disk }
+        ensures says { Enters command.now at result self.old self.new }
+        ensures longer { (more : List Entry) × (self.new.history ≡ self.old.history ++ more) }
+        ensures legal { IsLegal (self.new.history ++ self.new.pending) }
+
+        ensures any_moment { D.tells self.old.disk ≡ true
+            → LeavesOnly (D.told self.old.disk) (D.told self.new.disk) (IsLeft self.old self.new) }
+        ensures stored { D.tells self.old.disk ≡ true
+            → IsStored self.new.history self.new.pending (D.told self.new.disk) }
+        ensures untouched { self.old.pending ≡ [] → self.new.history ≡ self.old.history
+            → OnAnswered result (self.new.disk ≡ self.old.disk) }
+        ensures only { D.tells self.old.disk ≡ true → self.new.recorded ≡ 0
+            → OnAnswered result (ReadsOnly (D.told self.old.disk) (D.told self.new.disk)) }
+        ensures two_calls { D.tells self.old.disk ≡ true → self.old.pending ≢ [] → self.new.recorded ≡ 0
+            → OnAnswered result (moment (D.told self.new.disk) ≡ moment (D.told self.old.disk) + 2) }
+        ensures new_version { D.tells self.old.disk ≡ true → length self.old.history < length self.new.history
+            → OnAnswered result (version_of (D.told self.new.disk).bytes ≡ 2) }
+
+        ensures cause { HasCallCause result (D.count self.old.disk) (D.count self.new.disk) }
+        ensures never_falls { D.count self.old.disk ≤ D.count self.new.disk }
+    {
+        let before = self.faults();
+        if let Err(fault) = self.repair(before) {
+            self.tell();
+            return Err(fault);
+        }
+        let entered = self.decide_run(alloc, command, at, before);
+        self.tell();
+        entered
     }
 
     /// Answers 1 to `MAX_BATCH` asks as single calls one after the other would, but for this: their new entries are
@@ -436,6 +480,46 @@ impl<D: Disk> Store<D> {
             }
             Ok(Answer::Refused(refusal)) => Err(CallFault::Refused(refusal)),
             Err(_) => Err(CallFault::Memory),
+        }
+    }
+
+    /// Answers a command while nothing is pending, by the run that it hands out.
+    fn decide_run(
+        &mut self,
+        alloc: Global,
+        command: &Command,
+        at: Moment,
+        before: u64,
+    ) -> Result<Option<LeasedRun>, CallFault>
+        requires decided { self.old.pending ≡ [] }
+        requires none_recorded { self.old.recorded ≡ 0 }
+        ensures same { D.tells self.new.disk ≡ D.tells self.old.disk }
+        ensures says { Enters command.now at result self.old self.new }
+        ensures any_moment { D.tells self.old.disk ≡ true
+            → LeavesOnly (D.told self.old.disk) (D.told self.new.disk) (IsLeft self.old self.new) }
+        ensures untouched { self.new.history ≡ self.old.history
+            → OnAnswered result (self.new.disk ≡ self.old.disk) }
+        ensures new_version { D.tells self.old.disk ≡ true → length self.old.history < length self.new.history
+            → OnAnswered result (version_of (D.told self.new.disk).bytes ≡ 2) }
+        ensures cause { HasCountFrom before result (D.count self.old.disk) (D.count self.new.disk) }
+        ensures never_falls { D.count self.old.disk ≤ D.count self.new.disk }
+    {
+        let start = self.farm.history().len();
+        match self.farm.enter(command, at) {
+            Ok(run) => {
+                record_from(
+                    alloc,
+                    &mut self.payload,
+                    &mut self.farm,
+                    &mut self.journal,
+                    start,
+                    before,
+                )?;
+                self.recorded = self.farm.history().len() - start;
+                Ok(run)
+            }
+            Err(CoreFault::Refused(refusal)) => Err(CallFault::Refused(refusal)),
+            Err(CoreFault::Memory) => Err(CallFault::Memory),
         }
     }
 
