@@ -1,9 +1,14 @@
 -- What one turn at a shared farm came to.
-use Rattle.std.specs.Prelude.{◌≡◌, ◌≤◌, ◌+◌, ◌-◌, ◌⊎◌, ◌++◌, ℕ, List, [], length, Some, Result, Ok, Err}
+use Rattle.std.specs.Prelude.{◌≡◌, ◌≤◌, ◌+◌, ◌-◌, ◌⊎◌, ◌++◌, ◌∷◌, ℕ, List, [], length, Option, Some, Result, Ok, Err}
 use Rattle.std.specs.List.{range_with_len}
+use Rattle.farm_types.specs.declared.moment.Moment.{Moment}
 use Rattle.farm_entry.specs.Legal.{IsLegal}
+use Rattle.farm_entry.specs.declared.command.Command.{Command}
 use Rattle.farm_entry.specs.declared.entry.Entry.{Entry}
-use Rattle.farm_store.specs.Answering.{IsAnswered, IsUnanswered, IsUndecided, IsUnrepaired}
+use Rattle.farm_entry.specs.declared.lease.LeasedRun.{LeasedRun}
+use Rattle.farm_entry.specs.declared.reply.Reply.{Reply}
+use Rattle.farm_store.specs.Answering.{IsAnswered, IsUnanswered, IsUndecided, IsUnrepaired, as_batch}
+use Rattle.farm_store.specs.Entering.{run_given}
 use Rattle.farm_store.specs.Faults.{HasCallCause}
 use Rattle.farm_store.specs.State.{StoreState}
 use Rattle.farm_store.specs.declared.asking.Answer.{Answer}
@@ -50,6 +55,13 @@ pub record IsTurn {D : Type 0} (count : D → ℕ) (asks : List Ask) (result : R
   pub pending : new.pending ≡ Some left.pending
   pub faults_seen : new.faults ≡ count left.disk
   pub mine : new.mine ≡ old.mine ++ own_places left
+
+-- The turn answered one command at a moment, and of the answer gave the run that its reply hands out, if it does.
+pub record EntersInTurn {D : Type 0} (count : D → ℕ) (command : Command) (at : Moment)
+    (result : Result (Option LeasedRun) CallFault) (old new : Known) : Type 0 where
+  pub answer : Result Reply CallFault
+  pub gives : result ≡ run_given answer
+  pub turn : IsTurn count (record { command = command; at = at } ∷ []) (as_batch answer) old new
 
 -- All entries that are new since the turn took the store are the caller's own, past what the store's repair found in
 -- the history: none or all of what was pending then.

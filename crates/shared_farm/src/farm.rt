@@ -9,7 +9,7 @@ ghost use Rattle.turn_lock.specs.Known.{IsReady, both_pending, no_turn};
 ghost use Rattle.turn_lock.specs.Places.{ArePlaces, both_places};
 ghost use Rattle.shared_farm.specs.Errands.{IsDone, IsErrand};
 ghost use Rattle.shared_farm.specs.Rests.{CameBy, RecordKeeps, TurnKeeps};
-ghost use Rattle.shared_farm.specs.Turns.{AreOwn, IsLook, IsTurn, StaysSettled};
+ghost use Rattle.shared_farm.specs.Turns.{AreOwn, EntersInTurn, IsLook, IsTurn, StaysSettled};
 
 use crate::beginning::Beginning;
 use crate::errand::{Errands, FarmLock};
@@ -19,7 +19,7 @@ use crate::sharing::{ask_alone, hand_in};
 use crate::since::StoreSince;
 use farm_board::Board;
 use farm_disk::Disk;
-use farm_entry::{Command, Reply};
+use farm_entry::{Command, LeasedRun, Reply};
 use farm_store::{Answers, Ask, CallFault, Store};
 use farm_types::{Memory, Moment};
 use job_table::JobTable;
@@ -154,6 +154,40 @@ impl<D: Disk, B: Beginning> SharedFarm<D, B> {
     {
         let mut turn = self.lock.turn(rt, pass);
         let result = turn.value.call(alloc, command, at);
+        let recorded = turn.value.store.recorded();
+        turn.own = Places::run(turn.value.store.history().len() - recorded, recorded);
+        self.lock.back(turn, pass);
+        self.ring_next();
+        result
+    }
+
+    /// Answers a command at the caller's turn as [`SharedFarm::call`] does, but gives of its reply only the run that it
+    /// hands out, if it does: neither the commit nor the test of that run is looked up.
+    ///
+    /// # Errors
+    ///
+    /// Those of [`SharedFarm::call`].
+    pub fn enter<R: Wait>(
+        &self,
+        rt: &R,
+        alloc: Global,
+        pass: &mut Pass,
+        command: &Command,
+        at: Moment,
+    ) -> Result<Option<LeasedRun>, CallFault>
+        requires ready { IsReady self.now pass.old }
+        ensures ready { IsReady self.now pass.new }
+        ensures turn { EntersInTurn D.count command.now at result pass.old pass.new }
+        ensures keeps { TurnKeeps D.Disk B.begun pass.new }
+        ensures own { AreOwn pass.old pass.new }
+        ensures settled { StaysSettled pass.old pass.new }
+        ensures longer { IsPrefix pass.old.seen pass.new.seen }
+        ensures legal { IsLegal pass.new.seen }
+        ensures places { ArePlaces 0 (length pass.new.seen) pass.new.mine }
+        ensures faults { pass.old.faults ≤ pass.new.faults }
+    {
+        let mut turn = self.lock.turn(rt, pass);
+        let result = turn.value.enter(alloc, command, at);
         let recorded = turn.value.store.recorded();
         turn.own = Places::run(turn.value.store.history().len() - recorded, recorded);
         self.lock.back(turn, pass);

@@ -4,8 +4,9 @@
 //! A [`SharedFarm`] is a store behind a turn lock, with a board of totals beside it. A caller in a thread has a `Pass`
 //! of `turn_lock`; a call waits for the caller's turn, answers at the history that there is then, stores what is new,
 //! posts the new totals, and passes the turn on. So there is one legal history, in which each caller's recorded calls
-//! stand, each once and in its order, and which begins with all that the caller has seen. A [`TotalsReader`] reads the
-//! totals and takes no turn.
+//! stand, each once and in its order, and which begins with all that the caller has seen. A caller in the same process
+//! who needs no reply but the run that it hands out enters a command in place of calling with it. A [`TotalsReader`]
+//! reads the totals and takes no turn.
 //!
 //! `SharedFarm::close` gives the store back: its history begins with all that the pass has seen, and its disk's count
 //! of faults is at least what the pass knew of it. Where the call that shares the farm picks its [`Beginning`], it is

@@ -5,6 +5,7 @@ ghost use Rattle.entry_codec.specs.LogPage.{log_page};
 ghost use Rattle.farm_entry.specs.Legal.{IsLegal};
 ghost use Rattle.farm_entry.specs.declared.entry.Entry.{Entry};
 ghost use Rattle.farm_store.specs.Answering.{BatchSays, CallSays};
+ghost use Rattle.farm_store.specs.Entering.{Enters};
 ghost use Rattle.farm_store.specs.Faults.{HasCallCause};
 ghost use Rattle.farm_store.specs.Together.{TogetherSays, all_asks};
 ghost use Rattle.farm_store.specs.declared.asking.TheConstants.{MAX_BATCH, MAX_RECORD};
@@ -18,7 +19,7 @@ use crate::since::StoreSince;
 use entry_codec::write_log_page;
 use farm_board::{Board, BoardPass};
 use farm_disk::Disk;
-use farm_entry::{Command, Reply};
+use farm_entry::{Command, LeasedRun, Reply};
 use farm_store::{Answers, Ask, CallFault, Part, Store};
 use farm_types::{Memory, Moment};
 use std::alloc::Global;
@@ -63,6 +64,35 @@ impl<D: Disk, B: Beginning> Locked<D, B> {
     {
         let _ = self.store.history();
         let result = self.store.call(alloc, command, at);
+        let totals = self.store.totals();
+        self.board
+            .post(&mut self.posting, totals, self.store.history());
+        result
+    }
+
+    /// Answers a command by the run that it hands out, and posts the totals.
+    pub fn enter(
+        &mut self,
+        alloc: Global,
+        command: &Command,
+        at: Moment,
+    ) -> Result<Option<LeasedRun>, CallFault>
+        ensures found { IsLegal self.old.store.history }
+        ensures says { Enters command.now at result self.old.store self.new.store }
+        ensures longer { IsPrefix self.old.store.history self.new.store.history }
+        ensures recorded { length self.old.store.history + self.new.store.recorded ≤ length self.new.store.history }
+        ensures legal { IsLegal self.new.store.history }
+        ensures leaves { D.tells self.old.store.disk ≡ true
+            → TurnLeaves (rest_of D.Disk self.old.store) (rest_of D.Disk self.new.store) }
+        ensures came { IfSome B.begun
+            (λ begun. CameBy D.Disk begun self.old.store × CameBy D.Disk begun self.new.store) }
+        ensures cause { HasCallCause result (D.count self.old.store.disk) (D.count self.new.store.disk) }
+        ensures settled { D.count self.old.store.disk ≡ D.count self.new.store.disk
+            → MayRise (D.count self.new.store.disk) → self.new.store.pending ≡ [] }
+        ensures never_falls { D.count self.old.store.disk ≤ D.count self.new.store.disk }
+    {
+        let _ = self.store.history();
+        let result = self.store.enter(alloc, command, at);
         let totals = self.store.totals();
         self.board
             .post(&mut self.posting, totals, self.store.history());

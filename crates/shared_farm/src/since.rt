@@ -3,6 +3,7 @@ ghost use Rattle.std.specs.Prelude.{◌≡◌, ◌≤◌, ◌++◌, true, IfSome
 ghost use Rattle.farm_entry.specs.Legal.{IsLegal};
 ghost use Rattle.farm_entry.specs.Pages.{totals};
 ghost use Rattle.farm_store.specs.Answering.{BatchSays, CallSays};
+ghost use Rattle.farm_store.specs.Entering.{Enters};
 ghost use Rattle.farm_store.specs.Faults.{HasCallCause};
 ghost use Rattle.farm_store.specs.Together.{TogetherSays, all_asks};
 ghost use Rattle.farm_store.specs.declared.asking.TheConstants.{MAX_BATCH, MAX_RECORD};
@@ -11,7 +12,7 @@ ghost use Rattle.shared_farm.specs.Rests.{CameBy, TurnLeaves, rest_of};
 
 use crate::beginning::Beginning;
 use farm_disk::Disk;
-use farm_entry::{Command, Entry, Reply, Totals};
+use farm_entry::{Command, Entry, LeasedRun, Reply, Totals};
 use farm_store::{Answers, Ask, CallFault, Part, Store};
 use farm_types::Moment;
 use std::alloc::Global;
@@ -62,6 +63,25 @@ impl<D: Disk, B: Beginning> StoreSince<D, B> {
         ensures never_falls { D.count self.old.disk ≤ D.count self.new.disk }
     {
         self.store.call(alloc, command, at)
+    }
+
+    /// Answers a command by the run that it hands out.
+    pub fn enter(
+        &mut self,
+        alloc: Global,
+        command: &Command,
+        at: Moment,
+    ) -> Result<Option<LeasedRun>, CallFault>
+        ensures says { Enters command.now at result self.old self.new }
+        ensures longer { IsPrefix self.old.history self.new.history }
+        ensures legal { IsLegal (self.new.history ++ self.new.pending) }
+        ensures leaves { D.tells self.old.disk ≡ true → TurnLeaves (rest_of D.Disk self.old) (rest_of D.Disk self.new) }
+        ensures came { IfSome B.begun
+            (λ begun. CameBy D.Disk begun self.old × CameBy D.Disk begun self.new) }
+        ensures cause { HasCallCause result (D.count self.old.disk) (D.count self.new.disk) }
+        ensures never_falls { D.count self.old.disk ≤ D.count self.new.disk }
+    {
+        self.store.enter(alloc, command, at)
     }
 
     /// Answers a batch.
