@@ -1,5 +1,5 @@
 -- What a call on a store comes to, where nothing was pending.
-use Rattle.std.proofs.Common.{◌≡◌, ◌⊎◌, ◌++◌, [], List, Ok, Err, sym, ap, subst, ◌∙◌, ⊎_elim, append-nil}
+use Rattle.std.proofs.Common.{◌≡◌, ◌++◌, [], List, Ok, Err, sym, ap, subst, ◌∙◌, ⊎_elim, append-nil}
 use Rattle.farm_types.specs.declared.moment.Moment.{Moment}
 use Rattle.farm_entry.specs.Decision.{decide}
 use Rattle.farm_entry.specs.Playing.{after}

@@ -1,5 +1,5 @@
 -- What stays as a history grows, and what a drill comes to.
-use Rattle.std.proofs.Common.{◌≡◌, ◌+◌, ◌++◌, ◌∷◌, [], ℕ, true, List, All, Contains, Option, Some, append_assoc, refl, sym, ap, subst, ◌∙◌, arith}
+use Rattle.std.proofs.Common.{◌≡◌, ◌++◌, ◌∷◌, [], ℕ, true, List, All, Contains, Option, Some, append_assoc, refl, sym, ap, subst, ◌∙◌, arith}
 use Rattle.std.specs.List.{cons_option}
 use Rattle.std.proofs.lemmas.List.Elements.{All-push, All-weaker, Contains-append_right}
 use Rattle.list_prefix.specs.Prefix.{IsPrefix}

@@ -26,6 +26,7 @@ use Rattle.farm_entry.specs.declared.refusal.Refusal.{Refusal}
 use Rattle.farm_entry.specs.declared.refusal.Refusal.TheVariants.{Full}
 use Rattle.farm_entry.specs.declared.reply.Reply.{Reply}
 use Rattle.farm_entry.specs.declared.reply.Reply.TheVariants as reply
+use Rattle.farm_core.specs.Outcome.{handed_out}
 use Rattle.farm_laws.proofs.Bounds.{entries-bounded}
 use Rattle.farm_laws.proofs.Moments.{moments-until_last}
 use Rattle.farm_laws.proofs.Replies.{slice_get-last}
@@ -35,7 +36,7 @@ use Rattle.list_prefix.specs.Prefix.{IsPrefix}
 use Rattle.drill_plan.specs.Start.{drill_founding, drill_moment}
 use Rattle.farm_drill.specs.Asked.{AskSays, IsDone, IsRefused}
 use Rattle.farm_drill.specs.Ends.{IsFull, NoneIsDue}
-use Rattle.farm_drill.specs.Steps.{FindsNone, HandsOut, run_given, run_of}
+use Rattle.farm_drill.specs.Steps.{FindsNone, HandsOut, run_given}
 
 -- The decision on a lease under a new key.
 
@@ -64,14 +65,14 @@ reply-last H e =
     ap (option_and_then (λ (x : Entry). reply_to (take (length H + 1) (H ++ e ∷ [])) x.what)) (slice_get-last H e)
 
 hands-out : (o : Option Opening) (lease : LeasedRun) (make : Opening → Reply) (r : Reply)
-    → ((x : Opening) → run_of (make x) ≡ Some lease) → option_map make o ≡ Some r → run_of r ≡ Some lease
+    → ((x : Opening) → handed_out (make x) ≡ Some lease) → option_map make o ≡ Some r → handed_out r ≡ Some lease
 hands-out None lease make r tells same = cc same
-hands-out (Some x) lease make r tells same = let equal : make x ≡ r = cc in ap run_of (sym equal) ∙ tells x
+hands-out (Some x) lease make r tells same = let equal : make x ≡ r = cc in ap handed_out (sym equal) ∙ tells x
 
 pub record IsLeased (H : List Entry) (key : Key) (r : Reply) (new : List Entry) : Type 0 where
   pub lease : LeasedRun
   pub handed : HandsOut H key lease new
-  pub reply : run_of r ≡ Some lease
+  pub reply : handed_out r ≡ Some lease
 
 lease-case : (H : List Entry) (key : Key) (w : List ℕ) (m : Moment) (new : List Entry) (r : Reply) (n : Option DueRun)
     → length H < MAX_ENTRIES → IsAnswer H (lease_decision H key w m n) (answer.Done r)
@@ -144,7 +145,7 @@ pub lease-says : (H : List Entry) (key : Key) (w : List ℕ) (at : Moment) (give
     → IsLeaseSaid H key (run_given given) new
 lease-says H key w at (Ok r) new legal free when says =
     let done = lease-done H key w at r new free says in
-    said-run H key (run_of r) done.lease new done.reply done.handed
+    said-run H key (handed_out r) done.lease new done.reply done.handed
 lease-says H key w at (Err cause) new legal free when says =
     let refused = subst (λ (m : Moment). IsRefused H (Lease key w) m cause new) when says in
     let why = lease-refused H key w cause new legal free refused in

@@ -10,7 +10,7 @@ use Rattle.farm_entry.specs.declared.lease.LeasedRun.{LeasedRun}
 use Rattle.farm_entry.specs.declared.limits.TheConstants.{MAX_ENTRIES}
 use Rattle.farm_entry.specs.declared.refusal.Refusal.{Refusal}
 use Rattle.farm_entry.specs.declared.reply.Reply.{Reply}
-use Rattle.farm_entry.specs.declared.reply.Reply.TheVariants.{Leased}
+use Rattle.farm_core.specs.Outcome.{handed_out}
 use Rattle.drill_plan.specs.Start.{drill_moment}
 
 -- a history is longer by one entry, for which it had room, and which holds this key
@@ -25,15 +25,9 @@ pub record HandsOut (H : List Entry) (key : Key) (lease : LeasedRun) (new : List
   pub more : IsOneMore H key new
   pub handed : lease_in more.entry.what ≡ Some lease
 
--- the run that a reply hands out, if it does
-abbrev pub run_of : Reply → Option LeasedRun
-run_of (Leased run search stage position commit test deadline) =
-    Some (record { run = run; search = search; stage = stage; position = position; deadline = deadline })
-run_of _ = None
-
 -- the run that a store's answer hands out, if it does
 abbrev pub run_given : Result Reply Refusal → Option LeasedRun
-run_given (Ok reply) = run_of reply
+run_given (Ok reply) = handed_out reply
 run_given (Err cause) = None
 
 -- there is room for a further entry, and no run is due at the moment of a drill

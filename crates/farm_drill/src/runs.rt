@@ -7,7 +7,8 @@ ghost use Rattle.drill_plan.specs.Start.{drill_founding};
 ghost use Rattle.farm_drill.specs.Ends.{AllReported, AreRun, IsFull};
 ghost use Rattle.farm_drill.specs.Free.{AreFree};
 ghost use Rattle.farm_types.specs.declared.key.Key.{Key as FarmKey};
-ghost use Rattle.farm_drill.specs.Steps.{FindsNone, HandsOut, run_given, run_of};
+ghost use Rattle.farm_core.specs.Outcome.{handed_out};
+ghost use Rattle.farm_drill.specs.Steps.{FindsNone, HandsOut, run_given};
 
 use crate::asking::ask;
 use crate::keys::Keys;
@@ -110,14 +111,14 @@ fn run_given(given: &Result<Reply, Refusal>) -> Option<LeasedRun>
     ensures { result ≡ run_given given.now }
 {
     match given {
-        Ok(reply) => run_of(reply),
+        Ok(reply) => handed_out(reply),
         Err(_) => None,
     }
 }
 
 /// The run that a reply hands out, if it does.
-fn run_of(reply: &Reply) -> Option<LeasedRun>
-    ensures { result ≡ run_of reply.now }
+fn handed_out(reply: &Reply) -> Option<LeasedRun>
+    ensures { result ≡ handed_out reply.now }
 {
     match reply {
         Reply::Leased {

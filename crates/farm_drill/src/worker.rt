@@ -7,7 +7,7 @@ ghost use Rattle.farm_drill.specs.Work.{TakesLease};
 use crate::names::{drill_moment, worker_name};
 use drill_plan::planned_verdict;
 use farm_disk::CalmDisk;
-use farm_entry::{Command, MAX_ENTRIES, Refusal, Reply};
+use farm_entry::{Command, LeasedRun, MAX_ENTRIES, Refusal};
 use farm_store::CallFault;
 use farm_types::{Key, Memory};
 use shared_farm::{Pass, SharedFarm};
@@ -143,31 +143,26 @@ impl Worker {
         if let Command::Lease { key: last, .. } = &mut self.request {
             *last = key;
         }
-        match farm.call(rt, alloc, pass, &self.request, drill_moment()) {
-            Ok(reply) => self.take(&reply),
+        match farm.enter(rt, alloc, pass, &self.request, drill_moment()) {
+            Ok(run) => self.take(run),
             Err(CallFault::Refused(Refusal::NoRun)) => Ok(Event::Nothing),
             Err(fault) => Err(Ended::from(fault)),
         }
     }
 
-    /// Takes the run of a reply.
-    fn take(&mut self, reply: &Reply) -> Result<Event, Ended>
-        ensures { TakesLease reply.now result self.new.held }
+    /// Takes the run that was handed out, if one was.
+    fn take(&mut self, run: Option<LeasedRun>) -> Result<Event, Ended>
+        ensures { TakesLease run result self.new.held }
     {
-        match reply {
-            Reply::Leased {
-                run,
-                search,
-                position,
-                ..
-            } => {
+        match run {
+            Some(lease) => {
                 self.held = Some(Held {
-                    search: *search,
-                    position: *position,
+                    search: lease.search,
+                    position: lease.position,
                 });
-                Ok(Event::Leased(*run))
+                Ok(Event::Leased(lease.run))
             }
-            _ => Err(Ended::Done),
+            None => Err(Ended::Done),
         }
     }
 
@@ -195,7 +190,7 @@ fn report<R: Wait>(
     ensures { IsReady farm.entry.now pass.new }
 {
     let command = Command::Report { run, verdict };
-    match farm.call(rt, alloc, pass, &command, drill_moment()) {
+    match farm.enter(rt, alloc, pass, &command, drill_moment()) {
         Ok(_) => Ok(Event::Noted),
         Err(fault) => Err(Ended::from(fault)),
     }
