@@ -1,5 +1,6 @@
 //! Tests of the shared farm: callers in four threads, a reader of totals beside them, and the history that they leave;
-//! a pass that is split and joined again; and what readers made before and after a call see of it.
+//! a pass that is split and joined again; what readers made before and after a call see of it; and commands that are
+//! entered for the run alone that they hand out.
 //!
 //! Nothing stands on this crate.
 #![tactic(auto)]
@@ -12,6 +13,8 @@ mod callers;
 mod counts;
 #[cfg(test)]
 mod disks;
+#[cfg(test)]
+mod entered;
 #[cfg(test)]
 mod missed;
 #[cfg(test)]
