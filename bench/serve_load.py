@@ -4,8 +4,9 @@
     bench/serve_load.py [FOLDER [SECONDS]]      in the folder for temporary files, 3 seconds a figure, if not said
 
 Run it after `./finder build`, on a file system of the kind that the journal will stand on.
-- Entries a second by four connections over a real file, one request at a time and 16 sent ahead, beside a plain program in C that makes
-  the same writes and syncs (plain_append.c), each with the mean size of the records that the service wrote.
+- Entries a second by four connections over a real file, one request at a time and 16 sent ahead, beside a plain program in C that writes
+  and syncs a record for each piece that a client sends (plain_append.c). Connections that wait share a record, so the service writes fewer:
+  how long their writes and syncs take alone is told, too.
 - Pages and totals a second with four connections of wrk, or of a plain client in C where there is no wrk (plain_client.c), beside a plain
   responder in C (plain_responder.c) that frames the same requests and answers constants.
 """
@@ -30,9 +31,15 @@ def compile_plain():
         subprocess.run(["cc", "-O2", "-D_GNU_SOURCE", "-o", f"{built}/{name}", f"{ROOT}/bench/{name}.c", "-lpthread"], check=True)
 
 
+def append(farm, count, size):
+    """Seconds that the plain program takes for so many records of this size."""
+    line = [f"{built}/plain_append", os.path.join(farm.folder, "plain"), str(count), str(size)]
+    return int(subprocess.run(line, check=True, capture_output=True).stdout) / 1e9
+
+
 def entries(ahead, seconds):
-    """Leases by four connections for a while, and the same writes and syncs by the plain program. At most 8 runs of a search are out at once, so
-    that the farm has 15,200 leases a second."""
+    """Leases by four connections for a while, and the plain program. At most 8 runs of a search are out at once, so that the farm has 15,200
+    leases a second; 16 ahead they last for less than 0.1 s."""
     farm = Farm(handlers=4, lease_ms=1_000, folder=tempfile.mkdtemp(dir=where))
     try:
         farm.start()
@@ -46,11 +53,13 @@ def entries(ahead, seconds):
         took = time.time() - begun
         farm.kill()
         records = records_of(farm.journal)[before:]
-        size = sum(map(len, records)) // len(records)
-        line = [f"{built}/plain_append", os.path.join(farm.folder, "plain"), str(len(records)), str(size)]
-        plain = int(subprocess.run(line, check=True, capture_output=True).stdout) / 1e9
-        print(f"entries, {ahead} ahead: {rate:,.0f} a second in {len(records)} records of {size} bytes; their writes and syncs alone "
-              f"take {plain:.2f} s of the {took:.2f} s: ratio {plain / took:.2f}", flush=True)
+        total = sum(map(len, records))
+        pieces = max(1, round(rate * took / ahead))
+        each = append(farm, pieces, total // pieces)
+        same = append(farm, len(records), total // len(records))
+        print(f"entries, {ahead} ahead: {rate:,.0f} a second, the plain program {pieces * ahead / each:,.0f} by a record for each piece: "
+              f"ratio {each / took:.2f}; {pieces} pieces in {len(records)} records, whose writes and syncs alone take {same:.2f} s "
+              f"of the {took:.2f} s: {same / took:.2f}", flush=True)
     finally:
         farm.close()
 
@@ -90,7 +99,7 @@ def pages():
 try:
     compile_plain()
     entries(1, seconds)
-    entries(16, min(seconds, 0.15))
+    entries(16, min(seconds, 0.08))
     print("pages, by " + ("wrk" if shutil.which("wrk") else "plain_client.c"))
     pages()
 finally:
