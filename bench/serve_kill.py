@@ -4,7 +4,8 @@
     bench/serve_kill.py [TIMES [SEED]]      200 times, seed 1
 
 Run it after `./finder build`. Then the same service on a file system that is full (a tmpfs of 64 KiB; only as root): calls that need
-an entry are answered 503, the others go on, and once there is room the service goes on without a restart.
+an entry are answered 503, the others go on, and once there is room the service goes on without a restart. Last the same with four clients
+at once, over a file system whose syncs take their time (2 MiB of ext4 in a file), so that clients share records.
 """
 import http.client
 import os
@@ -15,7 +16,7 @@ import tempfile
 import threading
 import time
 
-from service import Farm, entries_of, key, opening
+from service import Farm, entries_of, key, opening, records_of
 
 times = int(sys.argv[1]) if len(sys.argv) > 1 else 200
 dice = random.Random(int(sys.argv[2]) if len(sys.argv) > 2 else 1)
@@ -101,9 +102,62 @@ def full_disk():
         os.rmdir(folder)
 
 
+def full_disk_of_several():
+    """Whether four clients at once, who share records, were served as they should over a disk that was full for a while."""
+    image, folder = tempfile.mktemp(), tempfile.mkdtemp()
+    subprocess.run(["truncate", "-s", "2M", image], check=True)
+    subprocess.run(["mke2fs", "-q", "-F", "-t", "ext4", "-O", "^has_journal", image], check=True)
+    subprocess.run(["mount", "-o", "loop", image, folder], check=True)
+    farm, filler = None, os.path.join(folder, "filler")
+    try:
+        room = os.statvfs(folder)
+        with open(filler, "wb") as it:
+            it.write(bytes(room.f_bavail * room.f_bsize - 160 * 1024))
+        os.sync()
+        farm = Farm(folder=folder).start()
+        opened, faults = [{} for _ in range(4)], [0] * 4
+
+        def client(which):
+            """Opens 500 searches, each asked for again until it is answered."""
+            over = farm.connection(60)
+            for number in range(which + 1, 2_001, 4):
+                while number not in opened[which]:
+                    status, body = farm.post("/v1/searches", opening(number, 20), over)
+                    assert status in (200, 503), (status, body)
+                    if status == 200:
+                        opened[which][number] = body["search"]
+                    else:
+                        faults[which] += 1
+                        time.sleep(0.002)
+            over.close()
+
+        clients = [threading.Thread(target=client, args=(which,)) for which in range(4)]
+        for it in clients:
+            it.start()
+        until = time.time() + 30
+        while sum(faults) < 40 and time.time() < until:
+            time.sleep(0.01)
+        os.remove(filler)
+        for it in clients:
+            it.join()
+        numbers = sorted(number for it in opened for number in it.values())
+        farm.kill()
+        records = len(records_of(farm.journal)) - 1
+        held = farm.start().get("/v1/totals")[1]["searches"]
+        print(f"a full disk with four clients: {sum(faults)} times 503; {len(numbers)} opens in {records} records, {held} searches after a restart")
+        return numbers == list(range(1, 2_001)) and held == 2_000 and sum(faults) >= 40
+    finally:
+        if farm:
+            farm.kill()
+        subprocess.run(["umount", "-l", folder])
+        os.rmdir(folder)
+        os.remove(image)
+
+
 wrong = kills()
 if os.geteuid() == 0:
     wrong += [] if full_disk() else [0]
+    wrong += [] if full_disk_of_several() else [0]
 else:
     print("not root: no full disk was tried")
 sys.exit(bool(wrong))
