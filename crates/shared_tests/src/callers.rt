@@ -167,7 +167,7 @@ fn batch(alloc: Global, caller: u64, entries: u64) -> Option<Vec<Ask>> {
 }
 
 /// Whether the first answer of three is a lease, and the third one the same.
-fn is_answered(answers: &[Answer]) -> bool {
+pub(crate) fn is_answered(answers: &[Answer]) -> bool {
     match answers {
         [first, second, third] => {
             first == third
@@ -405,7 +405,7 @@ fn is_admitted(alloc: Global, history: &[Entry]) -> bool {
 }
 
 /// Whether the plain program finds no entry that may not stand where it does.
-fn is_legal(alloc: Global, history: &[Entry]) -> bool {
+pub(crate) fn is_legal(alloc: Global, history: &[Entry]) -> bool {
     match first_illegal(alloc, history) {
         Ok(place) => place.is_none(),
         Err(_) => false,
