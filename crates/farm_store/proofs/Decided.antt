@@ -30,9 +30,11 @@ use Rattle.farm_store.specs.declared.asking.Answer.TheVariants as answer
 use Rattle.farm_store.specs.declared.asking.Ask.{Ask}
 use Rattle.farm_store.specs.declared.asking.CallFault.{CallFault}
 use Rattle.farm_store.specs.declared.asking.CallFault.TheVariants as fault
-use Rattle.farm_store.specs.declared.asking.TheConstants.{MAX_RECORD}
+use Rattle.farm_store.specs.Sizes.{entries_size}
+use Rattle.farm_store.specs.declared.asking.TheConstants.{MAX_RECORD_BYTES}
 use Rattle.farm_store.proofs.Calls.{Grows, history_after-grows, undecided-none, undecided-some}
 use Rattle.farm_store.proofs.Repairs.{leaves-idle-view}
+use Rattle.farm_store.proofs.Sizes.{rest-fits}
 
 -- a decision keeps a history legal
 pub after-legal : (H : List Entry) (q : Command) (m : Moment) (d : Decision) → decide H q m ≡ d → IsLegal H
@@ -136,16 +138,16 @@ module _ {D : Type 0} (tells : D → Bool) (told : D → DiskState) (farm : Farm
     long = ap length grows.longer ∙ length-append farm.history grows.more
 
     -- the farm is ahead of its journal by what was added
-    pub ahead : (start : ℕ) → start ≡ length farm.history → most ≤ MAX_RECORD → IsLegal farm'.history
-        → IsAhead tells told start farm' journal
-    ahead start is few legal =
-        let some = grows.few in
-        let size : length (drop (length farm.history) farm'.history) ≡ length grows.more = ap length rest in
+    pub ahead : (start : ℕ) → start ≡ length farm.history
+        → entries_size farm'.history ≤ entries_size farm.history + MAX_RECORD_BYTES
+        → IsLegal farm'.history → IsAhead tells told start farm' journal
+    ahead start is most legal =
+        let fits = rest-fits farm.history grows.more farm'.history MAX_RECORD_BYTES grows.longer most in
         subst (λ (k : ℕ). IsAhead tells told k farm' journal) (sym is) (record {
           keeps = subst (λ (l : List Entry). Keeps journal.payloads l) (sym front) store.keeps;
           legal = legal;
           within = omega (arith, long);
-          few = omega (arith, size, some, few);
+          fits = subst (λ (l : List Entry). entries_size l ≤ MAX_RECORD_BYTES) (sym rest) fits;
           idle = idle;
           rests = store.rests idle;
         })

@@ -15,7 +15,7 @@ use Rattle.farm_journal.specs.State.{IsHeld, JournalState}
 use Rattle.farm_store.specs.Founded.{IsUnbornOrFounding, founding}
 use Rattle.farm_store.specs.State.{IsStored}
 use Rattle.farm_store.specs.StoreInside.{IsStore, Keeps}
-use Rattle.farm_store.proofs.Spellings.{batch-fits, keeps-first}
+use Rattle.farm_store.proofs.Spellings.{keeps-first, record-fits}
 use Rattle.farm_store.proofs.Standing.{stands-kept, stored-held}
 
 founding-some : (settings : Settings) (at : Moment) → founding settings at ≢ []
@@ -27,7 +27,7 @@ founding-legal settings at = (tt, tt)
 module _ (settings : Settings) (at : Moment) (p : List ℕ) (is : p ≡ spelling (founding settings at))
     (spelled : AreSpelled (founding settings at)) where
   pub founding-fits : IsPayload p
-  founding-fits = batch-fits (founding settings at) p spelled is (founding-some settings at) (omega arith)
+  founding-fits = record-fits (founding settings at) p spelled is (founding-some settings at) (omega arith)
 
   pub founding-kept : Keeps (p ∷ []) (founding settings at)
   founding-kept = keeps-first (founding settings at) p spelled is (founding-some settings at)

@@ -7,6 +7,7 @@ pub mod Excluded
 pub mod Foundings
 pub mod GoingOn
 pub mod Repairs
+pub mod Sizes
 pub mod Spellings
 pub mod Standing
 pub mod Together

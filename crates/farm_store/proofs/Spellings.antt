@@ -18,7 +18,9 @@ use Rattle.farm_journal.specs.declared.layout.TheConstants.{FIRST_GATE, GATE_LIM
 use Rattle.farm_journal.proofs.Scan.{gate_of-push}
 use Rattle.farm_store.specs.Bytes.{Spells, joined}
 use Rattle.farm_store.specs.StoreInside.{Keeps}
-use Rattle.farm_store.specs.declared.asking.TheConstants.{MAX_RECORD}
+use Rattle.farm_store.specs.Sizes.{entries_size}
+use Rattle.farm_store.specs.declared.asking.TheConstants.{MAX_RECORD_BYTES}
+use Rattle.farm_store.proofs.Sizes.{spelling-within}
 
 -- the bytes of all payloads, one after the other
 abbrev all_bytes : List (List ℕ) → List ℕ
@@ -121,11 +123,11 @@ keeps-room payloads H keeps =
     let few : length H ≤ MAX_ENTRIES = entries-bounded H keeps.legal in
     omega (arith, low, few)
 
--- as many entries as a record may have fit its payload
-pub batch-fits : (entries : List Entry) (p : List ℕ) → AreSpelled entries → p ≡ spelling entries → entries ≢ []
-    → length entries ≤ MAX_RECORD → IsPayload p
-batch-fits entries p spelled is some few =
+-- entries fit a payload where the most that their kinds allow does
+pub record-fits : (entries : List Entry) (p : List ℕ) → AreSpelled entries → p ≡ spelling entries → entries ≢ []
+    → entries_size entries ≤ MAX_RECORD_BYTES → IsPayload p
+record-fits entries p spelled is some fits =
     let size : length p ≡ length (spelling entries) = ap length is in
-    let short : length (spelling entries) ≤ length entries * MAX_ENTRY_BYTES = spelling-short entries spelled in
+    let short = spelling-within entries spelled in
     let one : 1 ≤ length (spelling entries) = spelling-some entries some in
-    record { some = omega (arith, size, one); most = omega (arith, size, short, few) }
+    record { some = omega (arith, size, one); most = omega (arith, size, short, fits) }

@@ -7,6 +7,7 @@ pub mod Faults
 pub mod Founded
 pub mod Opened
 pub mod Recorded
+pub mod Sizes
 pub mod State
 pub mod StoreInside
 pub mod Together

@@ -1,6 +1,10 @@
 //! What a store is asked, and what it answers.
+ghost use Rattle.std.specs.Prelude.{◌≡◌, ◌≤◌, length};
+ghost use Rattle.farm_store.specs.Sizes.{command_size, asks_size};
 
+use entry_codec::MAX_ENTRY_BYTES;
 use farm_entry::{Command, Refusal, Reply};
+use farm_journal::MAX_PAYLOAD;
 use farm_types::Moment;
 use item_list::ItemList;
 use thiserror::Error;
@@ -8,8 +12,14 @@ use thiserror::Error;
 /// The most asks of one batch. The fewest is one.
 pub const MAX_BATCH: usize = 16;
 
-/// The most asks of the callers who share a record, all together: the longest entries of as many fit its payload.
-pub const MAX_RECORD: usize = 40;
+/// The most bytes of a batch's entries in a record.
+pub const MAX_BATCH_BYTES: usize = MAX_BATCH * MAX_ENTRY_BYTES;
+
+/// The most bytes of the entries of callers who share a record, all together: those of a journal's payload.
+pub const MAX_RECORD_BYTES: usize = MAX_PAYLOAD;
+
+/// The most bytes of an entry that opens no search: an order for the agent with the longest name.
+pub const MAX_SHORT_ENTRY_BYTES: usize = 258;
 
 /// A command, and the moment at which it is asked.
 #[derive(Debug, Drop)]
@@ -18,6 +28,18 @@ pub struct Ask {
     pub command: Command,
     /// When.
     pub at: Moment,
+}
+
+impl Ask {
+    /// The most bytes that the entry of this ask takes in a record, by its kind.
+    fn most_bytes(&self) -> usize
+        ensures { result ≡ command_size self.now.command }
+    {
+        match self.command {
+            Command::Open(_) => MAX_ENTRY_BYTES,
+            _ => MAX_SHORT_ENTRY_BYTES,
+        }
+    }
 }
 
 /// The answer to one ask of a batch.
@@ -61,4 +83,18 @@ pub enum CallFault {
     /// Out of memory, and nothing of the call is recorded.
     #[error("out of memory")]
     Memory,
+}
+
+/// The most bytes that the entries of a batch take in a record, by their kinds. [`laws`](crate::laws) has that they
+/// take no more.
+pub fn most_bytes(asks: &[Ask]) -> usize
+    requires few { length asks.now ≤ MAX_BATCH }
+    ensures bytes { result ≡ asks_size asks.now }
+    ensures most { result ≤ MAX_BATCH_BYTES }
+{
+    let mut bytes = 0;
+    for ask in asks {
+        bytes += ask.most_bytes();
+    }
+    bytes
 }

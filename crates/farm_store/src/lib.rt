@@ -5,13 +5,16 @@
 //! that a crash leaves all of these or none. Where the disk fails, it is undecided whether the record was kept: its
 //! entries are pending, and the next call begins by finding out, before anything else is decided. Several callers can
 //! share a record: the asks of each, a [`Part`], are answered after those of the one before, and what all of them
-//! record is stored at once. A caller who needs no reply but the run that it hands out enters a command, which spares
-//! the look at the search that the run is for. [`answer`] answers a command by a farm in memory alone, as a store does
-//! before it writes, for a farm that has no disk.
+//! record is stored at once, where their [`most_bytes`] are [`MAX_RECORD_BYTES`] together at most. A caller who needs no
+//! reply but the run that it hands out enters a command, which spares the look at the search that the run is for.
+//! [`answer`] answers a command by a farm in memory alone, as a store does before it writes, for a farm that has no
+//! disk.
 //!
 //! The crate stands on `farm_core` for the farm, on `farm_journal` and `farm_disk` for the records and what a crash may
-//! leave of them, and on `entry_codec` for entries as bytes. The layers above may use every name below; clauses above
-//! cite `specs/` (`Bytes`, `Damage`, `State`, `Answering`, `Together`, `Entering`, `Opened`, `Founded`, `Faults`).
+//! leave of them, and on `entry_codec` for entries as bytes. What the entries of asks take at most is told by the
+//! commands' kinds, whose decisions name drafts of `farm_rules` and verdicts of `weight_exact`. The layers above may use every name below; clauses above
+//! cite `specs/` (`Bytes`, `Damage`, `State`, `Answering`, `Together`, `Sizes`, `Entering`, `Opened`, `Founded`,
+//! `Faults`).
 #![tactic(auto)]
 
 mod admitting;
@@ -25,6 +28,9 @@ mod store;
 
 pub use admitting::farm_of;
 pub use answering::answer;
-pub use asking::{Answer, Answers, Ask, CallFault, MAX_BATCH, MAX_RECORD, Part};
+pub use asking::{
+    Answer, Answers, Ask, CallFault, MAX_BATCH, MAX_BATCH_BYTES, MAX_RECORD_BYTES,
+    MAX_SHORT_ENTRY_BYTES, Part, most_bytes,
+};
 pub use farm_journal::{CreateFault, OpeningFault};
 pub use store::Store;

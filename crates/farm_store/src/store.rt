@@ -35,7 +35,8 @@ ghost use Rattle.farm_store.specs.Founded.{Founds, IsUnbornOrFounding, disk_foun
 ghost use Rattle.farm_store.specs.Opened.{OpensTo, disk_opened};
 ghost use Rattle.farm_store.specs.State.{IsLeft, IsRepaired, IsStored, IsWithOrWithout};
 ghost use Rattle.farm_store.specs.Together.{TogetherSays, all_asks};
-ghost use Rattle.farm_store.specs.declared.asking.TheConstants.{MAX_BATCH, MAX_RECORD};
+ghost use Rattle.farm_store.specs.Sizes.{asks_size};
+ghost use Rattle.farm_store.specs.declared.asking.TheConstants.{MAX_BATCH, MAX_RECORD_BYTES};
 
 use crate::admitting::farm_of;
 use crate::answering::{answer, answer_all, answer_parts};
@@ -289,9 +290,10 @@ impl<D: Disk> Store<D> {
         answered
     }
 
-    /// Answers 1 to `MAX_RECORD` asks of several callers as batches one after the other would, but for this: the new
-    /// entries of all of them are stored in one record, before any answer is given. So a crash leaves all of them or
-    /// none. A part keeps its asks, and is given their answers and the end of the history that they leave.
+    /// Answers asks of several callers, at least one and no more than are sure to fit a record, as batches one after
+    /// the other would, but for this: the new entries of all of them are stored in one record, before any answer is
+    /// given. So a crash leaves all of them or none. A part keeps its asks, and is given their answers and the end of
+    /// the history that they leave.
     ///
     /// # Errors
     ///
@@ -299,7 +301,7 @@ impl<D: Disk> Store<D> {
     /// answers and ends then means nothing. A refusal is an answer.
     pub fn call_together(&mut self, alloc: Global, parts: &mut [Part]) -> Result<(), CallFault>
         requires some { 1 ≤ length (all_asks parts.old) }
-        requires few { length (all_asks parts.old) ≤ MAX_RECORD }
+        requires fits { asks_size (all_asks parts.old) ≤ MAX_RECORD_BYTES }
 
         ensures same { D.tells self.new.disk ≡ D.tells self.old.disk }
         ensures says { TogetherSays parts.old parts.new result self.old self.new }
@@ -568,7 +570,7 @@ impl<D: Disk> Store<D> {
     ) -> Result<(), CallFault>
         requires decided { self.old.pending ≡ [] }
         requires none_recorded { self.old.recorded ≡ 0 }
-        requires few { length (all_asks parts.old) ≤ MAX_RECORD }
+        requires fits { asks_size (all_asks parts.old) ≤ MAX_RECORD_BYTES }
         ensures same { D.tells self.new.disk ≡ D.tells self.old.disk }
         ensures says { TogetherSays parts.old parts.new result self.old self.new }
         ensures asks { map (λ part. part.asks) parts.new ≡ map (λ part. part.asks) parts.old }

@@ -4,6 +4,7 @@ ghost use Rattle.job_table.specs.declared.jobs.TheConstants.{SLOTS};
 
 use crate::jobs::SLOTS;
 use crossbeam_utils::sync::EventCount;
+use std::array;
 
 /// A bell for each slot.
 #[derive(Drop)]
@@ -14,24 +15,7 @@ pub struct Bells {
 impl Bells {
     pub fn new() -> Bells {
         Bells {
-            bells: [
-                EventCount::new(),
-                EventCount::new(),
-                EventCount::new(),
-                EventCount::new(),
-                EventCount::new(),
-                EventCount::new(),
-                EventCount::new(),
-                EventCount::new(),
-                EventCount::new(),
-                EventCount::new(),
-                EventCount::new(),
-                EventCount::new(),
-                EventCount::new(),
-                EventCount::new(),
-                EventCount::new(),
-                EventCount::new(),
-            ],
+            bells: array::from_fn(|_| EventCount::new()),
         }
     }
 

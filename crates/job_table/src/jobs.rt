@@ -81,10 +81,10 @@ impl<K, Q, A, P: JobRule<K, Q, A>> JobTable<K, Q, A, P> {
         })
     }
 
-    /// Whether some job seems to be posted that nobody has taken. It is a hint, for which one look is enough: a job
-    /// that is just being posted or taken may count or not.
-    pub fn has_posted(&self) -> bool {
-        self.waiting.load(Ordering::SeqCst) != 0
+    /// How many jobs seem to be posted that nobody has taken. It is a hint, for which one look is enough: a job that is
+    /// just being posted or taken may count or not.
+    pub fn count_posted(&self) -> u64 {
+        self.waiting.load(Ordering::SeqCst)
     }
 
     /// Whether the answer to a job is there. It is a hint.
@@ -151,7 +151,7 @@ impl<K, Q, A, P: JobRule<K, Q, A>> JobTable<K, Q, A, P> {
         ensures taken { IfSome result (λ taken. taken.0 ≡ record { table = self.now; job = taken.1 }) }
         ensures may { IfSome result (λ taken. P.may self.now.key taken.1) }
     {
-        if !self.has_posted() {
+        if self.count_posted() == 0 {
             return None;
         }
         let first = self.first();
@@ -191,7 +191,7 @@ impl<K, Q, A, P: JobRule<K, Q, A>> JobTable<K, Q, A, P> {
     /// Rings the bell of a job that is posted and not taken, if there is one: the one that would be taken next. So one
     /// of the callers that wait goes on, where nobody else takes jobs any more.
     pub fn ring_next(&self) {
-        if !self.has_posted() {
+        if self.count_posted() == 0 {
             return;
         }
         let first = self.first();

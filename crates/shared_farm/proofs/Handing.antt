@@ -1,5 +1,6 @@
 -- Those whose errands were taken over, one after the other, and the parts of their asks.
-use Rattle.std.proofs.Common.{◌≡◌, ◌++◌, ◌∷◌, [], List, ℕ, ◌+◌, ◌<◌, Bool, true, ◌==◌, Vec, Global, length, get_or, take, drop, arith, sym, refl, ap, ◌∙◌, subst, map, suc}
+use Rattle.std.proofs.Common.{◌≡◌, ◌++◌, ◌∷◌, [], List, ℕ, ◌<◌, Bool, true, ◌==◌, Vec, Global, length, get_or, take, drop, arith, sym, refl, ap, ◌∙◌, subst, map, suc, slice_index_or}
+use Rattle.std.specs.List.{remove}
 use Rattle.std.proofs.lemmas.List.{take_at}
 use Rattle.farm_store.specs.declared.asking.Ask.{Ask}
 use Rattle.std.proofs.lemmas.Bool.Decides.{nat_tests}
@@ -16,27 +17,37 @@ use Rattle.shared_farm.specs.Rounds.{AreHelped, IsHelped, IsShared, first_asks}
 use Rattle.shared_farm.specs.declared.errand.Helped.{Helped}
 
 -- a list that isn't empty is its first item and the rest
-pub first-rest : {A : Type 0} (l rest : List A) (x : A) → x ≡ get_or l 0 x → rest ≡ drop 1 l → 0 < length l → l ≡ x ∷ rest
+pub first-rest : {A : Type 0} (l rest : List A) (x : A) → x ≡ get_or l 0 x → rest ≡ drop 1 l → 0 < length l
+    → l ≡ x ∷ rest
 first-rest [] rest x is after some = absurd (omega (arith, some))
 first-rest {A} (y ∷ l) rest x is after some =
     ap (λ (z : A). z ∷ l) (sym is) ∙ ap (λ (k : List A). x ∷ k) (sym after)
 
 module _ {K : Type 0} (lock : TableId) (jobs : Jobs K) where
-  -- the first part is that of the first errand, and the others are those of the others
-  pub helped-first : (parts later : List Part) (group rest : List (Helped K)) (part : Part) (helped : Helped K)
-      → AreHelped lock jobs parts group → parts ≡ part ∷ later → group ≡ helped ∷ rest
-      → IsHelped lock jobs part helped × AreHelped lock jobs later rest
-  helped-first parts later group rest part helped are ps gs =
-      subst (λ (p : List Part). AreHelped lock jobs p (helped ∷ rest)) ps
-      (subst (λ (l : List (Helped K)). AreHelped lock jobs parts l) gs are)
+  -- the first errand with the part of its asks, and those of the others
+  pub record IsTakenFirst (parts : List Part) (part : Part) (later : List Part) (helped : Helped K)
+      (rest : List (Helped K)) : Type 0 where
+    pub parts_are : parts ≡ part ∷ later
+    pub first : IsHelped lock jobs part helped
+    pub others : AreHelped lock jobs later rest
+
+  pub taken-first : (parts later : List Part) (group rest : List (Helped K)) (part : Part) (helped : Helped K)
+      → AreHelped lock jobs parts group → 0 < length group
+      → part ≡ slice_index_or parts 0 part → later ≡ remove parts 0
+      → helped ≡ slice_index_or group 0 helped → rest ≡ remove group 0
+      → IsTakenFirst parts part later helped rest
+  taken-first [] later [] rest part helped are some p ps h hs = absurd (omega (arith, some))
+  taken-first [] later (y ∷ group) rest part helped are some p ps h hs = absurd are
+  taken-first (x ∷ parts) later [] rest part helped are some p ps h hs = absurd are
+  taken-first (x ∷ parts) later (y ∷ group) rest part helped are some p ps h hs = record {
+    parts_are = ap (λ (q : Part). q ∷ parts) (sym p) ∙ ap (λ (l : List Part). part ∷ l) (sym ps);
+    first = subst (λ (q : Part). IsHelped lock jobs q helped) (sym p)
+        (subst (λ (k : Helped K). IsHelped lock jobs x k) (sym h) are.0);
+    others = subst (λ (l : List Part). AreHelped lock jobs l rest) (sym ps)
+        (subst (λ (l : List (Helped K)). AreHelped lock jobs parts l) (sym hs) are.1);
+  }
 
   -- there are as many parts as errands
-  pub helped-some : (parts : List Part) (group : List (Helped K)) → AreHelped lock jobs parts group → 0 < length group
-      → 0 < length parts
-  helped-some [] [] are some = some
-  helped-some [] (helped ∷ group) are some = absurd are
-  helped-some (part ∷ parts) group are some = omega arith
-
   pub helped-none : (parts : List Part) (group : List (Helped K)) → AreHelped lock jobs parts group → length group ≡ 0
       → parts ≡ []
   helped-none [] group are none = refl
@@ -52,31 +63,12 @@ all-shown meant begun store shown parts s none =
 module _ {K D : Type 0} (lock : TableId) (jobs : Jobs K) (meant : disk.Ghosts D) (begun : Option Begun)
     (store : StoreState D) (shown : ℕ) (parts : Vec Part Global) (group : Vec (Helped K) Global) where
   -- where no errand is left, the whole history was shown
-  pub whole-shown : (none : Bool) → IsShared meant begun store shown parts.items → AreHelped lock jobs parts.items group.items
-      → none ≡ (group.len == 0) → none ≡ true → take shown store.history ≡ store.history
+  pub whole-shown : (none : Bool) → IsShared meant begun store shown parts.items
+      → AreHelped lock jobs parts.items group.items → none ≡ (group.len == 0) → none ≡ true
+      → take shown store.history ≡ store.history
   whole-shown none shared helped is holds =
       let empty : length group.items ≡ 0 = sym group.ok.0 ∙ grind (arith, nat_tests, is, holds) in
       all-shown meant begun store shown parts.items shared (helped-none lock jobs parts.items group.items helped empty)
-
-  -- the first errand with the part of its asks, and those of the others
-  pub record IsTakenFirst (part : Part) (later : List Part) (helped : Helped K) (rest : List (Helped K)) : Type 0 where
-    pub parts_are : parts.items ≡ part ∷ later
-    pub group_is : group.items ≡ helped ∷ rest
-    pub first : IsHelped lock jobs part helped
-    pub others : AreHelped lock jobs later rest
-
-  pub taken-first : (part : Part) (later : List Part) (helped : Helped K) (rest : Vec (Helped K) Global)
-      → AreHelped lock jobs parts.items group.items
-      → helped ≡ get_or group.items 0 helped → rest.items ≡ drop 1 group.items → rest.len + 1 ≡ group.len
-      → part ≡ get_or parts.items 0 part → later ≡ drop 1 parts.items → IsTakenFirst part later helped rest.items
-  taken-first part later helped rest are h hs n p ps =
-      let long = group.ok.0 in
-      let some : 0 < length group.items = omega (arith, n, long) in
-      let part_there : 0 < length parts.items = helped-some lock jobs parts.items group.items are some in
-      let pe = first-rest parts.items later part p ps part_there in
-      let ge = first-rest group.items rest.items helped h hs some in
-      let both = helped-first lock jobs parts.items later group.items rest.items part helped are pe ge in
-      record { parts_are = pe; group_is = ge; first = both.0; others = both.1 }
 
 -- the parts as they were lent, when they come back
 pub lent-back : (v : Vec Part Global) (new : List Part) → length new ≡ length v.items
@@ -97,7 +89,8 @@ helped-same lock jobs (p ∷ ps) [] group same are =
     absurd (omega (arith, ap (λ (l : List (Vec Ask Global)). length l) same))
 helped-same lock jobs (p ∷ ps) (q ∷ qs) [] same are = absurd are
 helped-same {K} lock jobs (p ∷ ps) (q ∷ qs) (h ∷ group) same are =
-    let both = asks_part q.asks p.asks (map (λ (part : Part). part.asks) qs) (map (λ (part : Part). part.asks) ps) same in (
+    let both = asks_part q.asks p.asks (map (λ (part : Part). part.asks) qs) (map (λ (part : Part). part.asks) ps) same
+    in (
       record {
         table = are.0.table;
         errand = are.0.errand;

@@ -1,6 +1,5 @@
 pub mod Crossing
 pub mod Handing
-pub mod Helping
 pub mod Members
 pub mod Recorded
 pub mod Resting

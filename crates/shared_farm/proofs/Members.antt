@@ -1,5 +1,5 @@
 -- What those know whose asks were answered together: each had a turn of its own.
-use Rattle.std.proofs.Common.{◌≡◌, ◌++◌, ◌∷◌, [], List, ℕ, true, ◌+◌, ◌-◌, ◌≤◌, Option, Some, IfSome, inl, inr, ⊎_elim, length, take, arith, sym, refl, ap, ◌∙◌, subst, le_refl, drop, Vec, Global}
+use Rattle.std.proofs.Common.{◌≡◌, ◌++◌, ◌∷◌, [], List, ℕ, true, ◌-◌, ◌≤◌, Option, Some, IfSome, inl, inr, ⊎_elim, length, take, arith, sym, refl, ap, ◌∙◌, subst, le_refl, drop, Vec, Global}
 use Rattle.std.specs.Prelude.{Result, Ok, Err}
 use Rattle.std.specs.List.{range_with_len}
 use Rattle.std.proofs.lemmas.List.{length-take-le, take-append-drop, take_at}
@@ -22,7 +22,7 @@ use Rattle.farm_entry.specs.Decision.{decide}
 use Rattle.farm_entry.specs.Playing.{after}
 use Rattle.list_prefix.specs.Prefix.{IsPrefix}
 use Rattle.list_prefix.proofs.Prefixes.{IsPrefix-append, IsPrefix-equal, IsPrefix-length, IsPrefix-refl, IsPrefix-trans}
-use Rattle.turn_lock.specs.Known.{Before, IsSettled, Known}
+use Rattle.turn_lock.specs.Known.{Before, IsSettled, Known, known_after}
 use Rattle.turn_lock.specs.Places.{ArePlaces}
 use Rattle.turn_lock.proofs.PlaceLists.{ArePlaces-range_with_len}
 use Rattle.turn_lock.specs.declared.view.Taken.{Taken}
@@ -76,8 +76,8 @@ given-answered H (p ∷ ps) (q ∷ qs) g =
       ap (λ (l : List Ask). l ++ all_asks ps) (sym same) ∙ ap (λ (l : List Ask). q.asks.items ++ l) rest.1,
     )
 
--- A batch that shares its record, as a call of a store at the history of the ones before it: it answered these asks, and
--- its history went on from there.
+-- A batch that shares its record, as a call of a store at the history of the ones before it: it answered these asks,
+-- and its history went on from there.
 module _ {D : Type 0} where
   -- a store as it stands behind its first entries, of which its last call recorded so many
   abbrev pub store_at : StoreState D → ℕ → ℕ → StoreState D
@@ -160,16 +160,7 @@ module _ {D : Type 0} where
       → IsTaken meant.count old held (store_at store shown 0)
       → ArePlaces 0 (length old.seen) old.mine
       → own ≡ range_with_len shown (part.end - shown)
-      → new ≡ record {
-        lock = lock;
-        ready = true;
-        seen = take part.end store.history;
-        mine = held.pass.mine ++ own;
-        faults = meant.count store.disk;
-        uses = held.pass.uses + 1;
-        last = held.taken;
-        pending = Some store.pending;
-      }
+      → new ≡ known_after lock held (take part.end store.history) own (meant.count store.disk) store.pending
       → IsServed meant.count old new held (store_at store shown 0) (store_at store part.end (part.end - shown)) own
   shared-served meant begun store shown part parts old new held own lock s held_is taken places own_is new_is =
       let on = shared-on meant begun store shown part parts s in
@@ -184,16 +175,20 @@ module _ {D : Type 0} where
       let says = shared-says meant begun store shown part parts s in
       let start : length left.history - left.recorded ≡ shown = omega (arith, m, low) in
       record {
-        held_is = held_is;
-        taken = taken;
-        answered = λ _ _. s.decided;
-        at_least = le_refl (meant.count store.disk);
-        legal = s.legal;
-        places = places;
-        longer = longer;
-        room = omega (arith, n, m, low);
-        own_is = own_is ∙ ap (λ (k : ℕ). range_with_len k (part.end - shown)) (sym start);
-        recorded = recorded-own part.asks.items (Ok part.answers) found left says longer;
+        serving = record {
+          held_is = held_is;
+          places = places;
+          taken = taken;
+          answered = record {
+            legal = s.legal;
+            longer = longer;
+            room = omega (arith, n, m, low);
+            recorded = recorded-own part.asks.items (Ok part.answers) found left says longer;
+            settled = λ _ _. s.decided;
+            never_falls = le_refl (meant.count store.disk);
+          };
+          own_is = own_is ∙ ap (λ (k : ℕ). range_with_len k (part.end - shown)) (sym start);
+        };
         lock = lock;
         new_is = new_is;
       }
@@ -222,8 +217,8 @@ module _ {D : Type 0} where
       → HasCallCause result (meant.count found.disk) (meant.count left.disk) → IsLegal left.history
       → RecordKeeps meant begun new → HadTurn meant begun lock asks result old new
   had-turn meant begun {old} {new} {held} {found} {left} {own} lock asks result s same says cause legal keeps =
-      let low = s.taken.faults in
-      let high = s.at_least in
+      let low = s.serving.taken.faults in
+      let high = s.serving.answered.never_falls in
       let last : new.faults ≡ meant.count left.disk = ap (λ (k : Known). k.faults) s.new_is in
       record {
         ready = record {
@@ -258,14 +253,24 @@ module _ {D : Type 0} where
       subst (λ (l : List Entry). IsPrefix old.history l) (sym e) (IsPrefix-append old.history old.pending))
       found
 
-  -- the record of all parts, when the turn that stored it is about to be given to the first of them
-  pub shared-first : (meant : disk.Ghosts D) (begun : Option Begun) (old store : StoreState D) (ps qs : List Part)
+  -- A turn that found the old store stored all parts in one record: the first of them begins where the repair ended.
+  pub record AreStored (meant : disk.Ghosts D) (begun : Option Begun) (old store : StoreState D) (start : ℕ)
+      (parts : List Part) : Type 0 where
+    pub found : IsRepaired old (take start store.history)
+    pub shared : IsShared meant begun store start parts
+    pub legal : IsLegal old.history
+    pub never_falls : meant.count old.disk ≤ meant.count store.disk
+    pub leaves : meant.tells old.disk ≡ true → TurnLeaves (rest_of meant old) (rest_of meant store)
+    pub came : IfSome begun (λ b. CameBy meant b old × CameBy meant b store)
+
+  -- what the store gave to all parts
+  pub given-stored : (meant : disk.Ghosts D) (begun : Option Begun) (old store : StoreState D) (ps qs : List Part)
       (start : ℕ) (given : IsGiven ps qs old store) → start ≡ length store.history - store.recorded
-      → IsLegal old.history → IsLegal store.history
+      → IsLegal old.history → IsLegal store.history → meant.count old.disk ≤ meant.count store.disk
       → (meant.tells old.disk ≡ true → TurnLeaves (rest_of meant old) (rest_of meant store))
       → IfSome begun (λ b. CameBy meant b old × CameBy meant b store)
-      → (take start store.history ≡ given.repaired) × IsShared meant begun store start qs
-  shared-first meant begun old store ps qs start given start_is legal legal_now leaves came =
+      → AreStored meant begun old store start qs
+  given-stored meant begun old store ps qs start given start_is legal legal_now never_falls leaves came =
       let R : List Entry = given.repaired in
       let counted = given.recorded in
       let n : start ≡ length R = omega (arith, start_is, counted) in
@@ -276,9 +281,10 @@ module _ {D : Type 0} where
       subst (λ (l : List Entry). IsPrefix R l) (sym whole) (history_after-begins R (all_asks qs)) in
       let is : take start store.history ≡ R = take-of_prefix R store.history start on n in
       let from = repaired-begins old R given.found in
-      let high = IsPrefix-length R store.history on in (
-        is,
-        record {
+      let high = IsPrefix-length R store.history on in
+      record {
+        found = subst (λ (l : List Entry). IsRepaired old l) (sym is) given.found;
+        shared = record {
           answered = subst (λ (l : List Entry). AreAnswered l qs) (sym is) answered.0;
           history = subst (λ (l : List Entry). store.history ≡ history_after l (all_asks qs)) (sym is) whole;
           within = omega (arith, n, high);
@@ -288,45 +294,38 @@ module _ {D : Type 0} where
           begins = subst (λ (l : List Entry). IsPrefix old.history l) (sym is) from;
           leaves = leaves;
           came = came;
-        },
-      )
+        };
+        legal = legal;
+        never_falls = never_falls;
+        leaves = leaves;
+        came = came;
+      }
 
-  -- the turn of the one who answered for all, and what it came to
-  pub first-served : (meant : disk.Ghosts D) (begun : Option Begun) (old store : StoreState D) (repaired : List Entry)
-      (start : ℕ) (part : Part) (parts : List Part) (known new : Known) (held : Before) (own : List ℕ) (lock : TableId)
-      → IsRepaired old repaired → take start store.history ≡ repaired
-      → IsShared meant begun store start (part ∷ parts)
-      → IsLegal old.history → meant.count old.disk ≤ meant.count store.disk
+  -- the turn of the one who asked for all, and what it came to
+  first-served : (meant : disk.Ghosts D) (begun : Option Begun) (old store : StoreState D) (start : ℕ) (part : Part)
+      (parts : List Part) (known new : Known) (held : Before) (own : List ℕ) (lock : TableId)
+      → AreStored meant begun old store start (part ∷ parts)
       → held.pass ≡ known → IsTaken meant.count known held old → ArePlaces 0 (length known.seen) known.mine
       → own ≡ range_with_len start (part.end - start)
-      → new ≡ record {
-        lock = lock;
-        ready = true;
-        seen = take part.end store.history;
-        mine = held.pass.mine ++ own;
-        faults = meant.count store.disk;
-        uses = held.pass.uses + 1;
-        last = held.taken;
-        pending = Some store.pending;
-      }
+      → new ≡ known_after lock held (take part.end store.history) own (meant.count store.disk) store.pending
       → IsServed meant.count known new held old (store_at store part.end (part.end - start)) own
       × IsAnswered part.asks.items part.answers old (store_at store part.end (part.end - start))
-  first-served meant begun old store repaired start part parts known new held own lock found is s legal count held_is taken
-      places own_is new_is =
+  first-served meant begun old store start part parts known new held own lock stored held_is taken places own_is
+      new_is =
+      let s = stored.shared in
       let on = shared-on meant begun store start part parts s in
       let left : StoreState D = store_at store part.end (part.end - start) in
       let R : List Entry = take start store.history in
       let n : length R ≡ start = length-take-le start store.history s.within in
       let m : length (take part.end store.history) ≡ part.end = length-take-le part.end store.history on.2 in
       let low = on.1 in
-      let here : IsRepaired old R = subst (λ (l : List Entry). IsRepaired old l) (sym is) found in
-      let first : IsPrefix old.history R = repaired-begins old R here in
+      let first : IsPrefix old.history R = repaired-begins old R stored.found in
       let longer : IsPrefix old.history (take part.end store.history) =
       IsPrefix-trans old.history R (take part.end store.history) first
-      (subst (λ (l : List Entry). IsPrefix R l) (sym on.0) (history_after-begins R part.asks.items)) in
+      (shared-longer meant begun store start part parts s) in
       let answered : IsAnswered part.asks.items part.answers old left = record {
         repaired = R;
-        found = here;
+        found = stored.found;
         answers = s.answered.0;
         history = on.0;
         recorded = omega (arith, n, m, low);
@@ -335,16 +334,20 @@ module _ {D : Type 0} where
       let begin : length left.history - left.recorded ≡ start = omega (arith, m, low) in
       let few = IsPrefix-length old.history R first in (
         record {
-          held_is = held_is;
-          taken = taken;
-          answered = λ _ _. s.decided;
-          at_least = count;
-          legal = legal;
-          places = places;
-          longer = longer;
-          room = omega (arith, n, m, low, few);
-          own_is = own_is ∙ ap (λ (k : ℕ). range_with_len k (part.end - start)) (sym begin);
-          recorded = recorded-own part.asks.items (Ok part.answers) old left answered longer;
+          serving = record {
+            held_is = held_is;
+            places = places;
+            taken = taken;
+            answered = record {
+              legal = stored.legal;
+              longer = longer;
+              room = omega (arith, n, m, low, few);
+              recorded = recorded-own part.asks.items (Ok part.answers) old left answered longer;
+              settled = λ _ _. s.decided;
+              never_falls = stored.never_falls;
+            };
+            own_is = own_is ∙ ap (λ (k : ℕ). range_with_len k (part.end - start)) (sym begin);
+          };
           lock = lock;
           new_is = new_is;
         },
@@ -399,16 +402,7 @@ module _ {D : Type 0} where
       → IsTaken meant.count old held (store_at store shown 0)
       → ArePlaces 0 (length old.seen) old.mine
       → own ≡ range_with_len shown (part.end - shown)
-      → new ≡ record {
-        lock = lock;
-        ready = true;
-        seen = take part.end store.history;
-        mine = held.pass.mine ++ own;
-        faults = meant.count store.disk;
-        uses = held.pass.uses + 1;
-        last = held.taken;
-        pending = Some store.pending;
-      }
+      → new ≡ known_after lock held (take part.end store.history) own (meant.count store.disk) store.pending
       → HadTurn meant begun lock part.asks.items (Ok part.answers) old new
   member-had meant begun store shown part parts old new held own lock s held_is taken places own_is new_is =
       let on = shared-on meant begun store shown part parts s in
@@ -416,73 +410,55 @@ module _ {D : Type 0} where
       new_is in
       let last : take shown store.history ≡ new.last.entries =
       sym (ap (λ (k : Known). k.last.entries) new_is ∙ ap (λ (t : Taken). t.entries) taken.took) in
-      had-turn meant begun lock part.asks.items (Ok part.answers) served (lock-served served lock (ap (λ (k : Known). k.lock) new_is))
+      had-turn meant begun lock part.asks.items (Ok part.answers) served
+      (lock-served served lock (ap (λ (k : Known). k.lock) new_is))
       (shared-says meant begun store shown part parts s) tt on.3.legal
       (shared-keeps meant begun store shown part.end (part ∷ parts) new s
       (IsPrefix-equal (take shown store.history) new.last.entries last)
       (ap (λ (k : Known). k.seen) new_is) (ap (λ (k : Known). k.pending) new_is) (ap (λ (k : Known). k.faults) new_is))
 
-  -- the turn that stored the record of all parts may go on behind the first of them
-  pub first-onward : (meant : disk.Ghosts D) (begun : Option Begun) (old store : StoreState D) (repaired : List Entry)
-      (start : ℕ) (part : Part) (parts : List Part) (taken : Taken) (own : List ℕ)
-      → IsRepaired old repaired → take start store.history ≡ repaired → IsShared meant begun store start (part ∷ parts)
-      → meant.count old.disk ≤ meant.count store.disk
+  -- the turn that stored all parts may go on behind the first of them
+  pub first-onward : (meant : disk.Ghosts D) (begun : Option Begun) (old store : StoreState D) (start : ℕ) (part : Part)
+      (parts : List Part) (taken : Taken) (own : List ℕ) → AreStored meant begun old store start (part ∷ parts)
       → taken ≡ record { entries = old.history; count = meant.count old.disk; pending = old.pending }
-      → own ≡ range_with_len start (part.end - start)
-      → (start ≤ part.end) × IsOnward meant begun store part parts taken own
-  first-onward meant begun old store repaired start part parts taken own found is s count taken_is own_is =
+      → own ≡ range_with_len start (part.end - start) → IsOnward meant begun store part parts taken own
+  first-onward meant begun old store start part parts taken own stored taken_is own_is =
+      let s = stored.shared in
       let on = shared-on meant begun store start part parts s in
       let R : List Entry = take start store.history in
       let L : List Entry = take part.end store.history in
       let n : length R ≡ start = length-take-le start store.history s.within in
       let m : length L ≡ part.end = length-take-le part.end store.history on.2 in
       let low = on.1 in
-      let first : IsPrefix old.history R =
-      repaired-begins old R (subst (λ (l : List Entry). IsRepaired old l) (sym is) found) in
-      let few = IsPrefix-length old.history R first in (
-        low,
-        subst (λ (t : Taken). IsOnward meant begun store part parts t own) (sym taken_is)
-            (subst (λ (ps : List ℕ). IsOnward meant begun store part parts (record {
-              entries = old.history;
-              count = meant.count old.disk;
-              pending = old.pending;
-            }) ps) (sym own_is)
-            (record {
-              grown = IsPrefix-trans old.history R L first (shared-longer meant begun store start part parts s);
-              faults = count;
-              settled = λ _ _ _. s.decided;
-              places = ArePlaces-range_with_len start (part.end - start) (length old.history) (length L)
-                  (omega (arith, n, few)) (omega (arith, m, low));
-              shared = on.3;
-            })),
-      )
+      let first : IsPrefix old.history R = repaired-begins old R stored.found in
+      let few = IsPrefix-length old.history R first in
+      subst (λ (t : Taken). IsOnward meant begun store part parts t own) (sym taken_is)
+      (subst (λ (ps : List ℕ). IsOnward meant begun store part parts (record {
+        entries = old.history;
+        count = meant.count old.disk;
+        pending = old.pending;
+      }) ps) (sym own_is)
+      (record {
+        grown = IsPrefix-trans old.history R L first (shared-longer meant begun store start part parts s);
+        faults = stored.never_falls;
+        settled = λ _ _ _. s.decided;
+        places = ArePlaces-range_with_len start (part.end - start) (length old.history) (length L)
+            (omega (arith, n, few)) (omega (arith, m, low));
+        shared = on.3;
+      }))
 
   -- all that is known of the turn of the first part
-  pub first-had : (meant : disk.Ghosts D) (begun : Option Begun) (old store : StoreState D) (repaired : List Entry)
-      (start : ℕ) (part : Part) (parts : List Part) (known new : Known) (held : Before) (own : List ℕ) (lock : TableId)
-      → IsRepaired old repaired → take start store.history ≡ repaired
-      → IsShared meant begun store start (part ∷ parts)
-      → IsLegal old.history → meant.count old.disk ≤ meant.count store.disk
-      → (meant.tells old.disk ≡ true → TurnLeaves (rest_of meant old) (rest_of meant store))
-      → IfSome begun (λ b. CameBy meant b old × CameBy meant b store)
+  pub first-had : (meant : disk.Ghosts D) (begun : Option Begun) (old store : StoreState D) (start : ℕ) (part : Part)
+      (parts : List Part) (known new : Known) (held : Before) (own : List ℕ) (lock : TableId)
+      → AreStored meant begun old store start (part ∷ parts)
       → held.pass ≡ known → IsTaken meant.count known held old → ArePlaces 0 (length known.seen) known.mine
       → own ≡ range_with_len start (part.end - start)
-      → new ≡ record {
-        lock = lock;
-        ready = true;
-        seen = take part.end store.history;
-        mine = held.pass.mine ++ own;
-        faults = meant.count store.disk;
-        uses = held.pass.uses + 1;
-        last = held.taken;
-        pending = Some store.pending;
-      }
+      → new ≡ known_after lock held (take part.end store.history) own (meant.count store.disk) store.pending
       → HadTurn meant begun lock part.asks.items (Ok part.answers) known new
-  first-had meant begun old store repaired start part parts known new held own lock found is s legal count leaves came
-      held_is taken places own_is new_is =
-      let on = shared-on meant begun store start part parts s in
-      let both = first-served meant begun old store repaired start part parts known new held own lock found is s legal count
-      held_is taken places own_is new_is in
+  first-had meant begun old store start part parts known new held own lock stored held_is taken places own_is new_is =
+      let on = shared-on meant begun store start part parts stored.shared in
+      let both = first-served meant begun old store start part parts known new held own lock stored held_is taken places
+      own_is new_is in
       let last : old.history ≡ new.last.entries =
       sym (ap (λ (k : Known). k.last.entries) new_is ∙ ap (λ (t : Taken). t.entries) taken.took) in
       had-turn meant begun lock part.asks.items (Ok part.answers) both.0
@@ -495,8 +471,8 @@ module _ {D : Type 0} where
             (take-begins part.end store.history);
         pending = ap (λ (k : Known). k.pending) new_is;
         faults = ap (λ (k : Known). k.faults) new_is;
-        leaves = leaves;
-        came = came;
+        leaves = stored.leaves;
+        came = stored.came;
       })
 
   none-recorded : (asks : List Ask) (f : CallFault) (old new : StoreState D) → BatchSays asks (Err f) old new
@@ -511,42 +487,38 @@ module _ {D : Type 0} where
   -- and of the turn of the one who asked for all, where the record wasn't stored
   pub failed-had : (meant : disk.Ghosts D) (begun : Option Begun) (old store : StoreState D) (asks others : List Ask)
       (f : CallFault) (known new : Known) (held : Before) (own : List ℕ) (lock : TableId)
-      → BatchSays (asks ++ others) (Err f) old store → HasCallCause {T = Unit {0}} (Err f) (meant.count old.disk) (meant.count store.disk)
+      → BatchSays (asks ++ others) (Err f) old store
+      → HasCallCause {T = Unit {0}} (Err f) (meant.count old.disk) (meant.count store.disk)
       → IsPrefix old.history store.history → IsLegal old.history → IsLegal store.history
       → meant.count old.disk ≤ meant.count store.disk
       → (meant.tells old.disk ≡ true → TurnLeaves (rest_of meant old) (rest_of meant store))
       → IfSome begun (λ b. CameBy meant b old × CameBy meant b store)
       → held.pass ≡ known → IsTaken meant.count known held old → ArePlaces 0 (length known.seen) known.mine
       → own ≡ []
-      → new ≡ record {
-        lock = lock;
-        ready = true;
-        seen = store.history;
-        mine = held.pass.mine ++ own;
-        faults = meant.count store.disk;
-        uses = held.pass.uses + 1;
-        last = held.taken;
-        pending = Some store.pending;
-      }
+      → new ≡ known_after lock held store.history own (meant.count store.disk) store.pending
       → HadTurn meant begun lock asks (Err f) known new
-  failed-had meant begun old store asks others f known new held own lock says cause longer legal legal_now count leaves came
-      held_is taken places none new_is =
+  failed-had meant begun old store asks others f known new held own lock says cause longer legal legal_now count leaves
+      came held_is taken places none new_is =
       let all : List Ask = asks ++ others in
       let why = cause_of-fault f (meant.count old.disk) (meant.count store.disk) cause in
       let zero : store.recorded ≡ 0 = none-recorded all f old store says in
       let nowhere : own_places store ≡ [] =
       ap (λ (n : ℕ). range_with_len (length store.history - n) n) zero in
       let served : IsServed meant.count known new held old store own = record {
-        held_is = held_is;
-        taken = taken;
-        answered = settled all (Err f) old store (meant.count old.disk) (meant.count store.disk) says why;
-        at_least = count;
-        legal = legal;
-        places = places;
-        longer = longer;
-        room = recorded-at_the_end all (Err f) old store says longer;
-        own_is = none ∙ sym nowhere;
-        recorded = recorded-own all (Err f) old store says longer;
+        serving = record {
+          held_is = held_is;
+          places = places;
+          taken = taken;
+          answered = record {
+            legal = legal;
+            longer = longer;
+            room = recorded-at_the_end all (Err f) old store says longer;
+            recorded = recorded-own all (Err f) old store says longer;
+            settled = settled all (Err f) old store (meant.count old.disk) (meant.count store.disk) says why;
+            never_falls = count;
+          };
+          own_is = none ∙ sym nowhere;
+        };
         lock = lock;
         new_is = new_is;
       } in

@@ -13,6 +13,7 @@ ghost use Rattle.shared_farm.specs.Turns.{AreOwn, EntersInTurn, IsLook, IsTurn, 
 
 use crate::beginning::Beginning;
 use crate::errand::{Errands, FarmLock};
+use crate::group_wait::GroupWait;
 use crate::locked::Locked;
 use crate::reader::TotalsReader;
 use crate::sharing::{ask_alone, hand_in};
@@ -26,7 +27,7 @@ use job_table::JobTable;
 use std::alloc::Global;
 use std::marker::{Brand, Model};
 use std::sync::{Arc, Wait};
-use turn_lock::{Pass, Places, TurnLock};
+use turn_lock::{Pass, TurnLock};
 
 /// A farm whose history stands on a disk, for callers in many threads. Contracts see it as the name of its lock, by
 /// which a pass is known to be its own. `B` is what it began with.
@@ -35,6 +36,8 @@ pub struct SharedFarm<D: Disk, B: Beginning = Brand> {
     lock: FarmLock<D, B>,
     // None where there was no memory for it: each caller then makes its own calls.
     errands: Option<Errands<D, B>>,
+    // How long who runs an errand waits for others.
+    waits: GroupWait,
 }
 
 impl<D: Disk, B: Beginning> Model for SharedFarm<D, B> {
@@ -82,7 +85,15 @@ impl<D: Disk, B: Beginning> SharedFarm<D, B> {
         match TurnLock::new(alloc, locked) {
             Ok((lock, pass)) => {
                 let errands = JobTable::new(alloc, &lock).ok();
-                Ok((SharedFarm { lock, errands }, pass))
+                let waits = GroupWait::new();
+                Ok((
+                    SharedFarm {
+                        lock,
+                        errands,
+                        waits,
+                    },
+                    pass,
+                ))
             }
             Err(locked) => Err(Box::into_inner(locked).into_store()),
         }
@@ -154,8 +165,7 @@ impl<D: Disk, B: Beginning> SharedFarm<D, B> {
     {
         let mut turn = self.lock.turn(rt, pass);
         let result = turn.value.call(alloc, command, at);
-        let recorded = turn.value.store.recorded();
-        turn.own = Places::run(turn.value.store.history().len() - recorded, recorded);
+        turn.own = turn.value.store.own_places();
         self.lock.back(turn, pass);
         self.ring_next();
         result
@@ -188,8 +198,7 @@ impl<D: Disk, B: Beginning> SharedFarm<D, B> {
     {
         let mut turn = self.lock.turn(rt, pass);
         let result = turn.value.enter(alloc, command, at);
-        let recorded = turn.value.store.recorded();
-        turn.own = Places::run(turn.value.store.history().len() - recorded, recorded);
+        turn.own = turn.value.store.own_places();
         self.lock.back(turn, pass);
         self.ring_next();
         result
@@ -226,7 +235,7 @@ impl<D: Disk, B: Beginning> SharedFarm<D, B> {
     {
         match &self.errands {
             Some(errands) if self.lock.turns_are_long() => {
-                hand_in(rt, &self.lock, errands, alloc, pass, asks)
+                hand_in(rt, &self.lock, errands, &self.waits, alloc, pass, asks)
             }
             _ => {
                 let result = ask_alone(rt, &self.lock, alloc, pass, asks);
@@ -296,7 +305,11 @@ impl<D: Disk, B: Beginning> SharedFarm<D, B> {
         ensures faults { pass.faults ≤ D.count result.disk }
         ensures came { IfSome B.begun (λ begun. CameBy D.Disk begun result) }
     {
-        let SharedFarm { lock, errands: _ } = self;
+        let SharedFarm {
+            lock,
+            errands: _,
+            waits: _,
+        } = self;
         Box::into_inner(lock.close(rt, pass)).into_store()
     }
 

@@ -8,18 +8,26 @@
 //! who needs no reply but the run that it hands out enters a command in place of calling with it. A [`TotalsReader`]
 //! reads the totals and takes no turn.
 //!
+//! Callers who wait with batches while turns are long share a record (`sharing`): each posts its batch and its pass as
+//! an errand in a table of jobs. Whoever of them has the turn waits a little for those who had the last record
+//! (`group_wait`), takes over the errands of others, answers their asks behind its own, stores the new entries of all
+//! in one record, and gives each errand a turn of its own at its place in the history (`round`). What an errand and its outcome hold
+//! to is `specs/Errands`, what is shared `specs/Rounds`.
+//!
 //! `SharedFarm::close` gives the store back: its history begins with all that the pass has seen, and its disk's count
 //! of faults is at least what the pass knew of it. Where the call that shares the farm picks its [`Beginning`], it is
 //! known too what became of the store turn by turn, and so what a crash leaves at each moment (`specs/Rests`).
 //!
-//! The crate stands on `farm_store` for the farm, on `turn_lock` for turns and passes, and on `farm_board` for the
-//! totals. Contracts see a shared farm as the name of its lock, and a reader as the history that it has seen; what a
-//! turn came to is `IsTurn` of `specs/Turns`. The layers above may use every name below.
+//! The crate stands on `farm_store` for the farm, on `turn_lock` for turns and passes, on `job_table` for errands, on
+//! `farm_board` for the totals, and on `entry_codec` for log pages. Contracts see a shared farm as the name of its
+//! lock, and a reader as the history that it has seen; what a turn came to is `IsTurn` of `specs/Turns`. The layers
+//! above may use every name below.
 #![tactic(auto)]
 
 mod beginning;
 mod errand;
 mod farm;
+mod group_wait;
 mod locked;
 mod reader;
 mod round;

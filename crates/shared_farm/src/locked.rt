@@ -7,8 +7,9 @@ ghost use Rattle.farm_entry.specs.declared.entry.Entry.{Entry};
 ghost use Rattle.farm_store.specs.Answering.{BatchSays, CallSays};
 ghost use Rattle.farm_store.specs.Entering.{Enters};
 ghost use Rattle.farm_store.specs.Faults.{HasCallCause};
+ghost use Rattle.farm_store.specs.Sizes.{asks_size};
 ghost use Rattle.farm_store.specs.Together.{TogetherSays, all_asks};
-ghost use Rattle.farm_store.specs.declared.asking.TheConstants.{MAX_BATCH, MAX_RECORD};
+ghost use Rattle.farm_store.specs.declared.asking.TheConstants.{MAX_BATCH, MAX_RECORD_BYTES};
 ghost use Rattle.list_prefix.specs.Prefix.{IsPrefix};
 ghost use Rattle.turn_lock.specs.Known.{MayRise};
 ghost use Rattle.shared_farm.specs.Rests.{CameBy, TurnLeaves, rest_of};
@@ -128,7 +129,7 @@ impl<D: Disk, B: Beginning> Locked<D, B> {
     /// Answers the asks of several callers, whose new entries share a record, and posts the totals.
     pub fn call_together(&mut self, alloc: Global, parts: &mut [Part]) -> Result<(), CallFault>
         requires some { 1 ≤ length (all_asks parts.old) }
-        requires few { length (all_asks parts.old) ≤ MAX_RECORD }
+        requires fits { asks_size (all_asks parts.old) ≤ MAX_RECORD_BYTES }
         ensures found { IsLegal self.old.store.history }
         ensures says { TogetherSays parts.old parts.new result self.old.store self.new.store }
         ensures asks { map (λ part. part.asks) parts.new ≡ map (λ part. part.asks) parts.old }

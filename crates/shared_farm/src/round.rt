@@ -1,7 +1,7 @@
 //! The turns of those whose batches were asked at another caller's turn.
-ghost use Rattle.std.specs.Prelude.{◌≡◌, ◌≤◌, ◌+◌, ◌++◌, [], false, true, Some, length, take};
+ghost use Rattle.std.specs.Prelude.{◌≡◌, ◌≤◌, [], false, Some, length, take};
 ghost use Rattle.list_prefix.specs.Prefix.{IsPrefix};
-ghost use Rattle.turn_lock.specs.Known.{IsReady, IsSettled};
+ghost use Rattle.turn_lock.specs.Known.{IsReady, IsSettled, known_after};
 ghost use Rattle.turn_lock.specs.Places.{ArePlaces};
 ghost use Rattle.shared_farm.specs.Rounds.{AreHelped, IsShared};
 
@@ -36,16 +36,8 @@ pub fn share_out<D: Disk, B: Beginning>(
         (length (take shown turn.value.value.store.history)) turn.own }
     requires shared { IsShared D.Disk B.begun turn.value.value.store shown parts.old.items }
     requires helped { AreHelped lock.now errands.now parts.old.items group.old.items }
-    ensures pass { pass.new ≡ record {
-      lock = lock.now;
-      ready = true;
-      seen = take shown turn.value.value.store.history;
-      mine = turn.before.pass.mine ++ turn.own;
-      faults = D.count turn.value.value.store.disk;
-      uses = turn.before.pass.uses + 1;
-      last = turn.before.taken;
-      pending = Some turn.value.value.store.pending;
-    } }
+    ensures pass { pass.new ≡ known_after lock.now turn.before (take shown turn.value.value.store.history) turn.own
+        (D.count turn.value.value.store.disk) turn.value.value.store.pending }
     ensures all { group.new.items ≡ [] }
 {
     if group.is_empty() {
@@ -90,16 +82,8 @@ pub fn ask_each<D: Disk, B: Beginning>(
         (D.count turn.value.value.store.disk) turn.value.value.store.pending }
     requires places { ArePlaces (length turn.before.taken.entries) (length turn.value.value.store.history) turn.own }
     requires helped { AreHelped lock.now errands.now parts.old.items group.old.items }
-    ensures pass { pass.new ≡ record {
-      lock = lock.now;
-      ready = true;
-      seen = turn.value.value.store.history;
-      mine = turn.before.pass.mine ++ turn.own;
-      faults = D.count turn.value.value.store.disk;
-      uses = turn.before.pass.uses + 1;
-      last = turn.before.taken;
-      pending = Some turn.value.value.store.pending;
-    } }
+    ensures pass { pass.new ≡ known_after lock.now turn.before turn.value.value.store.history turn.own
+        (D.count turn.value.value.store.disk) turn.value.value.store.pending }
     ensures all { group.new.items ≡ [] }
 {
     if group.is_empty() {
@@ -118,8 +102,7 @@ pub fn ask_each<D: Disk, B: Beginning>(
     let shown = turn.value.store.history().len();
     let mut turn = lock.hand_on(turn, pass, &mut next, shown);
     let result = turn.value.call_batch(alloc, &asks);
-    let recorded = turn.value.store.recorded();
-    turn.own = Places::run(turn.value.store.history().len() - recorded, recorded);
+    turn.own = turn.value.store.own_places();
     ask_each(lock, errands, alloc, turn, &mut next, parts, group);
     errands.answer(
         taken,

@@ -1,8 +1,9 @@
 //! Batches of callers who share a record while turns are long.
 ghost use Rattle.std.specs.Prelude.{◌≡◌, ◌≤◌, ◌++◌, [], List, false, drop, length};
 ghost use Rattle.farm_store.specs.declared.asking.Part.{Part};
+ghost use Rattle.farm_store.specs.Sizes.{asks_size};
 ghost use Rattle.farm_store.specs.Together.{all_asks};
-ghost use Rattle.farm_store.specs.declared.asking.TheConstants.{MAX_BATCH, MAX_RECORD};
+ghost use Rattle.farm_store.specs.declared.asking.TheConstants.{MAX_BATCH, MAX_BATCH_BYTES, MAX_RECORD_BYTES};
 ghost use Rattle.std.specs.Vec.{vec_capacity};
 ghost use Rattle.turn_lock.specs.Known.{IsReady};
 ghost use Rattle.shared_farm.specs.Errands.{HadTurn, IsDone, IsErrand};
@@ -11,10 +12,11 @@ ghost use Rattle.shared_farm.specs.declared.sharing.TheConstants.{MOST_PARTS};
 
 use crate::beginning::Beginning;
 use crate::errand::{Errand, Errands, FarmLock, Helped, Outcome};
+use crate::group_wait::GroupWait;
 use crate::locked::Locked;
 use crate::round::{ask_each, share_out};
 use farm_disk::Disk;
-use farm_store::{Answers, Ask, CallFault, MAX_BATCH, MAX_RECORD, Part};
+use farm_store::{Answers, Ask, CallFault, MAX_BATCH_BYTES, MAX_RECORD_BYTES, Part, most_bytes};
 use job_table::Posted;
 use std::alloc::Global;
 use std::sync::Wait;
@@ -22,7 +24,7 @@ use std::{hint, mem};
 use turn_lock::{Pass, Places, Turn};
 
 /// The most callers who share a record.
-const MOST_PARTS: usize = 16;
+pub const MOST_PARTS: usize = 16;
 
 /// How often a caller looks after its errand before it sleeps.
 const MOST_LOOKS: u32 = 64;
@@ -32,6 +34,7 @@ pub fn hand_in<R: Wait, D: Disk, B: Beginning>(
     rt: &R,
     lock: &FarmLock<D, B>,
     errands: &Errands<D, B>,
+    waits: &GroupWait,
     alloc: Global,
     pass: &mut Pass,
     asks: &mut Vec<Ask>,
@@ -51,7 +54,7 @@ pub fn hand_in<R: Wait, D: Disk, B: Beginning>(
         pass: mine,
         asks: same,
         result,
-    } = run(rt, lock, errands, alloc, errand);
+    } = run(rt, lock, errands, waits, alloc, errand);
     *pass = mine;
     *asks = same;
     result
@@ -62,6 +65,7 @@ fn run<R: Wait, D: Disk, B: Beginning>(
     rt: &R,
     lock: &FarmLock<D, B>,
     errands: &Errands<D, B>,
+    waits: &GroupWait,
     alloc: Global,
     errand: Errand,
 ) -> Outcome
@@ -70,11 +74,11 @@ fn run<R: Wait, D: Disk, B: Beginning>(
     ensures { IsDone D.Disk B.begun lock.now errand result }
 {
     if lock.is_free() {
-        return run_now(rt, lock, errands, alloc, errand);
+        return run_now(rt, lock, errands, waits, alloc, errand);
     }
     match errands.post(errand) {
-        Ok(posted) => wait_for(rt, lock, errands, alloc, posted),
-        Err(errand) => run_now(rt, lock, errands, alloc, errand),
+        Ok(posted) => wait_for(rt, lock, errands, waits, alloc, posted),
+        Err(errand) => run_now(rt, lock, errands, waits, alloc, errand),
     }
 }
 
@@ -83,6 +87,7 @@ fn wait_for<R: Wait, D: Disk, B: Beginning>(
     rt: &R,
     lock: &FarmLock<D, B>,
     errands: &Errands<D, B>,
+    waits: &GroupWait,
     alloc: Global,
     posted: Posted<FarmLock<D, B>, Errand, Outcome>,
 ) -> Outcome
@@ -99,7 +104,7 @@ fn wait_for<R: Wait, D: Disk, B: Beginning>(
         };
         if lock.is_free() {
             held = match errands.retract(held) {
-                Ok(errand) => return run_now(rt, lock, errands, alloc, errand),
+                Ok(errand) => return run_now(rt, lock, errands, waits, alloc, errand),
                 Err(same) => same,
             };
         }
@@ -127,12 +132,13 @@ fn rest<R: Wait, D: Disk, B: Beginning>(
     }
 }
 
-/// Runs an errand at a turn of its pass, and those of others who wait with it. One of those who came since goes on
-/// then.
+/// Runs an errand at a turn of its pass, and those of others who wait by then. One of those who came since goes on
+/// afterwards.
 fn run_now<R: Wait, D: Disk, B: Beginning>(
     rt: &R,
     lock: &FarmLock<D, B>,
     errands: &Errands<D, B>,
+    waits: &GroupWait,
     alloc: Global,
     errand: Errand,
 ) -> Outcome
@@ -140,11 +146,7 @@ fn run_now<R: Wait, D: Disk, B: Beginning>(
     requires errand { IsErrand lock.now errand }
     ensures { IsDone D.Disk B.begun lock.now errand result }
 {
-    let outcome = if errands.has_posted() {
-        run_with_others(rt, lock, errands, alloc, errand)
-    } else {
-        run_alone(rt, lock, alloc, errand)
-    };
+    let outcome = run_with_others(rt, lock, errands, waits, alloc, errand);
     errands.ring_next();
     outcome
 }
@@ -164,13 +166,12 @@ pub fn ask_alone<R: Wait, D: Disk, B: Beginning>(
 {
     let mut turn = lock.turn(rt, pass);
     let result = turn.value.call_batch(alloc, asks);
-    let recorded = turn.value.store.recorded();
-    turn.own = Places::run(turn.value.store.history().len() - recorded, recorded);
+    turn.own = turn.value.store.own_places();
     lock.back(turn, pass);
     result
 }
 
-/// Runs an errand at a turn of its pass.
+/// Runs an errand at a turn of its pass, where there is no memory to have others with it.
 fn run_alone<R: Wait, D: Disk, B: Beginning>(
     rt: &R,
     lock: &FarmLock<D, B>,
@@ -190,6 +191,7 @@ fn run_with_others<R: Wait, D: Disk, B: Beginning>(
     rt: &R,
     lock: &FarmLock<D, B>,
     errands: &Errands<D, B>,
+    waits: &GroupWait,
     alloc: Global,
     errand: Errand,
 ) -> Outcome
@@ -205,9 +207,11 @@ fn run_with_others<R: Wait, D: Disk, B: Beginning>(
     };
     let Errand { mut pass, asks } = errand;
     let turn = lock.turn(rt, &mut pass);
+    waits.gather(errands);
+    let first_bytes = most_bytes(&asks);
     parts.push_reserved(part_of(alloc, asks));
-    take_over(errands, alloc, &mut parts, &mut group);
-    let (asks, result) = share(lock, errands, alloc, turn, &mut pass, parts, group);
+    take_over(errands, alloc, &mut parts, &mut group, first_bytes);
+    let (asks, result) = share(lock, errands, waits, alloc, turn, &mut pass, parts, group);
     Outcome { pass, asks, result }
 }
 
@@ -222,32 +226,34 @@ fn part_of(alloc: Global, asks: Vec<Ask>) -> Part
     }
 }
 
-/// Takes over the errands of those who wait, as many as may share a record with the asks of the parts, and adds a part
-/// for each.
+/// Takes over the errands of those who wait, one after the other while any batch is sure to fit the record, and adds a
+/// part for each. The entries of the first part take so many bytes of the record at most.
 fn take_over<D: Disk, B: Beginning>(
     errands: &Errands<D, B>,
     alloc: Global,
     parts: &mut Vec<Part>,
     group: &mut Vec<Helped<FarmLock<D, B>>>,
+    first_bytes: usize,
 )
     requires one { length parts.old.items ≡ 1 }
+    requires first { first_bytes ≡ asks_size (all_asks parts.old.items) }
     requires none { group.old.items ≡ [] }
-    requires few { length (all_asks parts.old.items) ≤ MAX_BATCH }
+    requires fits { first_bytes ≤ MAX_BATCH_BYTES }
     requires room { (MOST_PARTS ≤ vec_capacity parts.old) × (MOST_PARTS ≤ vec_capacity group.old) }
     ensures helped { (later : List Part) × (parts.new.items ≡ parts.old.items ++ later)
         × AreHelped errands.now.key errands.now later group.new.items }
-    ensures few { length (all_asks parts.new.items) ≤ MAX_RECORD }
+    ensures fits { asks_size (all_asks parts.new.items) ≤ MAX_RECORD_BYTES }
 {
-    let mut count = parts[0].asks.len();
+    let mut bytes = first_bytes;
     for _ in 1..MOST_PARTS {
-        if MAX_RECORD < count + MAX_BATCH {
+        if MAX_RECORD_BYTES < bytes + MAX_BATCH_BYTES {
             return;
         }
         let Some((taken, errand)) = errands.take() else {
             return;
         };
         let Errand { pass, asks } = errand;
-        count += asks.len();
+        bytes += most_bytes(&asks);
         parts.push_reserved(part_of(alloc, asks));
         group.push_reserved(Helped { taken, pass });
     }
@@ -258,6 +264,7 @@ fn take_over<D: Disk, B: Beginning>(
 fn share<D: Disk, B: Beginning>(
     lock: &FarmLock<D, B>,
     errands: &Errands<D, B>,
+    waits: &GroupWait,
     alloc: Global,
     turn: Turn<Box<Locked<D, B>>>,
     pass: &mut Pass,
@@ -268,7 +275,7 @@ fn share<D: Disk, B: Beginning>(
     requires own { turn.before.pass.lock ≡ lock.now }
     requires out { pass.old.ready ≡ false }
     requires some { 1 ≤ length (first_asks parts.items) }
-    requires few { length (all_asks parts.items) ≤ MAX_RECORD }
+    requires fits { asks_size (all_asks parts.items) ≤ MAX_RECORD_BYTES }
     requires helped { AreHelped lock.now errands.now (drop 1 parts.items) group.items }
     requires begins { IsJustTaken D.count turn.before turn.value.value.store }
     requires nothing { turn.own ≡ [] }
@@ -280,6 +287,7 @@ fn share<D: Disk, B: Beginning>(
     let mut group = group;
     let result = turn.value.call_together(alloc, &mut parts);
     let start = turn.value.store.history().len() - turn.value.store.recorded();
+    waits.note(errands, parts.len(), turn.value.store.recorded());
     let Part { asks, answers, end } = parts.remove(0);
     match result {
         Ok(()) => {

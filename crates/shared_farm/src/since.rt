@@ -5,10 +5,12 @@ ghost use Rattle.farm_entry.specs.Pages.{totals};
 ghost use Rattle.farm_store.specs.Answering.{BatchSays, CallSays};
 ghost use Rattle.farm_store.specs.Entering.{Enters};
 ghost use Rattle.farm_store.specs.Faults.{HasCallCause};
+ghost use Rattle.farm_store.specs.Sizes.{asks_size};
 ghost use Rattle.farm_store.specs.Together.{TogetherSays, all_asks};
-ghost use Rattle.farm_store.specs.declared.asking.TheConstants.{MAX_BATCH, MAX_RECORD};
+ghost use Rattle.farm_store.specs.declared.asking.TheConstants.{MAX_BATCH, MAX_RECORD_BYTES};
 ghost use Rattle.list_prefix.specs.Prefix.{IsPrefix};
 ghost use Rattle.shared_farm.specs.Rests.{CameBy, TurnLeaves, rest_of};
+ghost use Rattle.shared_farm.specs.Turns.{own_places};
 
 use crate::beginning::Beginning;
 use farm_disk::Disk;
@@ -17,6 +19,7 @@ use farm_store::{Answers, Ask, CallFault, Part, Store};
 use farm_types::Moment;
 use std::alloc::Global;
 use std::marker::{Model, PhantomData};
+use turn_lock::Places;
 
 /// A store of which it is known, through whatever turns it goes, that it came by turns from that at the beginning,
 /// where one is picked. A lock that holds a store says no more of it than that there is one. Contracts see it as the
@@ -103,7 +106,7 @@ impl<D: Disk, B: Beginning> StoreSince<D, B> {
     /// Answers the asks of several callers, whose new entries share a record.
     pub fn call_together(&mut self, alloc: Global, parts: &mut [Part]) -> Result<(), CallFault>
         requires some { 1 ≤ length (all_asks parts.old) }
-        requires few { length (all_asks parts.old) ≤ MAX_RECORD }
+        requires fits { asks_size (all_asks parts.old) ≤ MAX_RECORD_BYTES }
         ensures says { TogetherSays parts.old parts.new result self.old self.new }
         ensures asks { map (λ part. part.asks) parts.new ≡ map (λ part. part.asks) parts.old }
         ensures longer { IsPrefix self.old.history self.new.history }
@@ -137,6 +140,15 @@ impl<D: Disk, B: Beginning> StoreSince<D, B> {
         ensures { result ≡ self.now.recorded }
     {
         self.store.recorded()
+    }
+
+    /// The places in the history of the entries that the last call recorded for its asks.
+    pub fn own_places(&self) -> Places
+        requires { self.now.recorded ≤ length self.now.history }
+        ensures { result ≡ own_places self.now }
+    {
+        let recorded = self.recorded();
+        Places::run(self.history().len() - recorded, recorded)
     }
 
     /// The store again.

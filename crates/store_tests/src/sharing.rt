@@ -1,27 +1,32 @@
 //! Callers who share a record.
 ghost use Rattle.std.specs.Prelude.{◌≤◌, IsTrue, length};
+ghost use Rattle.farm_store.specs.Sizes.{asks_size};
 ghost use Rattle.farm_store.specs.Together.{all_asks};
-ghost use Rattle.farm_store.specs.declared.asking.TheConstants.{MAX_RECORD};
+ghost use Rattle.farm_store.specs.declared.asking.TheConstants.{MAX_RECORD_BYTES};
 
 use crate::plays::{founded, print_answer, print_fault, print_held, push_ask};
 use crate::words::fails_of;
 use farm_disk::{Disk, MemDisk};
-use farm_store::{Answers, MAX_RECORD, Part, Store};
+use farm_store::{Answers, MAX_BATCH, MAX_RECORD_BYTES, Part, Store, most_bytes};
 use std::alloc::{AllocError, Global};
 use std::io;
 
 /// Whether callers may share a record: they ask something, and no more than fits one.
 fn may_share(parts: &[Part]) -> bool
-    ensures { IsTrue result → (1 ≤ length (all_asks parts.now)) × (length (all_asks parts.now) ≤ MAX_RECORD) }
+    ensures { IsTrue result → (1 ≤ length (all_asks parts.now)) × (asks_size (all_asks parts.now) ≤ MAX_RECORD_BYTES) }
 {
-    let mut total = 0;
+    let mut bytes = 0;
     for part in parts {
-        if part.asks.len() > MAX_RECORD - total {
+        if part.asks.len() > MAX_BATCH {
             return false;
         }
-        total += part.asks.len();
+        let own = most_bytes(&part.asks);
+        if own > MAX_RECORD_BYTES - bytes {
+            return false;
+        }
+        bytes += own;
     }
-    total > 0
+    bytes > 0
 }
 
 /// What callers with `/` between ask, each a list of words with `+` between, where the first word has this number.

@@ -3,7 +3,7 @@ use Rattle.std.proofs.Common.{◌∙◌, inr, ℕ, List, [], ◌∷◌, ◌++◌
 use Rattle.farm_disk.specs.Images.{LeavesOnly}
 use Rattle.farm_journal.specs.State.{IsBeforeOrAfter, IsHeld}
 use Rattle.farm_store.proofs.Ahead.{some-test, unwritten-still}
-use Rattle.farm_store.proofs.Spellings.{batch-fits}
+use Rattle.farm_store.proofs.Spellings.{record-fits}
 use Rattle.farm_store.proofs.recording.write_new.Goals as goal
 
 pub returns-in_default-clause-wrote : goal.returns-in_default-clause-wrote
@@ -12,9 +12,9 @@ returns-in_default-clause-wrote g c =
 
 pub append-requires-clause-payload : goal.append-requires-clause-payload
 append-requires-clause-payload g c =
-    batch-fits c.args.entries.now c.deref.result.now c.in-Ok.ensures.readable
+    record-fits c.args.entries.now c.deref.result.now c.in-Ok.ensures.readable
     (c.deref.ensures.value ∙ c.in-Ok.ensures.spelled)
-    (some-test c.args.entries.now c.is_empty.result c.is_empty.ensures c.if-is_empty.false) c.requires.few
+    (some-test c.args.entries.now c.is_empty.result c.is_empty.ensures c.if-is_empty.false) c.requires.fits
 
 pub returns-in-Ok-append-clause-wrote : goal.returns-in-Ok-append-clause-wrote
 returns-in-Ok-append-clause-wrote g c =

@@ -1,76 +1,51 @@
-use Rattle.std.proofs.Common.{ap, subst, sym, refl, ◌∙◌, ◌≡◌, List, ℕ, length}
-use Rattle.farm_store.specs.State.{StoreState}
-use Rattle.turn_lock.specs.Places.{ArePlaces}
-use Rattle.turn_lock.specs.declared.view.Taken.{Taken}
+use Rattle.std.proofs.Common.{ap, refl, ◌∙◌}
 use Rattle.shared_farm.specs.Turns.{own_places}
-use Rattle.shared_farm.proofs.Recorded.{ArePlaces-own_places, recorded-own}
+use Rattle.shared_farm.proofs.Recorded.{recorded-own}
 use Rattle.shared_farm.proofs.Members.{had-turn}
-use Rattle.shared_farm.proofs.Turning.{IsServed, IsTaken, kept-alone, own_places-told, says-alone, served-keeps}
+use Rattle.shared_farm.proofs.Turning.{IsServed, IsServing, kept-alone, says-alone, served-keeps, serving-givable, taken-found}
+use Rattle.shared_farm.proofs.sharing.ask_alone.Goals.{After-own_places-turn}
 use Rattle.shared_farm.proofs.sharing.ask_alone.Goals as goal
+
+-- the turn of the caller, when the store has answered
+serving : (g : _) (c : After-own_places-turn g) → IsServing g.D.Disk.count c.args.pass.now
+    c.turn-turn.result.before c.deref_mut.result.now.store c.call_batch-result.new.self.store c.own_places-turn.result
+serving g c =
+    let turn = c.turn-turn in
+    let said = c.call_batch-result.ensures in
+    record {
+      held_is = turn.ensures.pass;
+      places = turn.ensures.places;
+      taken = taken-found g.D.Disk.count c.args.pass.now turn.result.before turn.result.value.value.store
+          c.deref_mut.result.now.store (ap (λ l. l.store) c.deref_mut.ensures.value) turn.ensures.taken
+          turn.ensures.settled turn.ensures.seen turn.ensures.faults;
+      answered = record {
+        legal = said.found;
+        longer = said.longer;
+        room = said.recorded;
+        recorded = recorded-own c.args.asks.now c.call_batch-result.result c.deref_mut.result.now.store
+            c.call_batch-result.new.self.store said.says said.longer;
+        settled = said.settled;
+        never_falls = said.never_falls;
+      };
+      own_is = c.own_places-turn.ensures ∙ ap (λ l. own_places l.store) c.deref.ensures;
+    }
 
 pub back-requires-clause-places : goal.back-requires-clause-places
 back-requires-clause-places g c =
-    let turn = c.turn-turn in
-    let answer = c.call_batch-result in
-    let found = c.deref_mut.result.now.store in
-    let left = answer.new.self.store in
-    let same : found ≡ turn.result.value.value.store = ap (λ l. l.store) c.deref_mut.ensures.value in
-    let own : c.run-turn.result ≡ own_places left =
-    c.run-turn.ensures
-    ∙ own_places-told left c.history.result.now c.recorded-recorded.result
-    (c.history.ensures.value ∙ ap (λ l. l.store.history) c.deref-2.ensures)
-    (c.recorded-recorded.ensures ∙ ap (λ l. l.store.recorded) c.deref.ensures) in
-    subst (λ (l : List ℕ). ArePlaces (length turn.result.before.taken.entries) (length left.history) l) (sym own)
-    (subst (λ (t : Taken). ArePlaces (length t.entries) (length left.history) (own_places left))
-    (sym turn.ensures.taken)
-    (subst (λ (s : StoreState g.row.D.Denot). ArePlaces (length s.history) (length left.history) (own_places left)) same
-    (ArePlaces-own_places found left answer.ensures.recorded)))
+    (serving-givable (serving g (goal.at.back-requires-clause-places g c).After-own_places-turn)).places
 
 pub back-requires-clause-settled : goal.back-requires-clause-settled
-back-requires-clause-settled g c nothing same rises =
-    c.call_batch-result.ensures.settled
-    (ap (λ l. g.D.Disk.count l.store.disk) c.deref_mut.ensures.value
-    ∙ (sym (ap (λ (t : Taken). t.count) c.turn-turn.ensures.taken) ∙ same))
-    rises
+back-requires-clause-settled g c =
+    (serving-givable (serving g (goal.at.back-requires-clause-settled g c).After-own_places-turn)).settled
 
--- the store that answers is the one that the turn took
-taken : (g : _) (c : goal.After-back g)
-    → IsTaken g.D.Disk.count c.args.pass.now c.turn-turn.result.before c.deref_mut.result.now.store
-taken g c =
-    let turn = c.turn-turn in
-    subst (λ (s : StoreState g.row.D.Denot). IsTaken g.D.Disk.count c.args.pass.now turn.result.before s)
-    (ap (λ l. l.store) (sym c.deref_mut.ensures.value))
-    (record {
-      took = turn.ensures.taken;
-      settled = turn.ensures.settled;
-      begins = turn.ensures.seen;
-      faults = turn.ensures.faults;
-    })
-
--- the turn that the caller had
+-- and when it was given back
 served : (g : _) (c : goal.After-back g) → IsServed g.D.Disk.count c.args.pass.now c.back.new.pass
-    c.turn-turn.result.before c.deref_mut.result.now.store c.call_batch-result.new.self.store c.run-turn.result
-served g c =
-    let turn = c.turn-turn in
-    let answer = c.call_batch-result in
-    record {
-      held_is = turn.ensures.pass;
-      taken = taken g c;
-      answered = answer.ensures.settled;
-      at_least = answer.ensures.never_falls;
-      legal = answer.ensures.found;
-      recorded = recorded-own c.args.asks.now answer.result c.deref_mut.result.now.store answer.new.self.store
-          answer.ensures.says answer.ensures.longer;
-      places = turn.ensures.places;
-      longer = answer.ensures.longer;
-      room = answer.ensures.recorded;
-      own_is = c.run-turn.ensures
-          ∙ own_places-told answer.new.self.store c.history.result.now c.recorded-recorded.result
-          (c.history.ensures.value ∙ ap (λ l. l.store.history) c.deref-2.ensures)
-          (c.recorded-recorded.ensures ∙ ap (λ l. l.store.recorded) c.deref.ensures);
-      lock = c.args.lock.now;
-      new_is = c.back.ensures.pass;
-    }
+    c.turn-turn.result.before c.deref_mut.result.now.store c.call_batch-result.new.self.store c.own_places-turn.result
+served g c = record {
+  serving = serving g (goal.at.returns g c).After-own_places-turn;
+  lock = c.args.lock.now;
+  new_is = c.back.ensures.pass;
+}
 
 pub returns : goal.returns
 unfolding served

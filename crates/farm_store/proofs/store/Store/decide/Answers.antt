@@ -13,6 +13,7 @@ use Rattle.farm_store.specs.declared.asking.Answer.{Answer}
 use Rattle.farm_store.specs.declared.asking.CallFault.{CallFault}
 use Rattle.farm_store.proofs.Calls.{Grows, after-grows}
 use Rattle.farm_store.proofs.Decided.{after-legal, ahead, counted, kept-same, leaves-missed, leaves-still, leaves-stored, newer, not-grown, one-missed, refused-after, says-missed, says-refused, says-stored}
+use Rattle.farm_store.proofs.Sizes.{batch-fits}
 use Rattle.farm_store.proofs.store.Store.decide.Goals as goal
 
 pub record_from-requires : goal.record_from-requires
@@ -31,9 +32,11 @@ record_from-requires g c =
     let is : start ≡ length farm.history = ap length c.history-start.ensures.value in
     let legal : IsLegal farm'.history = subst IsLegal (sym c.in-Ok-Done.ensures.history)
     (after-legal farm.history q m (decide farm.history q m) refl c.self.invariant.keeps.legal) in
+    let fits = batch-fits farm.history farm'.history (record { command = q; at = m } ∷ [])
+    c.in-Ok-Done.ensures.history (omega arith) in
     record {
       ahead = ahead t d farm journal c.self.invariant c.self.inside.recorded s c.self.view_is c.requires.decided
-          farm' 1 grows start is (omega arith) legal;
+          farm' 1 grows start is fits legal;
     }
 
 pub returns-in_err-record_from-in-Ok-Done-clause-says : goal.returns-in_err-record_from-in-Ok-Done-clause-says

@@ -1,9 +1,10 @@
 -- What each end of deciding the asks of several callers came to, by the lemmas of `Decided`.
-use Rattle.std.proofs.Common.{◌≡◌, ◌-◌, length, sym, ap, subst, arith}
+use Rattle.std.proofs.Common.{◌≡◌, ◌-◌, length, sym, ap, subst}
 use Rattle.farm_entry.specs.Legal.{IsLegal}
 use Rattle.farm_store.specs.StoreInside.{store_view}
 use Rattle.farm_store.specs.Together.{all_asks}
 use Rattle.farm_store.proofs.Decided.{ahead, grows-by, history_after-legal, leaves-missed, leaves-still, leaves-stored, newer}
+use Rattle.farm_store.proofs.Sizes.{asks-fit}
 use Rattle.farm_store.proofs.store.Store.decide_together.Goals as goal
 
 pub record_from-requires : goal.record_from-requires
@@ -21,10 +22,10 @@ record_from-requires g c =
     let is : start ≡ length farm.history = ap length c.history-start.ensures.value in
     let legal : IsLegal farm'.history = subst IsLegal (sym c.in-Ok.ensures.history)
     (history_after-legal farm.history asks c.self.invariant.keeps.legal) in
-    let few = c.requires.few in
+    let fits = asks-fit farm.history farm'.history asks c.in-Ok.ensures.history c.requires.fits in
     record {
       ahead = ahead t d farm journal c.self.invariant c.self.inside.recorded s c.self.view_is c.requires.decided
-          farm' most grows start is (omega (arith, few)) legal;
+          farm' most grows start is fits legal;
     }
 
 pub returns-in_err-record_from-in-Ok-clause-any_moment : goal.returns-in_err-record_from-in-Ok-clause-any_moment
