@@ -5,7 +5,7 @@
     bench/append.py [FOLDER [APPENDS [LENGTH]]]       2000 payloads of 100 bytes in the folder for temporary files, if
                                                       not said
 
-The journal is that of the crates `farm_disk` and `farm_journal`. A small program over them is made in a temporary
+The journal is that of the crates `file_disk` and `farm_journal`. A small program over them is made in a temporary
 folder, proved there and built by `rt run`. The two programs are run in turn, and each has the least of its times. What a
 sync takes is the disk's: on a folder in memory it is nothing, and the ratio is then that of the processor's work alone.
 """
@@ -16,14 +16,15 @@ import sys
 import tempfile
 
 ROOT = os.path.dirname(os.path.dirname(os.path.abspath(__file__)))
-CRATES = ["told_list", "item_list", "farm_disk", "farm_journal"]
+CRATES = ["fault_types", "told_list", "item_list", "farm_disk", "file_disk", "farm_journal"]
 TURNS = 7
 
 PROGRAM = """//! Appends payloads to a new journal in the file `journal`, and prints the nanoseconds that they took.
 #![tactic(auto)]
 
-use farm_disk::{Disk, FileDisk};
+use farm_disk::Disk;
 use farm_journal::{GATE_LIMIT, Journal, MAX_PAYLOAD};
+use file_disk::{FileDisk, Opening};
 use std::alloc::Global;
 use std::io;
 use std::time::Instant;
@@ -54,7 +55,7 @@ fn main(rt: HostRuntime) -> io::Result<()> {
     if first.is_empty() || first.len() > MAX_PAYLOAD {
         return Err(failed());
     }
-    let Ok(disk) = FileDisk::at(alloc, rt, "journal") else {
+    let Ok(disk) = FileDisk::at(alloc, rt, "journal", Opening::FoundOrAppend(0)) else {
         return Err(failed());
     };
     let Ok(mut journal) = Journal::create(alloc, disk, first) else {
@@ -84,7 +85,7 @@ def build_journal(folder, appends, length):
     with open(os.path.join(ROOT, "crates.txt")) as lines:
         kept = [line for line in lines if line.split(":")[0] in CRATES]
     with open(os.path.join(folder, "crates.txt"), "w") as file:
-        file.writelines(kept + ["append_bench: farm_journal farm_disk\n"])
+        file.writelines(kept + ["append_bench: farm_journal file_disk farm_disk\n"])
     shutil.copy(os.path.join(ROOT, "HANDLES"), folder)
     with open(os.path.join(crate, "src", "main.rt"), "w") as file:
         file.write(PROGRAM.replace("@APPENDS@", str(appends)).replace("@LENGTH@", str(length)))

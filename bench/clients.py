@@ -1,10 +1,9 @@
 #!/usr/bin/env python3
 """Real clients against the built service over loopback, each kind once: a line a kind, and status 1 where one found a fault.
 
-    bench/clients.py [quick]       with `quick` the idle connections aren't waited for
+    bench/clients.py
 
-Run it after `./finder build`. It needs curl. The last step takes a minute: it waits past the time-out of idle connections. What it
-wrote once stands in clients.out.
+Run it after `./finder build`. It needs curl. What it wrote once stands in clients.out.
 """
 import json
 import re
@@ -181,19 +180,19 @@ def _():
     together([many] * 16)
 
 
-if sys.argv[1:] != ["quick"]:
-    @step("a request behind 32 idle connections, with 16 handlers")
-    def _():
-        patient = Farm(handlers=16)
-        try:
-            patient.start()
-            idle = [socket.create_connection(("127.0.0.1", patient.port), 20) for _ in range(32)]
-            over = patient.connection(120)
-            assert patient.get("/v1/farm", over)[0] == 200
-            over.close()
-            [it.close() for it in idle]
-        finally:
-            patient.close()
+@step("a request behind 32 idle connections, with 16 handlers")
+def _():
+    patient = Farm(handlers=16)
+    try:
+        patient.start()
+        idle = [socket.create_connection(("127.0.0.1", patient.port), 20) for _ in range(32)]
+        over = patient.connection(20)
+        assert patient.get("/v1/farm", over)[0] == 200
+        over.close()
+        [it.close() for it in idle]
+    finally:
+        patient.close()
+
 
 farm.kill()
 print(farm.run("show", farm.journal).decode().splitlines()[0])

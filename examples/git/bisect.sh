@@ -1,15 +1,16 @@
 #!/usr/bin/env bash
 # Finds the commit that broke a flaky test of a git repository, from end to end: a service, a test host, two workers.
 #
-#   ./finder build && examples/git/bisect.sh
+#   examples/git/bisect.sh
 #
-# It makes a repository of 40 commits in a folder of its own, of which one breaks the test `checkout_total`. The test also flakes,
-# before and after, in one run of ten: a sound tree fails then, and a broken one passes. Which runs flake hangs on the commit and on
-# how often it was run, so each time the same commit is found, by about as many runs. It needs git, curl and python3. All that
-# it started ends with it, by Ctrl-C too, and its folder goes. PORT and HOST_PORT name other ports than 18080 and 18081.
+# It makes a repository of 40 commits in a folder of its own, of which one breaks the test `checkout_total`. The test
+# also flakes, before and after, in one run of ten: a sound tree fails then, and a broken one passes. Which runs flake
+# hangs on the commit and on how often it was run, so each time the same commit is found, by about as many runs. It needs
+# git, curl and python3. All that it started ends with it, by Ctrl-C too, and its folder goes. FINDER names another
+# program than that of `./finder`, and PORT and HOST_PORT other ports than 18080 and 18081.
 set -u
 here=$(cd "$(dirname "${BASH_SOURCE[0]}")" && pwd) || exit 2
-finder=${FINDER:-$here/../../crates/culprit_finder/out/culprit_finder}
+finder=${FINDER:-$("$here/../../finder" --path)} || exit 1
 port=${PORT:-18080} host_port=${HOST_PORT:-18081}
 service=http://127.0.0.1:$port/v1
 started=()
@@ -17,8 +18,11 @@ started=()
 say() { printf '\n== %s\n' "$*"; }
 fail() { printf 'bisect: %s\n' "$*" >&2; exit 1; }
 ask() { curl -sS --max-time 20 "$@"; }
+listens() { (exec 3<>"/dev/tcp/127.0.0.1/$1") 2>/dev/null; }
 
-[ -x "$finder" ] || fail "build the program first: ./finder build"
+[ -x "$finder" ] || fail "$finder can't be run"
+listens "$port" && fail "port $port is taken: PORT names another one"
+listens "$host_port" && fail "port $host_port is taken: HOST_PORT names another one"
 work=$(mktemp -d) || exit 2
 journal=$work/farm.journal
 
@@ -31,12 +35,13 @@ end() {
 trap end EXIT
 trap 'exit 130' INT TERM
 
-# The repository: a catalogue, a script that adds up prices, and a test of that script. Each commit gets the same id every time,
-# so nothing of the user's configuration may enter it.
+# The repository: a catalogue, a script that adds up prices, and a test of that script. Each commit gets the same id
+# every time, so nothing of the user's configuration may enter it.
 make_repository() {
   local repo=$work/shop number
   export GIT_CONFIG_GLOBAL=/dev/null GIT_CONFIG_SYSTEM=/dev/null
-  export GIT_AUTHOR_NAME=shop GIT_AUTHOR_EMAIL=shop@example.com GIT_COMMITTER_NAME=shop GIT_COMMITTER_EMAIL=shop@example.com
+  export GIT_AUTHOR_NAME=shop GIT_AUTHOR_EMAIL=shop@example.com
+  export GIT_COMMITTER_NAME=shop GIT_COMMITTER_EMAIL=shop@example.com
   git init -q -b main "$repo"
   printf 'total=0\nwhile read -r name price; do total=$((total + price)); done < prices\necho "$total"\n' > "$repo/total.sh"
   cat > "$repo/checkout_total" <<'TEST'
@@ -71,8 +76,8 @@ print(json.dumps({"key": "00000000-0000-0000-0000-000000000001", "test": "checko
 # How one of the searches stands.
 standing() { ask "$service/searches/1" | python3 -c 'import json, sys; print(json.load(sys.stdin)["standing"])'; }
 
-# A worker leases, runs and reports until nothing is due, and asks again after a while, until the search has ended. What it runs
-# is ended with it.
+# A worker leases, runs and reports until nothing is due, and asks again after a while, until the search has ended. What
+# it runs is ended with it.
 worker() {
   local running=
   trap '[ -n "$running" ] && kill "$running" 2>/dev/null; exit' TERM
@@ -90,15 +95,17 @@ say "the repository"
 git -C "$work/shop" log --oneline | sed -n '1p;14p;41p'
 
 "$finder" found "$journal" 60000 10 east:0 || fail "the journal could not be founded"
-"$finder" serve "$journal" "127.0.0.1:$port" 4 1000000 &
+"$finder" serve "$journal" "127.0.0.1:$port" 4 1000000000 &
 server=$!
 started+=("$server")
 mkdir "$work/trees"
 python3 "$here/host.py" "$work/shop" "$work/trees" "$host_port" &
-started+=($!)
-for _ in $(seq 50); do
-  kill -0 "$server" 2>/dev/null || fail "the service ended: is port $port in use?"
-  ask "$service/totals" > /dev/null 2>&1 && break
+host=$!
+started+=("$host")
+# A worker that finds no host loses its lease, which expires after a minute: so both are waited for, however long it takes.
+until ask "$service/totals" > /dev/null 2>&1 && listens "$host_port"; do
+  kill -0 "$server" 2>/dev/null || fail "the service ended: is port $port taken?"
+  kill -0 "$host" 2>/dev/null || fail "the test host ended: is port $host_port taken?"
   sleep 0.1
 done
 

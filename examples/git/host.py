@@ -3,10 +3,11 @@
 
     host.py REPOSITORY FOLDER PORT
 
-Each connection gets a work tree of its own under FOLDER. The test is the script of that name in the repository, whose exit
-status is the verdict. The environment variable RUN tells the script how often it was run at this commit. What keeps a test
-from being run (no such commit, no such script, a script that doesn't end) is no verdict: the connection is closed without a
-line, and the worker ends with status 10.
+Each connection gets a work tree of its own under FOLDER. The test is the script of that name in the repository, whose
+exit status is the verdict. The environment variable RUN tells the script how often it was run at this commit. What
+keeps a test from being run (no such commit, no such script, a script that doesn't end) is no verdict: the connection is
+closed without a line, and the worker ends with status 10. A connection that asks nothing gets nothing: it only tries
+whether the host is there.
 """
 import collections
 import itertools
@@ -34,7 +35,8 @@ def verdict(commit, test):
         script = os.path.join(tree, test)
         if not os.path.isfile(script):
             raise FileNotFoundError(script)
-        ended = subprocess.run(["bash", script], cwd=tree, env={**os.environ, "RUN": str(run)}, stdout=sys.stderr, timeout=20)
+        environment = {**os.environ, "RUN": str(run)}
+        ended = subprocess.run(["bash", script], cwd=tree, env=environment, stdout=sys.stderr, timeout=20)
         return "pass" if ended.returncode == 0 else "fail"
     finally:
         with one_at_a_time:
@@ -43,8 +45,11 @@ def verdict(commit, test):
 
 class Asked(socketserver.StreamRequestHandler):
     def handle(self):
+        line = self.rfile.readline()
+        if not line:
+            return
         try:
-            commit, _, test = self.rfile.readline().decode("ascii").rstrip("\n").partition(" ")
+            commit, _, test = line.decode("ascii").rstrip("\n").partition(" ")
             answer = verdict(commit, test)
         except Exception as fault:  # no verdict: say nothing, and let the worker see it
             print(f"host: {fault}", file=sys.stderr)

@@ -163,6 +163,8 @@ impl<'f> Sink for ServiceLink<'f> {
 }
 
 impl<'f> Link for ServiceLink<'f> {
+    fn note_idle(&mut self) {}
+
     ghost one_count = { λ _. refl };
 
     ghost written_aside = { λ _. refl };
@@ -244,6 +246,8 @@ impl<'f> Network for ServiceNetwork<'f> {
     fn accept(&mut self) -> Accepted<ServiceLink<'f>> {
         Accepted::End
     }
+
+    fn stop_accepting(&mut self) {}
 
     fn connect(&mut self) -> Connected<ServiceLink<'f>> {
         match self.next_link() {

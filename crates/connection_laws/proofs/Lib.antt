@@ -6,4 +6,5 @@ pub mod Batches
 pub mod Loop
 pub mod Serving
 pub mod Short
+pub mod Foreign
 pub mod Further

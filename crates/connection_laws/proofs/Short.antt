@@ -21,7 +21,7 @@ use Rattle.http_fields.specs.Lengths.{StatesWithin, stated_length, length_by as 
 use Rattle.http_fields.specs.declared.lengths.StatedLength.{StatedLength}
 use Rattle.http_fields.specs.declared.lengths.StatedLength.TheVariants as stated
 use Rattle.http_requests.specs.Fields.{fields_of}
-use Rattle.http_requests.specs.Framing.{body_length, closes_after, has_host, is_head_method, wants_interim, has_coding, length_by}
+use Rattle.http_requests.specs.Framing.{body_length, closes_after, has_host, is_foreign, is_head_method, wants_interim, has_coding, length_by}
 use Rattle.http_routes.specs.Routes.{endpoint_of}
 use Rattle.http_requests.specs.Items.{Item, IsNext, body_of, item_by, item_of, head_size, refused}
 use Rattle.http_words.specs.declared.endpoint.Endpoint.{Endpoint}
@@ -57,11 +57,15 @@ length_by-short method (stated.Bytes n) len short e = let same : n ≡ len = cc 
 length_by-short method stated.TooLong len short e = let bad : ⊥ = cc in absurd bad
 length_by-short method stated.Malformed len short e = let bad : ⊥ = cc in absurd bad
 
-framed_at : (b c : Bool) (r : Result ℕ Fault) (len : ℕ) → ((n : ℕ) → r ≡ Ok n → n ≤ MAX_BODY_BYTES)
-    → (if not b then Err fault.BadRequest else if c then Err fault.NotImplemented else r) ≡ Ok len → len ≤ MAX_BODY_BYTES
-framed_at false c r len short e = let bad : ⊥ = cc in absurd bad
-framed_at true true r len short e = let bad : ⊥ = cc in absurd bad
-framed_at true false r len short e = short len e
+framed_at : (b o c : Bool) (r : Result ℕ Fault) (len : ℕ) → ((n : ℕ) → r ≡ Ok n → n ≤ MAX_BODY_BYTES)
+    → (if not b then Err fault.BadRequest
+    else if o then Err fault.Foreign
+    else if c then Err fault.NotImplemented
+    else r) ≡ Ok len → len ≤ MAX_BODY_BYTES
+framed_at false o c r len short e = let bad : ⊥ = cc in absurd bad
+framed_at true true c r len short e = let bad : ⊥ = cc in absurd bad
+framed_at true false true r len short e = let bad : ⊥ = cc in absurd bad
+framed_at true false false r len short e = short len e
 
 stated-within : (fields : List FieldText) → StatesWithin (stated_length fields)
 unfolding stated_length
@@ -71,7 +75,8 @@ body_length-short : (method : List ℕ) (minor : ℕ) (fields : List FieldText) 
     → body_length method minor fields ≡ Ok len → len ≤ MAX_BODY_BYTES
 unfolding body_length
 body_length-short method minor fields len e =
-    framed_at (has_host minor fields) (has_coding fields) (length_by method (stated_length fields)) len
+    framed_at (has_host minor fields) (is_foreign method fields) (has_coding fields)
+    (length_by method (stated_length fields)) len
     (λ n is. length_by-short method (stated_length fields) n (stated-within fields) is) e
 
 either-short : (b : Bool) (x y : Item) → length x.body ≤ MAX_BODY_BYTES → length y.body ≤ MAX_BODY_BYTES

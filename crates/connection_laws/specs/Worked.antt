@@ -5,7 +5,7 @@ use Rattle.http_requests.specs.Items.{Item, refused}
 use Rattle.http_words.specs.declared.endpoint.Endpoint.TheVariants as endpoint
 use Rattle.http_words.specs.declared.route.Route.TheVariants as route
 use Rattle.http_words.specs.declared.fault.Allow.TheVariants.{Post}
-use Rattle.http_words.specs.declared.fault.Fault.TheVariants.{BadRequest, MethodNotAllowed}
+use Rattle.http_words.specs.declared.fault.Fault.TheVariants.{BadRequest, Foreign, MethodNotAllowed}
 
 -- a request whose body was asked for and is cut off, and what is put
 abbrev pub cut_item : Item
@@ -20,6 +20,19 @@ cut_bytes =
     ++ line (codes "Connection: close")
     ++ line []
     ++ codes "{\"refused\":\"BadRequest\"}"
+
+-- a POST with a field named Origin, and what is put
+abbrev pub foreign_item : Item
+foreign_item = refused false false Foreign
+
+abbrev pub foreign_bytes : List ℕ
+foreign_bytes =
+    line (codes "HTTP/1.1 403 Forbidden")
+    ++ line (codes "Content-Type: application/json")
+    ++ line (codes "Content-Length: 21")
+    ++ line (codes "Connection: close")
+    ++ line []
+    ++ codes "{\"refused\":\"Foreign\"}"
 
 -- a HEAD request on a path for POST, and what is put
 abbrev pub head_item : Item

@@ -2,26 +2,29 @@
 ghost use Rattle.std.specs.Prelude.{◌≡◌, ◌≢◌, Err, ◌≤◌, ◌<◌, ◌+◌, ◌⊎◌, ◌++◌, ℕ, List, [], ◌∷◌, length, Bool, true, false, Result};
 ghost use Rattle.std.specs.List.{range_with_len};
 ghost use Rattle.farm_entry.specs.Legal.{IsLegal};
+ghost use Rattle.farm_entry.specs.Playing.{after};
 ghost use Rattle.farm_entry.specs.declared.entry.Entry.{Entry};
 ghost use Rattle.farm_store.specs.Answering.{AreAnswers, history_after};
 ghost use Rattle.farm_store.specs.declared.asking.Ask.{Ask};
 ghost use Rattle.farm_store.specs.declared.asking.TheConstants.{MAX_BATCH};
 ghost use Rattle.link_io.specs.Links.{LinkState, fresh_link};
+ghost use Rattle.http_requests.specs.Fields.{fields_of};
+ghost use Rattle.http_requests.specs.Framing.{has_origin};
 ghost use Rattle.http_requests.specs.Fronts.{Opens, behind};
-ghost use Rattle.http_requests.specs.Items.{Item, Items, IsNext, End, ended, closed};
+ghost use Rattle.http_requests.specs.Items.{Item, Items, IsNext, IsRequest, End, ended, closed};
 ghost use Rattle.list_prefix.specs.Prefix.{IsPrefix};
 ghost use Rattle.fault_types.specs.Counts.{Rose};
 ghost use Rattle.connection_laws.specs.Answers.{item_bytes, response_bytes, interim_of, response_of, transcript};
 ghost use Rattle.connection_laws.specs.Batches.{AreAsked, AreAnsweredBy, AreAtOnce, failed_steps, uncalled_steps};
-ghost use Rattle.connection_laws.specs.Progress.{Progress, IsWithin, progress_after, progress_at, progress_from, recorded_places};
+ghost use Rattle.connection_laws.specs.Progress.{Progress, IsWithin, decision_on, progress_after, progress_at, progress_from, recorded_place, recorded_places};
 ghost use Rattle.connection_laws.specs.Held.{Held, HeldFrom, IsReadOut, StaysClosed, IsSoFar};
 ghost use Rattle.connection_laws.specs.Kinds.{commands, kind_of};
 ghost use Rattle.connection_laws.specs.Marks.{Mark, Follows};
 ghost use Rattle.connection_laws.specs.Moments.{IsTold, MayGive};
 ghost use Rattle.connection_laws.specs.Outcomes.{Step, answered, failed, faulted, unread};
 ghost use Rattle.connection_laws.specs.Serving.{IsHeldOf, Serves, is_whole};
-ghost use Rattle.connection_laws.specs.Steps.{AreSteps};
-ghost use Rattle.connection_laws.specs.Worked.{cut_item, cut_bytes, lease_item, head_item, head_bytes, failed_bytes, no_memory_bytes};
+ghost use Rattle.connection_laws.specs.Steps.{AreSteps, IsStep};
+ghost use Rattle.connection_laws.specs.Worked.{cut_item, cut_bytes, foreign_item, foreign_bytes, lease_item, head_item, head_bytes, failed_bytes, no_memory_bytes};
 
 use crate::{ServeFault, Served};
 use farm_entry::Refusal;
@@ -179,10 +182,24 @@ pub fn no_body_is_too_long()
     ensures { (bytes : List ℕ) (item : Item) → IsNext bytes item → kind_of item ≢ commands (Err WireFault.TooLong) }
 {}
 
-/// Answers as they are put, worked out by hand: to a request whose body is cut off, on a path that has other methods,
-/// where the disk failed, and where memory ran out, also for the text of an answer.
+/// No request with a field named `Origin` adds an entry, whatever its method and whatever stands in the field: what it
+/// comes to records none, and where the farm answers its command, the history stays as it was.
+pub fn no_request_of_a_page_adds_an_entry<C: Clock>(clock: &C)
+    ensures records { (c : Progress) (bytes : List ℕ) (item : Item) (step : Step) (request : IsRequest bytes item)
+        → has_origin (fields_of request.head) ≡ true → IsStep (MayGive C.Clock clock.now) c item step
+        → recorded_place step.outcome ≡ [] }
+    ensures stays { (c : Progress) (bytes : List ℕ) (item : Item) (step : Step) (request : IsRequest bytes item)
+        → has_origin (fields_of request.head) ≡ true → IsStep (MayGive C.Clock clock.now) c item step
+        → (H : List Entry) (ask : Ask) (a : Answer)
+        → step.outcome ≡ answered H ask a → after H (decision_on H ask) ≡ H }
+{}
+
+/// Answers as they are put, worked out by hand: to a request whose body is cut off, to the POST of a page, on a path that
+/// has other methods, where the disk failed, and where memory ran out, also for the text of an answer.
 pub fn worked_answers()
     ensures cut { item_bytes cut_item (record { outcome = faulted Fault.BadRequest; written = true }) ≡ cut_bytes }
+    ensures foreign { item_bytes foreign_item (record { outcome = faulted Fault.Foreign; written = true })
+        ≡ foreign_bytes }
     ensures head { item_bytes head_item (record { outcome = faulted (Fault.MethodNotAllowed Allow.Post); written = true })
         ≡ head_bytes }
     ensures failed { (H : List Entry) (ask : Ask)

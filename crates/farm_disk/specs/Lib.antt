@@ -2,7 +2,6 @@ pub mod Answers
 pub mod CalmDiskKept
 pub mod Certain
 pub mod DiskFault
-pub mod FileDisk
 pub mod Images
 pub mod InMemory
 pub mod MemDiskKept

@@ -1,13 +1,13 @@
 //! A disk, as a journal sees it: what a read of it gives, and which bytes a crash may leave of it at each moment.
 //!
 //! A `Disk` tells contracts a log of steps. What a crash may leave, the images, is a definition over that log, so a
-//! contract above can speak of every image of every moment of a call, whatever disk stands behind it.
+//! contract above can speak of every image of every moment of a call, whatever disk stands behind it. The one over a
+//! file of the system is in `file_disk`.
 //!
 //! The crate stands on `told_list` alone. The layers above may use
 //! - the trait `Disk` with its answers `Did`, `Size` and `Written`;
 //! - `CalmDisk` and `MemDisk`, disks in memory that tell everything; `MemDisk` fails at the calls that it is told to,
 //!   and makes images for tests;
-//! - `FileDisk`, over a file of the system: the trusted edge, since no contract says what a real file keeps;
 //! - `laws`, on what the definitions come to.
 //!
 //! Clauses above cite `specs/` (`Images`, `Answers`), and proofs above the lemmas of `proofs/Moments` and
@@ -16,12 +16,10 @@
 
 mod call;
 mod disk;
-mod file_disk;
 mod in_memory;
 pub mod laws;
 
 pub use call::Call;
 pub use disk::{Did, Disk, Size, Written};
 pub use fault_types::Memory;
-pub use file_disk::FileDisk;
 pub use in_memory::{CalmDisk, DiskFail, MemDisk};

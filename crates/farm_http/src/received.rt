@@ -15,9 +15,12 @@ use http_answers::put_interim;
 use http_requests::laws::readings_stay;
 use http_requests::{LastHead, Next, Reading, next_of};
 use http_routes::Pages;
-use link_io::{INPUT_LIMIT, PIECE, Sink, Source, Took};
+use link_io::{INPUT_LIMIT, Link, PIECE, Sink, Source, Took};
 use std::alloc::Global;
 use std::marker::Model;
+
+/// The most room for bytes that is kept once a request is answered.
+const MOST_HELD: usize = 65_536;
 
 /// The bytes that were taken of a link and aren't answered yet, how many were taken in all, whether the last take
 /// found the end of the input, whether the interim answer of the request at the front is out, and how far that request
@@ -117,20 +120,53 @@ impl Received {
         }
     }
 
-    /// Drops the bytes that are answered.
+    /// Drops the bytes that are answered. Room that a large body took goes back behind it, and not while one is taken.
     fn compact(&mut self)
         ensures { self.new ≡ self.old }
     {
+        if self.from == 0 {
+            return;
+        }
         if self.from < self.bytes.len() {
             let _ = self.bytes.drain(..self.from);
         } else {
             self.bytes.clear();
         }
         self.from = 0;
+        if self.bytes.capacity() > MOST_HELD {
+            self.bytes.shrink_to(MOST_HELD);
+        }
+    }
+
+    /// Tells a link that nothing is held, where that is so.
+    fn tell_idle<L: Link>(&self, link: &mut L)
+        ensures taken { L.Source.taken link.new ≡ L.Source.taken link.old }
+        ensures aside { L.Source.aside link.new ≡ L.Source.aside link.old }
+        ensures count { L.Source.count link.new ≡ L.Source.count link.old }
+    {
+        if self.held().is_empty() {
+            link.note_idle();
+        }
+    }
+
+    /// Takes a piece more, which is held then. A link of which nothing is held is told so before. Where it fails or
+    /// memory runs out, nothing was taken.
+    pub fn take<L: Link>(&mut self, link: &mut L) -> Result<(), ServeFault>
+        requires open_ { is_complete self.old ≡ false }
+        ensures taken { OnOk result
+            (IsTaken self.old self.new (L.Source.taken link.old) (L.Source.taken link.new) (L.Source.ended link.new)) }
+        ensures failed { OnErr result (self.new ≡ self.old) }
+        ensures untaken { OnErr result (L.Source.taken link.new ≡ L.Source.taken link.old) }
+        ensures aside { L.Source.aside link.new ≡ L.Source.aside link.old }
+        ensures cause { OnLinkFault result (Rose (L.Source.count link.old) (L.Source.count link.new)) }
+        ensures never_falls { L.Source.count link.old ≤ L.Source.count link.new }
+    {
+        self.tell_idle(link);
+        self.take_piece(link)
     }
 
     /// Takes a piece more, which is held then. Where the link fails or memory runs out, nothing was taken.
-    pub fn take<S: Source>(&mut self, link: &mut S) -> Result<(), ServeFault>
+    fn take_piece<S: Source>(&mut self, link: &mut S) -> Result<(), ServeFault>
         requires open_ { is_complete self.old ≡ false }
         ensures taken { OnOk result (IsTaken self.old self.new (S.taken link.old) (S.taken link.new) (S.ended link.new)) }
         ensures failed { OnErr result (self.new ≡ self.old) }

@@ -12,6 +12,8 @@ ghost use Rattle.farm_serve.specs.Nexts.{IsPassOf, IsReaderOf, NextSays};
 ghost use Rattle.farm_serve.specs.Serving.{IsGained};
 ghost use Rattle.farm_serve.specs.Standings.{IsClosed};
 
+use crate::accepts::accept;
+use crate::early_reader::EarlyReader;
 use crate::link::serve_one;
 use crate::naming::Naming;
 use crate::standing::{Next, Standing};
@@ -26,8 +28,8 @@ use std::marker::Model;
 use std::sync::Wait;
 use std::sync::ledger::{Book, Share};
 
-/// The network, with a pass of the farm that has seen all that the links taken back were answered at, and the book of
-/// the links that are out.
+/// The network, with a pass of the farm that has seen all that the links taken back were answered at, the book of the
+/// links that are out, and the readers of handlers that haven't started yet.
 ///
 /// Its pass is split for each link and joined with the link's pass when that is taken back. Contracts see it as how the
 /// serving stands.
@@ -36,6 +38,7 @@ pub struct Gate<N: Network + Drop, J: Naming> {
     network: N,
     held: Pass,
     out: Book<J>,
+    readers: Vec<EarlyReader<J>>,
     standing: Standing,
 }
 
@@ -52,7 +55,7 @@ impl<N: Network + Drop, J: Naming> Model for Gate<N, J> {
 
 impl<N: Network + Drop, J: Naming> Gate<N, J> {
     /// No accept was made yet.
-    pub fn new(network: N, held: Pass, out: Book<J>, links: u64) -> Gate<N, J>
+    pub fn new(alloc: Global, network: N, held: Pass, out: Book<J>, links: u64) -> Gate<N, J>
         requires pass { IsPassOf J.entry held }
         requires told { J.entry.told ≡ N.told network }
         requires count { J.entry.count ≡ N.count network }
@@ -63,6 +66,7 @@ impl<N: Network + Drop, J: Naming> Gate<N, J> {
             network,
             held,
             out,
+            readers: Vec::new(alloc),
             standing: Standing {
                 left: links,
                 ended: false,
@@ -72,7 +76,7 @@ impl<N: Network + Drop, J: Naming> Gate<N, J> {
         }
     }
 
-    /// The next link, with a pass that has seen what the held one has.
+    /// The next link, with a pass that has seen what the held one has. Once no accept follows, the network is told so.
     pub fn next<D: Disk, B: Beginning>(
         &mut self,
         farm: &SharedFarm<D, B>,
@@ -88,7 +92,7 @@ impl<N: Network + Drop, J: Naming> Gate<N, J> {
             return Next::Closed;
         }
         self.standing.left -= 1;
-        match self.network.accept() {
+        match accept(&mut self.network, self.standing.left == 0) {
             Accepted::Linked(link) => {
                 let pass = farm.split(&mut self.held);
                 self.out.add(mine, 1);
@@ -131,6 +135,50 @@ impl<N: Network + Drop, J: Naming> Gate<N, J> {
             self.standing.short = true;
         }
         made
+    }
+
+    /// Makes a reader more, for a handler that starts later. Running out of memory is noted.
+    fn add_reader<D: Disk, B: Beginning, R: Wait>(
+        &mut self,
+        rt: &R,
+        farm: &SharedFarm<D, B>,
+    ) -> Result<(), Memory>
+        requires farm { farm.now ≡ J.entry.lock }
+    {
+        let reader = self.reader(rt, farm)?;
+        self.keep_reader(EarlyReader::new(reader))
+    }
+
+    /// Keeps a reader. Running out of memory is noted.
+    fn keep_reader(&mut self, reader: EarlyReader<J>) -> Result<(), Memory> {
+        let kept = self.readers.push(reader);
+        if kept.is_err() {
+            self.standing.short = true;
+            return Err(Memory);
+        }
+        Ok(())
+    }
+
+    /// Makes the readers of so many handlers, before the first accept: a handler that made its own would take a turn of
+    /// the farm under the lock round the network. Where memory runs out there are fewer, which is noted.
+    pub fn add_readers<D: Disk, B: Beginning, R: Wait>(
+        &mut self,
+        rt: &R,
+        farm: &SharedFarm<D, B>,
+        handlers: u8,
+    )
+        requires farm { farm.now ≡ J.entry.lock }
+    {
+        for _ in 0..handlers {
+            if self.add_reader(rt, farm).is_err() {
+                return;
+            }
+        }
+    }
+
+    /// A reader that was made before. Where there is none, memory ran out.
+    pub fn take_reader(&mut self) -> Option<EarlyReader<J>> {
+        self.readers.pop()
     }
 
     /// Takes a link back, and its pass.
@@ -218,6 +266,7 @@ impl<N: Network + Drop, J: Naming> Gate<N, J> {
             held,
             mut out,
             standing,
+            ..
         } = self;
         let mut all = all;
         out.audit(&mut all);

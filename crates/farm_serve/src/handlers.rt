@@ -17,6 +17,9 @@ use std::sync::{Mutex, Wait};
 use std::thread;
 use std::thread::{Promise, Scope, Threads};
 
+/// What is said on standard error of a handler that can't be started.
+const NOT_STARTED: &str = "a handler could not be started";
+
 /// A handler gives back a share of no link.
 #[derive(Drop)]
 struct NoneOut;
@@ -32,7 +35,7 @@ pub fn run_all<
     N: Network + Drop + Send,
     C: Clock + Sync,
     J: Naming + Send + Sync,
-    R: Threads + Wait + Sync,
+    R: Threads + Wait + Eprint + Sync,
 >(
     rt: &R,
     alloc: Global,
@@ -64,7 +67,7 @@ where
 }
 
 /// Starts so many handlers and serves beside them, until all have ended. A handler whose start is refused runs in this
-/// thread, after the others were started.
+/// thread, after the others were started, and is told of in a line on standard error.
 fn start_all<
     's,
     E,
@@ -73,7 +76,7 @@ fn start_all<
     N: Network + Drop + Send,
     C: Clock + Sync,
     J: Naming + Send + Sync,
-    R: Threads + Wait + Sync,
+    R: Threads + Wait + Eprint + Sync,
 >(
     scope: &Scope<'s, E>,
     rt: &'s R,
@@ -105,6 +108,7 @@ where
             rest
         }
         Err(refused) => {
+            let _told = rt.eprintln(NOT_STARTED);
             let mut rest = start_all(scope, rt, alloc, gate, farm, clock, all, others - 1);
             rest.merge((refused.value)());
             rest
@@ -113,7 +117,7 @@ where
 }
 
 /// Takes links and serves them, one after the other, until no accept is left or one answers that no more will come. It
-/// has one table of paths and one reader for all its links.
+/// has one table of paths for all its links, and one reader, which was made before.
 fn handle<D: Disk, B: Beginning, N: Network + Drop, C: Clock, J: Naming, R: Wait>(
     rt: &R,
     alloc: Global,
@@ -130,10 +134,11 @@ fn handle<D: Disk, B: Beginning, N: Network + Drop, C: Clock, J: Naming, R: Wait
     ensures amount { result.amount ≡ 0 }
 {
     let mut share = share;
-    let Ok(pages) = gate.lock(rt).pages(alloc) else {
+    let Some(early) = gate.lock(rt).take_reader() else {
         return share;
     };
-    let Ok(mut reader) = gate.lock(rt).reader(rt, farm) else {
+    let mut reader = early.into_reader();
+    let Ok(pages) = gate.lock(rt).pages(alloc) else {
         return share;
     };
     for _ in rt.forever() {

@@ -9,6 +9,8 @@
 //! `serve` and `Ending`.
 #![tactic(auto)]
 
+mod accepts;
+mod early_reader;
 mod ending;
 mod gate;
 mod handlers;

@@ -38,7 +38,7 @@ pub fn serve<
     N: Network + Drop + Send,
     K: Sink,
     C: Clock + Sync,
-    R: Threads + Wait + Sync,
+    R: Threads + Wait + Eprint + Sync,
 >(
     rt: &R,
     alloc: Global,
@@ -99,7 +99,7 @@ fn serve_store<
     B: Beginning + Send,
     N: Network + Drop + Send,
     C: Clock + Sync,
-    R: Threads + Wait + Sync,
+    R: Threads + Wait + Eprint + Sync,
 >(
     rt: &R,
     alloc: Global,
@@ -137,7 +137,7 @@ fn serve_farm<
     N: Network + Drop + Send,
     C: Clock + Sync,
     J: Naming + Send + Sync,
-    R: Threads + Wait + Sync,
+    R: Threads + Wait + Eprint + Sync,
 >(
     rt: &R,
     alloc: Global,
@@ -170,7 +170,9 @@ where
     ensures came { IfSome B.begun (λ begun. CameBy D.Disk begun result.0) }
 {
     let (out, all) = blank.open::<J>();
-    let gate = Mutex::new(Gate::new(network, pass, out, links));
+    let mut gate = Gate::new(alloc, network, pass, out, links);
+    gate.add_readers(rt, &farm, handlers);
+    let gate = Mutex::new(gate);
     let mut all = run_all(rt, alloc, &gate, &farm, clock, all, handlers);
     let mut gate = gate.into_inner();
     gate.serve_rest(rt, alloc, &farm, clock, &mut all);

@@ -3,12 +3,13 @@
 //!
 //! It stands on `finder_words` for the words, on `judge`, `audit_check` and `farm_script` for the answers, on
 //! `farm_drill` for drills, on `farm_store` for a farm whose history stands on a disk, on `farm_serve` for the service
-//! of one over a network, and on `link_io`, `net_io`, `farm_disk` and `tcp_net` for the traits of the outside and for
-//! the adapters over the system. `run_words` makes the real objects and calls `finder`; `run_process` does so for the
+//! of one over a network, and on `link_io`, `net_io`, `farm_disk`, `file_disk` and `tcp_net` for the traits of the
+//! outside and for the adapters over the system. `run_words` makes the real objects and calls `finder`; `run_process` does so for the
 //! process's words, writes the status's line to standard error, and ends with the status's number: `main` of the
 //! program is that call alone.
 #![tactic(auto)]
 
+mod asked;
 mod audit_command;
 mod drill_command;
 mod follow_command;
@@ -16,6 +17,7 @@ mod found_command;
 mod judge_command;
 mod memory_farm;
 mod opening;
+mod openings;
 mod process;
 mod program;
 mod put_text;

@@ -69,7 +69,7 @@ use worker_io::{KeySource, Runner};
 /// back. `rt` starts threads and waits; `words` are the program's words without its own name; `disk` is that of the
 /// journal which they name, `network` the connections at the address, and `runner` runs the tests.
 pub fn finder<
-    H: Threads + Wait + Sync,
+    H: Threads + Wait + Eprint + Sync,
     S: Source,
     K: Sink,
     D: Disk + Drop + Send,

@@ -1,17 +1,16 @@
 //! The runner of a real worker.
 
 use std::alloc::AllocError;
-use std::time::Duration;
 use std::{fs, io};
-use tcp_net::TcpNetwork;
+use tcp_net::{AnyByte, Limits, TcpNetwork};
 use test_runners::{RunnerName, TableFault, TestRunner, read_table, runner_named};
 
-/// How long a test host may pause before it answers, in milliseconds: as long as the longest lease lasts.
-const HOST_TIMEOUT_MS: u64 = 86_400_000;
+/// How long a run at a test host may last in all, in milliseconds: as long as the longest lease lasts.
+const HOST_EXCHANGE_MS: u64 = 86_400_000;
 
 /// Why there is no runner.
 pub(crate) enum NoRunner {
-    /// The table of verdicts can't be read, or a line of it is no row.
+    /// The table of verdicts can't be read, or a line of it is no row; or the test host can't be reached.
     Refused,
     /// Out of memory.
     Memory,
@@ -32,18 +31,29 @@ impl From<TableFault> for NoRunner {
     }
 }
 
-/// The runner that a word names. A table is read now, and a host is called at the first run.
+/// The runner that a word names. A table is read now, and a host is called: the connection is that of the first run.
 pub(crate) fn make_runner(
     rt: HostRuntime,
     word: &str,
-) -> Result<TestRunner<TcpNetwork<HostRuntime>>, NoRunner> {
+) -> Result<TestRunner<TcpNetwork<HostRuntime, AnyByte>>, NoRunner> {
     match runner_named(word) {
         RunnerName::Table(path) => table_runner(rt, path),
-        RunnerName::Host(address) => {
-            let timeout = Duration::from_millis(HOST_TIMEOUT_MS);
-            Ok(TestRunner::host(TcpNetwork::at(rt.alloc(), rt, address, timeout)?))
-        }
+        RunnerName::Host(address) => host_runner(rt, address),
         RunnerName::Nothing => Ok(TestRunner::nothing()),
+    }
+}
+
+/// The runner that asks the test host at an address.
+fn host_runner(
+    rt: HostRuntime,
+    address: &str,
+) -> Result<TestRunner<TcpNetwork<HostRuntime, AnyByte>>, NoRunner> {
+    let limits = Limits::usual(HOST_EXCHANGE_MS);
+    let mut network = TcpNetwork::at(rt.alloc(), rt, AnyByte, address, limits)?;
+    if network.reach() {
+        Ok(TestRunner::host(network))
+    } else {
+        Err(NoRunner::Refused)
     }
 }
 
@@ -51,7 +61,7 @@ pub(crate) fn make_runner(
 fn table_runner(
     rt: HostRuntime,
     path: &str,
-) -> Result<TestRunner<TcpNetwork<HostRuntime>>, NoRunner> {
+) -> Result<TestRunner<TcpNetwork<HostRuntime, AnyByte>>, NoRunner> {
     let bytes = match fs::read(&rt, path) {
         Ok(bytes) => bytes,
         Err(fault) => {

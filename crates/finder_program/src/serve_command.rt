@@ -23,7 +23,7 @@ use std::thread::Threads;
 /// Opens the journal, and answers the requests of the network's links from its farm by so many handlers, until so many
 /// accepts were made or one answered that no more will come. Then it writes the farm's reply line.
 pub fn serve_command<
-    H: Threads + Wait + Sync,
+    H: Threads + Wait + Eprint + Sync,
     K: Sink,
     D: Disk + Drop + Send,
     C: Clock + Sync,

@@ -26,7 +26,7 @@ fn lines_in(text: &[u8]) -> usize {
 }
 
 /// Whether a script run over a journal again gives these replies.
-fn goes_on<H: Print + Threads + Wait + Sync>(
+fn goes_on<H: Print + Threads + Wait + Eprint + Sync>(
     rt: &H,
     alloc: Global,
     journal: &[u8],
@@ -38,7 +38,7 @@ fn goes_on<H: Print + Threads + Wait + Sync>(
 }
 
 /// Prints how many entries an image holds: what its farm's page shows, as it stands there.
-fn print_entries<H: Print + Threads + Wait + Sync>(
+fn print_entries<H: Print + Threads + Wait + Eprint + Sync>(
     rt: &H,
     alloc: Global,
     image: &[u8],
@@ -56,7 +56,7 @@ fn print_entries<H: Print + Threads + Wait + Sync>(
 }
 
 /// Plays the script where one call of the disk fails, and prints what it comes to.
-fn print_fault<H: Print + Threads + Wait + Sync>(
+fn print_fault<H: Print + Threads + Wait + Eprint + Sync>(
     rt: &H,
     alloc: Global,
     journal: &[u8],
@@ -89,7 +89,7 @@ fn print_fault<H: Print + Threads + Wait + Sync>(
 
 /// Founds a journal, plays the script over it, and then once for each call of the disk and each number of bytes that
 /// goes through in it, where that call fails.
-pub(crate) fn print_faults<H: Print + Threads + Wait + Sync>(
+pub(crate) fn print_faults<H: Print + Threads + Wait + Eprint + Sync>(
     rt: &H,
     alloc: Global,
     script: &str,

@@ -52,7 +52,7 @@ const PIECES: [usize; 3] = [1, 7, 8_192];
 const SCRIPT: &[u8] = b"{\"at\":86400000,\"do\":\"farm\"}";
 
 // Prints what a call over no journal wrote, and how it ended, where it didn't end well.
-fn play_once<H: Print + Threads + Wait + Sync>(
+fn play_once<H: Print + Threads + Wait + Eprint + Sync>(
     rt: &H,
     alloc: Global,
     asked: Call,
@@ -67,7 +67,7 @@ fn play_once<H: Print + Threads + Wait + Sync>(
 }
 
 // The same where the input is given whole, and again in pieces, which change nothing.
-fn play_whole<H: Print + Threads + Wait + Sync>(
+fn play_whole<H: Print + Threads + Wait + Eprint + Sync>(
     rt: &H,
     alloc: Global,
     command: &str,
@@ -85,7 +85,7 @@ fn play_whole<H: Print + Threads + Wait + Sync>(
     Ok(())
 }
 
-fn play_filled<H: Print + Threads + Wait + Sync>(
+fn play_filled<H: Print + Threads + Wait + Eprint + Sync>(
     rt: &H,
     alloc: Global,
     command: &str,
@@ -95,7 +95,7 @@ fn play_filled<H: Print + Threads + Wait + Sync>(
     play_whole(rt, alloc, command, &filled(alloc, text, filling)?)
 }
 
-fn play_to_stop<H: Print + Threads + Wait + Sync>(
+fn play_to_stop<H: Print + Threads + Wait + Eprint + Sync>(
     rt: &H,
     alloc: Global,
     asked: Call,
@@ -105,7 +105,7 @@ fn play_to_stop<H: Print + Threads + Wait + Sync>(
 }
 
 // A case of `judge`, `run` or `audit`.
-fn play_command<H: Print + Threads + Wait + Sync>(
+fn play_command<H: Print + Threads + Wait + Eprint + Sync>(
     rt: &H,
     alloc: Global,
     command: &str,
@@ -147,7 +147,7 @@ fn play_command<H: Print + Threads + Wait + Sync>(
     }
 }
 
-fn play_words<H: Print + Threads + Wait + Sync>(
+fn play_words<H: Print + Threads + Wait + Eprint + Sync>(
     rt: &H,
     alloc: Global,
     line: &str,
@@ -161,7 +161,7 @@ fn play_words<H: Print + Threads + Wait + Sync>(
     )
 }
 
-fn play_journal<H: Print + Threads + Wait + Sync>(
+fn play_journal<H: Print + Threads + Wait + Eprint + Sync>(
     rt: &H,
     alloc: Global,
     journal: &[u8],
@@ -177,7 +177,7 @@ fn play_journal<H: Print + Threads + Wait + Sync>(
     }
 }
 
-fn play_case<H: Print + Threads + Wait + Sync>(
+fn play_case<H: Print + Threads + Wait + Eprint + Sync>(
     rt: &H,
     alloc: Global,
     setting: &str,
@@ -204,7 +204,7 @@ fn play_case<H: Print + Threads + Wait + Sync>(
     }
 }
 
-fn play_cases<H: Print + Threads + Wait + Sync>(
+fn play_cases<H: Print + Threads + Wait + Eprint + Sync>(
     rt: &H,
     alloc: Global,
     cases: &str,

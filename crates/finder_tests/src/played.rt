@@ -80,7 +80,7 @@ fn source_of(alloc: Global, call: Call) -> Result<MemSource, AllocError> {
 }
 
 /// Makes a call.
-pub(crate) fn play<H: Threads + Wait + Sync, D: Disk + Drop + Send>(
+pub(crate) fn play<H: Threads + Wait + Eprint + Sync, D: Disk + Drop + Send>(
     rt: &H,
     alloc: Global,
     call: Call,
@@ -109,7 +109,7 @@ pub(crate) fn play<H: Threads + Wait + Sync, D: Disk + Drop + Send>(
 }
 
 /// Makes a call over a journal in memory, on a disk that never fails.
-pub(crate) fn play_calm<H: Threads + Wait + Sync>(
+pub(crate) fn play_calm<H: Threads + Wait + Eprint + Sync>(
     rt: &H,
     alloc: Global,
     call: Call,

@@ -16,7 +16,7 @@ const CALLS: [&str; 5] = [
 ];
 
 /// Prints how each worker ends: its exit status, and its line on standard error. `threads` is the same runtime.
-pub(crate) fn print_tables<H: Threads + Wait + Sync>(
+pub(crate) fn print_tables<H: Threads + Wait + Eprint + Sync>(
     rt: HostRuntime,
     threads: &H,
 ) -> io::Result<()> {

@@ -12,6 +12,7 @@ use Rattle.http_words.specs.declared.status_code.StatusCode.TheVariants as statu
 abbrev pub status_text : StatusCode → List ℕ
 status_text status.Ok = codes "200 OK"
 status_text status.BadRequest = codes "400 Bad Request"
+status_text status.Forbidden = codes "403 Forbidden"
 status_text status.NotFound = codes "404 Not Found"
 status_text status.MethodNotAllowed = codes "405 Method Not Allowed"
 status_text status.Conflict = codes "409 Conflict"

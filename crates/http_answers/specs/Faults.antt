@@ -17,6 +17,7 @@ bad_field_text field.From = codes "{\"field\":\"from\",\"refused\":\"BadField\"}
 -- the body of the answer to a fault
 unfoldable pub fault_text : Fault → List ℕ
 fault_text fault.BadRequest = codes "{\"refused\":\"BadRequest\"}"
+fault_text fault.Foreign = codes "{\"refused\":\"Foreign\"}"
 fault_text fault.NotImplemented = codes "{\"refused\":\"NotImplemented\"}"
 fault_text fault.TooLarge = codes "{\"refused\":\"TooLarge\"}"
 fault_text fault.LengthRequired = codes "{\"refused\":\"LengthRequired\"}"
@@ -35,6 +36,7 @@ memory_text = codes "{\"refused\":\"Memory\"}"
 -- its status
 abbrev pub fault_status : Fault → StatusCode
 fault_status fault.BadRequest = status.BadRequest
+fault_status fault.Foreign = status.Forbidden
 fault_status fault.NotImplemented = status.NotImplemented
 fault_status fault.TooLarge = status.TooLarge
 fault_status fault.LengthRequired = status.LengthRequired
@@ -45,6 +47,7 @@ fault_status (fault.BadField name) = status.BadRequest
 -- the methods that it names
 abbrev pub fault_allow : Fault → Option Allow
 fault_allow fault.BadRequest = None
+fault_allow fault.Foreign = None
 fault_allow fault.NotImplemented = None
 fault_allow fault.TooLarge = None
 fault_allow fault.LengthRequired = None

@@ -26,6 +26,7 @@ pub fn fault_text(fault: Fault) -> &'static [u8]
 {
     match fault {
         Fault::BadRequest => br#"{"refused":"BadRequest"}"#,
+        Fault::Foreign => br#"{"refused":"Foreign"}"#,
         Fault::NotImplemented => br#"{"refused":"NotImplemented"}"#,
         Fault::TooLarge => br#"{"refused":"TooLarge"}"#,
         Fault::LengthRequired => br#"{"refused":"LengthRequired"}"#,
@@ -52,6 +53,7 @@ pub fn fault_status(fault: Fault) -> StatusCode
 {
     match fault {
         Fault::BadRequest => StatusCode::BadRequest,
+        Fault::Foreign => StatusCode::Forbidden,
         Fault::NotImplemented => StatusCode::NotImplemented,
         Fault::TooLarge => StatusCode::TooLarge,
         Fault::LengthRequired => StatusCode::LengthRequired,

@@ -28,6 +28,9 @@ pub(crate) fn opening(status: StatusCode) -> &'static [u8]
         StatusCode::BadRequest => {
             b"HTTP/1.1 400 Bad Request\r\nContent-Type: application/json\r\nContent-Length: "
         }
+        StatusCode::Forbidden => {
+            b"HTTP/1.1 403 Forbidden\r\nContent-Type: application/json\r\nContent-Length: "
+        }
         StatusCode::NotFound => {
             b"HTTP/1.1 404 Not Found\r\nContent-Type: application/json\r\nContent-Length: "
         }

@@ -1,10 +1,10 @@
 -- The facts of fields, gathered of some and of those behind them.
 use Rattle.std.proofs.Common.{ℕ, zero, suc, ◌≡◌, ◌≤◌, ◌<◌, drop, get_or, arith, Bool, true, false, cond, List, [], ◌∷◌, ◌++◌, length, map, filter, codes, refl, sym, ap, subst, ◌∙◌, nat_lt, ⊎_elim}
-use Rattle.std.specs.Prelude.{◌||◌, ◌==◌}
+use Rattle.std.specs.Prelude.{◌||◌, ◌==◌, bytes_eq}
 use Rattle.std.specs.List.{All, list_any}
 use Rattle.std.specs.Char.{to_ascii_lowercase}
 use Rattle.std.proofs.Math.Bool.{or-false, or-true}
-use Rattle.std.proofs.lemmas.Bool.{cases_Bool, eqb-false, ltb-false, lt-ltb, ne_eqb}
+use Rattle.std.proofs.lemmas.Bool.{cases_Bool, eqb-false, false≢true, ltb-false, lt-ltb, ne_eqb}
 use Rattle.std.proofs.lemmas.List.{length-map}
 use Rattle.std.proofs.lemmas.Slice.Eq.{bytes_eq-Decides}
 use Rattle.std.proofs.lemmas.List.Elements.{All-tail}
@@ -18,7 +18,6 @@ use Rattle.http_fields.specs.declared.lengths.StatedLength.TheVariants.{Absent, 
 use Rattle.httparse.specs.Spans.{IsHeaderWithin, header_bytes}
 use Rattle.httparse.specs.declared.spans.HeaderSpan.{HeaderSpan}
 use Rattle.http_requests.specs.Facts.{IsAsked, facts_of, is_once, joined, seen_both, seen_of, stated_again, stated_both, with_field}
-use Rattle.http_requests.specs.Framing.{has_coding}
 use Rattle.http_requests.specs.declared.facts.Asked.{Asked}
 use Rattle.http_requests.specs.declared.facts.Asked.TheVariants as asked
 use Rattle.http_requests.specs.declared.facts.Facts.{Facts}
@@ -79,13 +78,21 @@ stated_both-absent Malformed = refl
 pub joined-assoc : (a b c : Facts) → joined (joined a b) c ≡ joined a (joined b c)
 joined-assoc a b c = λ k. record {
   hosts = seen_both-assoc a.hosts b.hosts c.hosts k;
+  origin = or-assoc a.origin b.origin c.origin k;
   coding = or-assoc a.coding b.coding c.coding k;
   stated = stated_both-assoc a.stated b.stated c.stated k;
   expects = or-assoc a.expects b.expects c.expects k;
   closes = or-assoc a.closes b.closes c.closes k;
 }
 
-pub facts-none : record { hosts = seen.Never; coding = false; stated = Absent; expects = false; closes = false } ≡ facts_of []
+pub facts-none : record {
+  hosts = seen.Never;
+  origin = false;
+  coding = false;
+  stated = Absent;
+  expects = false;
+  closes = false;
+} ≡ facts_of []
 unfolding has_close expects_continue stated_length
 facts-none = refl
 
@@ -93,6 +100,7 @@ pub joined-none : (a : Facts) → joined a (facts_of []) ≡ a
 unfolding has_close expects_continue stated_length
 joined-none a = λ k. record {
   hosts = seen_both-none a.hosts k;
+  origin = or-false a.origin k;
   coding = or-false a.coding k;
   stated = stated_both-absent a.stated k;
   expects = or-false a.expects k;
@@ -171,11 +179,14 @@ hosts-cons name f fields =
       | false ↦ refl
     ]
 
-coding-cons : (f : FieldText) (fields : List FieldText) → has_coding (f ∷ fields) ≡ (has_coding (f ∷ []) || has_coding fields)
-coding-cons f fields =
-    let name = codes "transfer-encoding" in
+-- some fields have a name where one of the first or one of those behind has it
+any_named-cons : (name : List ℕ) (f : FieldText) (fields : List FieldText)
+    → nat_lt 0 (length (named_values name (f ∷ fields)))
+    ≡ (nat_lt 0 (length (named_values name (f ∷ []))) || nat_lt 0 (length (named_values name fields)))
+any_named-cons name f fields =
     elim (is_named name f) as (λ b. nat_lt 0 (length (map (λ (g : FieldText). g.1) (cond b (f ∷ filter (is_named name) fields) (filter (is_named name) fields))))
-    ≡ (nat_lt 0 (length (map (λ (g : FieldText). g.1) (cond b (f ∷ []) []))) || has_coding fields)) [
+    ≡ (nat_lt 0 (length (map (λ (g : FieldText). g.1) (cond b (f ∷ []) [])))
+    || nat_lt 0 (length (named_values name fields)))) [
       | true ↦ lt-ltb 0 (suc (length (named_values name fields))) (omega arith)
       | false ↦ refl
     ]
@@ -184,7 +195,8 @@ pub facts-cons : (f : FieldText) (fields : List FieldText) → facts_of (f ∷ f
 unfolding has_close expects_continue
 facts-cons f fields = λ k. record {
   hosts = hosts-cons (codes "host") f fields k;
-  coding = coding-cons f fields k;
+  origin = any_named-cons (codes "origin") f fields k;
+  coding = any_named-cons (codes "transfer-encoding") f fields k;
   stated = stated-cons f fields k;
   expects = any-cons (λ value. same_text value (codes "100-continue")) (codes "expect") f fields k;
   closes = any-cons lists_close (codes "connection") f fields k;
@@ -266,23 +278,25 @@ named-by : {X : Type 0} (f : List (List ℕ) → X) (word name value : List ℕ)
 named-by f word name value b tells = ap f (named-one word name value) ∙ ap (λ (t : Bool). f (one_named t value)) tells
 
 -- the facts of one field, by which of the words is its name
-abbrev one_facts : Bool → Bool → Bool → Bool → Bool → List ℕ → Facts
-one_facts host coding stated expect connection value = record {
+abbrev one_facts : Bool → Bool → Bool → Bool → Bool → Bool → List ℕ → Facts
+one_facts host origin coding stated expect connection value = record {
   hosts = seen_of (length (one_named host value));
+  origin = nat_lt 0 (length (one_named origin value));
   coding = nat_lt 0 (length (one_named coding value));
   stated = length_by (one_named stated value);
   expects = list_any (λ text. same_text text (codes "100-continue")) (one_named expect value);
   closes = list_any lists_close (one_named connection value);
 }
 
-facts-one : (name value : List ℕ) (h t l e c : Bool) → same_text name (codes "host") ≡ h
-    → same_text name (codes "transfer-encoding") ≡ t
+facts-one : (name value : List ℕ) (h o t l e c : Bool) → same_text name (codes "host") ≡ h
+    → same_text name (codes "origin") ≡ o → same_text name (codes "transfer-encoding") ≡ t
     → same_text name (codes "content-length") ≡ l → same_text name (codes "expect") ≡ e
     → same_text name (codes "connection") ≡ c
-    → facts_of ((name, value) ∷ []) ≡ one_facts h t l e c value
+    → facts_of ((name, value) ∷ []) ≡ one_facts h o t l e c value
 unfolding has_close expects_continue stated_length
-facts-one name value h t l e c host coding stated expect connection = λ k. record {
+facts-one name value h o t l e c host origin coding stated expect connection = λ k. record {
   hosts = named-by (λ values. seen_of (length values)) (codes "host") name value h host k;
+  origin = named-by (λ values. nat_lt 0 (length values)) (codes "origin") name value o origin k;
   coding = named-by (λ values. nat_lt 0 (length values)) (codes "transfer-encoding") name value t coding k;
   stated = named-by length_by (codes "content-length") name value l stated k;
   expects = named-by (list_any (λ text. same_text text (codes "100-continue"))) (codes "expect") name value e expect k;
@@ -306,9 +320,10 @@ other-length name word differ =
 not-word : (name word : List ℕ) (n : ℕ) → length name ≡ n → (length word == n) ≡ false → same_text name word ≡ false
 not-word name word n is other = other-length name word (λ same. eqb-false (length word) n other (sym same ∙ is))
 
-on-none : (facts : Facts) (value : List ℕ) → joined facts (one_facts false false false false false value) ≡ facts
+on-none : (facts : Facts) (value : List ℕ) → joined facts (one_facts false false false false false false value) ≡ facts
 on-none facts value = λ k. record {
   hosts = seen_both-none facts.hosts k;
+  origin = or-false facts.origin k;
   coding = or-false facts.coding k;
   stated = stated_both-absent facts.stated k;
   expects = or-false facts.expects k;
@@ -316,11 +331,12 @@ on-none facts value = λ k. record {
 }
 
 on-host : (b : Bool) (facts : Facts) (value : List ℕ)
-    → joined facts (one_facts b false false false false value)
+    → joined facts (one_facts b false false false false false value)
     ≡ with_field (cond b asked.Host asked.Nothing) facts value
 on-host false facts value = on-none facts value
 on-host true facts value = λ k. record {
   hosts = seen_both facts.hosts seen.Once;
+  origin = or-false facts.origin k;
   coding = or-false facts.coding k;
   stated = stated_both-absent facts.stated k;
   expects = or-false facts.expects k;
@@ -328,11 +344,12 @@ on-host true facts value = λ k. record {
 }
 
 on-coding : (b : Bool) (facts : Facts) (value : List ℕ)
-    → joined facts (one_facts false b false false false value)
+    → joined facts (one_facts false false b false false false value)
     ≡ with_field (cond b asked.Coding asked.Nothing) facts value
 on-coding false facts value = on-none facts value
 on-coding true facts value = λ k. record {
   hosts = seen_both-none facts.hosts k;
+  origin = or-false facts.origin k;
   coding = or-true facts.coding k;
   stated = stated_both-absent facts.stated k;
   expects = or-false facts.expects k;
@@ -340,23 +357,35 @@ on-coding true facts value = λ k. record {
 }
 
 on-length : (b : Bool) (facts : Facts) (value : List ℕ)
-    → joined facts (one_facts false false b false false value)
+    → joined facts (one_facts false false false b false false value)
     ≡ with_field (cond b asked.Length asked.Nothing) facts value
 on-length false facts value = on-none facts value
 on-length true facts value = λ k. record {
   hosts = seen_both-none facts.hosts k;
+  origin = or-false facts.origin k;
   coding = or-false facts.coding k;
   stated = stated_both facts.stated (length_in value);
   expects = or-false facts.expects k;
   closes = or-false facts.closes k;
 }
 
-on-expect : (b : Bool) (facts : Facts) (value : List ℕ)
-    → joined facts (one_facts false false false b false value)
-    ≡ with_field (cond b asked.Expect asked.Nothing) facts value
-on-expect false facts value = on-none facts value
-on-expect true facts value = λ k. record {
+-- a name that is one of two words isn't the other
+on-six : (e o : Bool) → (e ≡ true → o ≡ false) → (facts : Facts) (value : List ℕ)
+    → joined facts (one_facts false o false false e false value)
+    ≡ with_field (cond e asked.Expect (cond o asked.Origin asked.Nothing)) facts value
+on-six false false other facts value = on-none facts value
+on-six false true other facts value = λ k. record {
   hosts = seen_both-none facts.hosts k;
+  origin = or-true facts.origin k;
+  coding = or-false facts.coding k;
+  stated = stated_both-absent facts.stated k;
+  expects = or-false facts.expects k;
+  closes = or-false facts.closes k;
+}
+on-six true true other facts value = absurd (false≢true (sym (other refl)))
+on-six true false other facts value = λ k. record {
+  hosts = seen_both-none facts.hosts k;
+  origin = or-false facts.origin k;
   coding = or-false facts.coding k;
   stated = stated_both-absent facts.stated k;
   expects = facts.expects || or-false (same_text value (codes "100-continue")) k;
@@ -364,11 +393,12 @@ on-expect true facts value = λ k. record {
 }
 
 on-connection : (b : Bool) (facts : Facts) (value : List ℕ)
-    → joined facts (one_facts false false false false b value)
+    → joined facts (one_facts false false false false false b value)
     ≡ with_field (cond b asked.Connection asked.Nothing) facts value
 on-connection false facts value = on-none facts value
 on-connection true facts value = λ k. record {
   hosts = seen_both-none facts.hosts k;
+  origin = or-false facts.origin k;
   coding = or-false facts.coding k;
   stated = stated_both-absent facts.stated k;
   expects = or-false facts.expects k;
@@ -386,9 +416,9 @@ pub asked-host : (name : List ℕ) (r : Asked) → length name ≡ 4
     → r ≡ cond (same_text name (codes "host")) asked.Host asked.Nothing → IsAsked r name
 asked-host name r len =
     let b = same_text name (codes "host") in
-    asked-by name r (cond b asked.Host asked.Nothing) (one_facts b false false false false)
-    (λ value. facts-one name value b false false false false refl (not-word name _ 4 len refl)
-    (not-word name _ 4 len refl)
+    asked-by name r (cond b asked.Host asked.Nothing) (one_facts b false false false false false)
+    (λ value. facts-one name value b false false false false false refl (not-word name _ 4 len refl)
+    (not-word name _ 4 len refl) (not-word name _ 4 len refl)
     (not-word name _ 4 len refl) (not-word name _ 4 len refl))
     (on-host b)
 
@@ -396,9 +426,9 @@ pub asked-coding : (name : List ℕ) (r : Asked) → length name ≡ 17
     → r ≡ cond (same_text name (codes "transfer-encoding")) asked.Coding asked.Nothing → IsAsked r name
 asked-coding name r len =
     let b = same_text name (codes "transfer-encoding") in
-    asked-by name r (cond b asked.Coding asked.Nothing) (one_facts false b false false false)
-    (λ value. facts-one name value false b false false false (not-word name _ 17 len refl) refl
-    (not-word name _ 17 len refl)
+    asked-by name r (cond b asked.Coding asked.Nothing) (one_facts false false b false false false)
+    (λ value. facts-one name value false false b false false false (not-word name _ 17 len refl)
+    (not-word name _ 17 len refl) refl (not-word name _ 17 len refl)
     (not-word name _ 17 len refl) (not-word name _ 17 len refl))
     (on-coding b)
 
@@ -406,28 +436,37 @@ pub asked-length : (name : List ℕ) (r : Asked) → length name ≡ 14
     → r ≡ cond (same_text name (codes "content-length")) asked.Length asked.Nothing → IsAsked r name
 asked-length name r len =
     let b = same_text name (codes "content-length") in
-    asked-by name r (cond b asked.Length asked.Nothing) (one_facts false false b false false)
-    (λ value. facts-one name value false false b false false (not-word name _ 14 len refl)
-    (not-word name _ 14 len refl) refl
+    asked-by name r (cond b asked.Length asked.Nothing) (one_facts false false false b false false)
+    (λ value. facts-one name value false false false b false false (not-word name _ 14 len refl)
+    (not-word name _ 14 len refl) (not-word name _ 14 len refl) refl
     (not-word name _ 14 len refl) (not-word name _ 14 len refl))
     (on-length b)
 
-pub asked-expect : (name : List ℕ) (r : Asked) → length name ≡ 6
-    → r ≡ cond (same_text name (codes "expect")) asked.Expect asked.Nothing
-    → IsAsked r name
-asked-expect name r len =
-    let b = same_text name (codes "expect") in
-    asked-by name r (cond b asked.Expect asked.Nothing) (one_facts false false false b false)
-    (λ value. facts-one name value false false false b false (not-word name _ 6 len refl) (not-word name _ 6 len refl)
-    (not-word name _ 6 len refl) refl (not-word name _ 6 len refl))
-    (on-expect b)
+-- the two words of six letters are two
+expect-not-origin : (name : List ℕ) → same_text name (codes "expect") ≡ true → same_text name (codes "origin") ≡ false
+unfolding same_text
+expect-not-origin name same =
+    ap (λ (l : List ℕ). bytes_eq l (map to_ascii_lowercase (codes "origin")))
+    ((bytes_eq-Decides (map to_ascii_lowercase name) (map to_ascii_lowercase (codes "expect"))).0 same)
+
+pub asked-six : (name : List ℕ) (r : Asked) → length name ≡ 6
+    → r ≡ cond (same_text name (codes "expect")) asked.Expect
+    (cond (same_text name (codes "origin")) asked.Origin asked.Nothing) → IsAsked r name
+asked-six name r len =
+    let e = same_text name (codes "expect") in
+    let o = same_text name (codes "origin") in
+    asked-by name r (cond e asked.Expect (cond o asked.Origin asked.Nothing)) (one_facts false o false false e false)
+    (λ value. facts-one name value false o false false e false (not-word name _ 6 len refl) refl
+    (not-word name _ 6 len refl) (not-word name _ 6 len refl) refl (not-word name _ 6 len refl))
+    (on-six e o (expect-not-origin name))
 
 pub asked-connection : (name : List ℕ) (r : Asked) → length name ≡ 10
     → r ≡ cond (same_text name (codes "connection")) asked.Connection asked.Nothing → IsAsked r name
 asked-connection name r len =
     let b = same_text name (codes "connection") in
-    asked-by name r (cond b asked.Connection asked.Nothing) (one_facts false false false false b)
-    (λ value. facts-one name value false false false false b (not-word name _ 10 len refl) (not-word name _ 10 len refl)
+    asked-by name r (cond b asked.Connection asked.Nothing) (one_facts false false false false false b)
+    (λ value. facts-one name value false false false false false b (not-word name _ 10 len refl)
+    (not-word name _ 10 len refl) (not-word name _ 10 len refl)
     (not-word name _ 10 len refl) (not-word name _ 10 len refl) refl)
     (on-connection b)
 
@@ -436,9 +475,9 @@ pub asked-nothing : (name : List ℕ) → (length name ≡ 4 → ⊥) → (lengt
     → (length name ≡ 14 → ⊥)
     → (length name ≡ 17 → ⊥) → IsAsked asked.Nothing name
 asked-nothing name four six ten fourteen seventeen =
-    asked-by name asked.Nothing asked.Nothing (one_facts false false false false false)
-    (λ value. facts-one name value false false false false false (other-length name _ four)
-    (other-length name _ seventeen)
+    asked-by name asked.Nothing asked.Nothing (one_facts false false false false false false)
+    (λ value. facts-one name value false false false false false false (other-length name _ four)
+    (other-length name _ six) (other-length name _ seventeen)
     (other-length name _ fourteen) (other-length name _ six) (other-length name _ ten))
     on-none refl
 

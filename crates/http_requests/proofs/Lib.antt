@@ -1,5 +1,6 @@
 pub mod Counts
 pub mod Feeds
+pub mod Foreign
 pub mod FrontLaws
 pub mod Heads
 pub mod Inputs

@@ -5,7 +5,7 @@ use Rattle.http_fields.specs.Lengths.{length_in, stated_length}
 use Rattle.http_fields.specs.Texts.{same_text}
 use Rattle.http_fields.specs.declared.lengths.StatedLength.{StatedLength}
 use Rattle.http_fields.specs.declared.lengths.StatedLength.TheVariants.{Absent, Bytes, TooLong, Malformed}
-use Rattle.http_requests.specs.Framing.{has_coding}
+use Rattle.http_requests.specs.Framing.{has_coding, has_origin}
 use Rattle.http_requests.specs.declared.facts.Asked.{Asked}
 use Rattle.http_requests.specs.declared.facts.Asked.TheVariants as asked
 use Rattle.http_requests.specs.declared.facts.Facts.{Facts}
@@ -22,6 +22,7 @@ seen_of (suc (suc n)) = seen.Often
 abbrev pub facts_of : List FieldText → Facts
 facts_of fields = record {
   hosts = seen_of (length (named_values (codes "host") fields));
+  origin = has_origin fields;
   coding = has_coding fields;
   stated = stated_length fields;
   expects = expects_continue fields;
@@ -60,6 +61,7 @@ stated_both Malformed others = stated_again Malformed others
 abbrev pub joined : Facts → Facts → Facts
 joined some others = record {
   hosts = seen_both some.hosts others.hosts;
+  origin = some.origin || others.origin;
   coding = some.coding || others.coding;
   stated = stated_both some.stated others.stated;
   expects = some.expects || others.expects;
@@ -71,6 +73,15 @@ abbrev pub with_field : Asked → Facts → List ℕ → Facts
 with_field asked.Nothing facts value = facts
 with_field asked.Host facts value = record {
   hosts = seen_both facts.hosts seen.Once;
+  origin = facts.origin;
+  coding = facts.coding;
+  stated = facts.stated;
+  expects = facts.expects;
+  closes = facts.closes;
+}
+with_field asked.Origin facts value = record {
+  hosts = facts.hosts;
+  origin = true;
   coding = facts.coding;
   stated = facts.stated;
   expects = facts.expects;
@@ -78,6 +89,7 @@ with_field asked.Host facts value = record {
 }
 with_field asked.Coding facts value = record {
   hosts = facts.hosts;
+  origin = facts.origin;
   coding = true;
   stated = facts.stated;
   expects = facts.expects;
@@ -85,6 +97,7 @@ with_field asked.Coding facts value = record {
 }
 with_field asked.Length facts value = record {
   hosts = facts.hosts;
+  origin = facts.origin;
   coding = facts.coding;
   stated = stated_both facts.stated (length_in value);
   expects = facts.expects;
@@ -92,6 +105,7 @@ with_field asked.Length facts value = record {
 }
 with_field asked.Expect facts value = record {
   hosts = facts.hosts;
+  origin = facts.origin;
   coding = facts.coding;
   stated = facts.stated;
   expects = facts.expects || same_text value (codes "100-continue");
@@ -99,6 +113,7 @@ with_field asked.Expect facts value = record {
 }
 with_field asked.Connection facts value = record {
   hosts = facts.hosts;
+  origin = facts.origin;
   coding = facts.coding;
   stated = facts.stated;
   expects = facts.expects;

@@ -1,5 +1,5 @@
 -- How long the body of a request is, and what the connection does (RFC 9112, sections 3.2, 6 and 9, and RFC 9110,
--- section 10.1.1), where what this service doesn't do is refused.
+-- section 10.1.1), where what this service doesn't do is refused, and so is what pages in browsers send.
 use Rattle.std.specs.Prelude.{ℕ, Bool, not, ◌&&◌, ◌||◌, ◌==◌, List, length, nat_lt, Result, Ok, Err, codes, bytes_eq, if◌then◌else◌}
 use Rattle.http_fields.specs.Fields.{FieldText, named_values, has_close, expects_continue}
 use Rattle.http_fields.specs.Lengths.{stated_length}
@@ -12,6 +12,18 @@ use Rattle.http_words.specs.declared.fault.Fault.TheVariants as fault
 abbrev pub has_host : ℕ → List FieldText → Bool
 has_host minor fields = (minor == 0) || (length (named_values (codes "host") fields) == 1)
 
+-- the method that changes something
+abbrev pub is_post : List ℕ → Bool
+is_post method = bytes_eq method (codes "POST")
+
+-- a field has the name Origin, whatever its value (RFC 6454, section 7)
+abbrev pub has_origin : List FieldText → Bool
+has_origin fields = nat_lt 0 (length (named_values (codes "origin") fields))
+
+-- a page in a browser may have sent it: with each POST to another site browsers send where the page is from
+abbrev pub is_foreign : List ℕ → List FieldText → Bool
+is_foreign method fields = has_origin fields && is_post method
+
 -- a transfer coding is named
 abbrev pub has_coding : List FieldText → Bool
 has_coding fields = nat_lt 0 (length (named_values (codes "transfer-encoding") fields))
@@ -19,7 +31,7 @@ has_coding fields = nat_lt 0 (length (named_values (codes "transfer-encoding") f
 -- the length of the body, by what the fields state of it: a POST has to state one, and no other request has a body
 -- without
 abbrev pub length_by : List ℕ → StatedLength → Result ℕ Fault
-length_by method Absent = if bytes_eq method (codes "POST") then Err fault.LengthRequired else Ok 0
+length_by method Absent = if is_post method then Err fault.LengthRequired else Ok 0
 length_by method (Bytes len) = Ok len
 length_by method TooLong = Err fault.TooLarge
 length_by method Malformed = Err fault.BadRequest
@@ -28,6 +40,7 @@ length_by method Malformed = Err fault.BadRequest
 unfoldable pub body_length : List ℕ → ℕ → List FieldText → Result ℕ Fault
 body_length method minor fields =
     if not (has_host minor fields) then Err fault.BadRequest
+    else if is_foreign method fields then Err fault.Foreign
     else if has_coding fields then Err fault.NotImplemented
     else length_by method (stated_length fields)
 

@@ -1,5 +1,5 @@
 //! What the fields of a head say, gathered in one pass.
-ghost use Rattle.std.specs.Prelude.{◌≡◌, ◌∷◌, cond, length, []};
+ghost use Rattle.std.specs.Prelude.{◌≡◌, ◌∷◌, codes, cond, length, []};
 ghost use Rattle.http_fields.specs.Fields.{field_texts};
 ghost use Rattle.http_fields.specs.Lengths.{StatesWithin};
 ghost use Rattle.http_fields.specs.Texts.{same_text};
@@ -62,6 +62,8 @@ pub(crate) enum Asked {
     /// How many there are.
     Host,
     /// Whether there is one.
+    Origin,
+    /// Whether there is one.
     Coding,
     /// The length that they state.
     Length,
@@ -83,13 +85,25 @@ impl Asked {
         }
     }
 
-    /// What is asked of the fields of this name. By its length at most one word has to be compared.
+    /// The same of a name that may be either of the two words of six letters.
+    fn of_six(name: &[u8]) -> Asked
+        ensures { result ≡ cond (same_text name.now (codes "expect")) Asked.Expect
+            (cond (same_text name.now (codes "origin")) Asked.Origin Asked.Nothing) }
+    {
+        if is_same(name, b"expect") {
+            Asked::Expect
+        } else {
+            Asked::Origin.where_same(name, b"origin")
+        }
+    }
+
+    /// What is asked of the fields of this name. By its length at most two words have to be compared.
     fn of(name: &[u8]) -> Asked
         ensures { IsAsked result name.now }
     {
         match name.len() {
             4 => Asked::Host.where_same(name, b"host"),
-            6 => Asked::Expect.where_same(name, b"expect"),
+            6 => Asked::of_six(name),
             10 => Asked::Connection.where_same(name, b"connection"),
             14 => Asked::Length.where_same(name, b"content-length"),
             17 => Asked::Coding.where_same(name, b"transfer-encoding"),
@@ -105,6 +119,8 @@ pub(crate) struct Facts {
     pub(crate) stated: StatedLength,
     /// How many `Host` fields there are.
     pub(crate) hosts: Seen,
+    /// Whether there is an `Origin` field.
+    pub(crate) origin: bool,
     /// Whether a transfer coding is named.
     pub(crate) coding: bool,
     /// Whether an `Expect` field asks for the interim answer.
@@ -120,6 +136,7 @@ impl Facts {
     {
         Facts {
             hosts: Seen::Never,
+            origin: false,
             coding: false,
             stated: StatedLength::Absent,
             expects: false,
@@ -134,6 +151,7 @@ impl Facts {
         match asked {
             Asked::Nothing => {}
             Asked::Host => self.hosts = self.hosts.and(Seen::Once),
+            Asked::Origin => self.origin = true,
             Asked::Coding => self.coding = true,
             Asked::Length => self.stated = stated_both(self.stated, length_in(value)),
             Asked::Expect => self.expects = self.expects || is_same(value, b"100-continue"),

@@ -3,7 +3,7 @@ ghost use Rattle.std.specs.Prelude.{◌≡◌, ◌≤◌, IfOk, List};
 ghost use Rattle.http_fields.specs.Fields.{FieldText};
 ghost use Rattle.http_fields.specs.Lengths.{StatesWithin};
 ghost use Rattle.http_requests.specs.Facts.{facts_of};
-ghost use Rattle.http_requests.specs.Framing.{body_length, has_host, length_by};
+ghost use Rattle.http_requests.specs.Framing.{body_length, has_host, is_foreign, is_post, length_by};
 
 use crate::facts::Facts;
 use http_fields::StatedLength;
@@ -16,6 +16,20 @@ fn has_host(minor: u8, facts: &Facts) -> bool
     minor == 0 || facts.hosts.is_once()
 }
 
+/// Whether the method is `POST`.
+fn is_post(method: &[u8]) -> bool
+    ensures { result ≡ is_post method.now }
+{
+    method == b"POST".as_slice()
+}
+
+/// Whether a page in a browser may have sent the request: it is a `POST` with an `Origin` field.
+fn is_foreign(method: &[u8], facts: &Facts) -> bool
+    ensures { (fields : List FieldText) → facts.now ≡ facts_of fields → result ≡ is_foreign method.now fields }
+{
+    facts.origin && is_post(method)
+}
+
 /// The length of a request's body, by what its fields state.
 fn length_by(method: &[u8], stated: StatedLength) -> Result<usize, Fault>
     requires { StatesWithin stated }
@@ -24,7 +38,7 @@ fn length_by(method: &[u8], stated: StatedLength) -> Result<usize, Fault>
 {
     match stated {
         StatedLength::Absent => {
-            if method == b"POST".as_slice() {
+            if is_post(method) {
                 Err(Fault::LengthRequired)
             } else {
                 Ok(0)
@@ -46,6 +60,9 @@ pub(crate) fn body_length(method: &[u8], minor: u8, facts: &Facts) -> Result<usi
 {
     if !has_host(minor, facts) {
         return Err(Fault::BadRequest);
+    }
+    if is_foreign(method, facts) {
+        return Err(Fault::Foreign);
     }
     if facts.coding {
         return Err(Fault::NotImplemented);

@@ -1,11 +1,14 @@
 //! Laws of the items of a connection's bytes.
-ghost use Rattle.std.specs.Prelude.{◌≡◌, ◌<◌, ◌≤◌, ◌+◌, List, ℕ, [], ◌∷◌, ◌++◌, length, true, false};
+ghost use Rattle.std.specs.Prelude.{◌≡◌, ◌<◌, ◌≤◌, ◌+◌, Err, List, ℕ, [], ◌∷◌, ◌++◌, length, true, false};
+ghost use Rattle.http_requests.specs.Fields.{fields_of};
+ghost use Rattle.http_requests.specs.Framing.{has_host, is_foreign};
 ghost use Rattle.http_requests.specs.Fronts.{Fronts, Opens, behind};
-ghost use Rattle.http_requests.specs.Items.{Item, Items, IsNext, End, closed};
+ghost use Rattle.http_requests.specs.Items.{Item, Items, IsNext, IsRequest, End, closed, refused};
 ghost use Rattle.http_requests.specs.Laws.{IsSettled};
 ghost use Rattle.http_requests.specs.Readings.{IsReading};
 
 use crate::reading::Reading;
+use http_words::Fault;
 
 /// A connection's bytes have at most one list of items, and end in one way.
 pub fn one_list_of_items()
@@ -67,4 +70,19 @@ pub fn a_settled_item_closes()
 /// What was read of a connection's bytes stays so, whatever is taken behind them.
 pub fn readings_stay()
     ensures { (reading : Reading) (bytes more : List ℕ) → IsReading reading bytes → IsReading reading (bytes ++ more) }
+{}
+
+/// A `POST` with a field named `Origin` is answered by this fault, whatever stands in the field and in the rest of the
+/// head, and whatever follows it: no interim answer is put, no body is read, and the connection closes. Only the rule
+/// on `Host` comes before. No other request is answered by this fault.
+pub fn posts_of_pages_are_refused()
+    ensures foreign { (bytes : List ℕ) (item : Item) (request : IsRequest bytes item)
+        → is_foreign request.head.method (fields_of request.head) ≡ true
+        → has_host request.head.minor (fields_of request.head) ≡ true → item ≡ refused false false Fault.Foreign }
+    ensures hostless { (bytes : List ℕ) (item : Item) (request : IsRequest bytes item)
+        → is_foreign request.head.method (fields_of request.head) ≡ true
+        → has_host request.head.minor (fields_of request.head) ≡ false → item ≡ refused false false Fault.BadRequest }
+    ensures only { (bytes : List ℕ) (item : Item) → IsNext bytes item → item.asks ≡ Err Fault.Foreign
+        → (request : IsRequest bytes item) × (is_foreign request.head.method (fields_of request.head) ≡ true)
+        × (has_host request.head.minor (fields_of request.head) ≡ true) }
 {}

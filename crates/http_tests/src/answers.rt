@@ -10,8 +10,9 @@ use link_io::{MemSink, Sink};
 use std::alloc::Global;
 use std::io;
 
-const FAULTS: [Fault; 10] = [
+const FAULTS: [Fault; 11] = [
     Fault::BadRequest,
+    Fault::Foreign,
     Fault::NotImplemented,
     Fault::TooLarge,
     Fault::LengthRequired,
@@ -23,9 +24,10 @@ const FAULTS: [Fault; 10] = [
     Fault::BadField(PathField::From),
 ];
 
-const STATUSES: [StatusCode; 11] = [
+const STATUSES: [StatusCode; 12] = [
     StatusCode::Ok,
     StatusCode::BadRequest,
+    StatusCode::Forbidden,
     StatusCode::NotFound,
     StatusCode::MethodNotAllowed,
     StatusCode::Conflict,

@@ -26,6 +26,8 @@ pub enum Fault {
     /// The head can't be read, HTTP/1.1 comes without exactly one `Host` field, `Content-Length` stands twice or is no
     /// number, or the input ends before the body does.
     BadRequest,
+    /// A `POST` comes with an `Origin` field, as browsers send it for the pages that they show.
+    Foreign,
     /// There is a `Transfer-Encoding` field.
     NotImplemented,
     /// `Content-Length` is above [`MAX_BODY_BYTES`](crate::MAX_BODY_BYTES).

@@ -7,6 +7,8 @@ pub enum StatusCode {
     Ok,
     /// 400: the request can't be read.
     BadRequest,
+    /// 403: a page in a browser may have sent the request.
+    Forbidden,
     /// 404: the path, or what it names, isn't there.
     NotFound,
     /// 405: the path allows other methods.

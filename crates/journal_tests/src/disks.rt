@@ -1,6 +1,7 @@
 //! Disks, call by call, with what each call answers.
 use crate::words::{bytes_of, number_of};
-use farm_disk::{Disk, FileDisk, MemDisk};
+use farm_disk::{Disk, MemDisk};
+use file_disk::{FileDisk, SystemFile};
 use std::alloc::Global;
 use std::io;
 
@@ -11,7 +12,11 @@ fn parts(call: &str) -> (&str, u64, &str) {
     (name, u64::from(number_of(first)), second)
 }
 
-fn play_file_call(rt: HostRuntime, disk: &mut FileDisk<HostRuntime>, call: &str) -> io::Result<()> {
+fn play_file_call(
+    rt: HostRuntime,
+    disk: &mut FileDisk<SystemFile<HostRuntime>>,
+    call: &str,
+) -> io::Result<()> {
     let (name, at, rest) = parts(call);
     match name {
         "size" => print!(rt; "{:?}; ", disk.size()),
@@ -30,9 +35,9 @@ fn play_file_call(rt: HostRuntime, disk: &mut FileDisk<HostRuntime>, call: &str)
 /// Makes calls of a disk over a real file. Answers the disk.
 pub(crate) fn play_file_calls(
     rt: HostRuntime,
-    disk: FileDisk<HostRuntime>,
+    disk: FileDisk<SystemFile<HostRuntime>>,
     calls: &str,
-) -> io::Result<FileDisk<HostRuntime>> {
+) -> io::Result<FileDisk<SystemFile<HostRuntime>>> {
     let mut disk = disk;
     for call in calls.split(' ') {
         play_file_call(rt, &mut disk, call)?;

@@ -1,4 +1,5 @@
 mod Keeping
+mod Places
 mod Counting
 mod Replied
 pub mod Crossing

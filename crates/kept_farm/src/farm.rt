@@ -15,6 +15,7 @@ ghost use Rattle.kept_farm.specs.Replying.{reply_with};
 ghost use Rattle.state_laws.specs.Seen.{seen};
 
 use crate::changes::{search_in, standing_of, with_entry, with_standings};
+use crate::order_places::{lines_at, put_place, take_place};
 use crate::replies::{reply_to_lease, reply_to_opening, reply_to_report};
 use crate::row::Row;
 use farm_books::Books;
@@ -42,11 +43,13 @@ const FOUNDED: Row = Row {
     standing: Standing::Searching,
 };
 
-/// A farm as it is kept. Contracts see it as its history.
+/// A farm as it is kept: its history, beside each entry its row, and the places of the entries that record an order.
+/// Contracts see it as its history.
 #[derive(Drop)]
 pub struct KeptFarm {
     ledger: Ledger,
     rows: Vec<Row>,
+    places: Vec<u32>,
 }
 
 impl Model for KeptFarm {
@@ -76,6 +79,7 @@ impl KeptFarm {
         Ok(KeptFarm {
             ledger: Ledger::found(alloc, settings, at)?,
             rows,
+            places: Vec::new(alloc),
         })
     }
 
@@ -196,7 +200,7 @@ impl KeptFarm {
     pub fn order_page(&self, alloc: Global) -> Result<OrderPage, Memory>
         ensures { IfOk result (λ page. page ≡ order_lines self.now) }
     {
-        Ok(OrderPage::of(plain_history::order_lines(alloc, self.history())?))
+        Ok(OrderPage::of(lines_at(alloc, self.history(), &self.places)?))
     }
 
     /// The reply of the entry at a place: the same whatever came later.
@@ -276,15 +280,19 @@ impl KeptFarm {
         ensures kept { OnErr result (self.new ≡ self.old) }
     {
         let entries = self.rows.len();
+        let place = entries as u32;
         let counted = with_entry(self.rows[entries - 1].totals(entries), &entry.what);
         let search = search_in(&self.ledger, &entry.what);
         let before = standing_of(&self.ledger, search);
+        let is_order = entry.what.is_order();
         self.rows.reserve(1)?;
+        self.places.reserve(1)?;
         self.ledger.push(alloc, entry)?;
         let after = standing_of(&self.ledger, search);
         let totals = with_standings(counted, before, after);
         let stands = after.unwrap_or(Standing::Searching);
         self.rows.push_reserved(Row::of(totals, stands));
+        put_place(&mut self.places, is_order, place);
         Ok(())
     }
 
@@ -293,7 +301,10 @@ impl KeptFarm {
         requires { 1 < length self.old }
         ensures { self.new ≡ take (length self.old - 1) self.old }
     {
+        let history = self.history();
+        let is_order = history[history.len() - 1].what.is_order();
         self.ledger.pop();
         let _row = self.rows.pop();
+        take_place(&mut self.places, is_order);
     }
 }

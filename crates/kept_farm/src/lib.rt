@@ -1,17 +1,18 @@
 //! A farm as it is kept: a legal history, and beside it what a farm is asked for, so that each answer is looked up and
-//! not searched for. Only the list of all orders is made by going through the history.
+//! not searched for.
 //!
 //! Contracts see a [`KeptFarm`] as the history, a list of entries, and each look-up as the definition of the farm that
 //! it answers. An entry more costs what it changes, and the last one can be taken away again, which takes no memory.
 //!
 //! It stands on `farm_ledger` for the history, its books, the states of the searches, the order of their turns and the
-//! orders that stand; on `search_laws` and `state_laws` for what appending an entry changes, on `plain_history` for
-//! the list of the orders, and on `farm_entry` for the types and the definitions. The layer above may use every name
-//! below.
+//! orders that stand; on `search_laws` and `state_laws` for what appending an entry changes, on `plain_history` for a
+//! list that is made item by item, and on `farm_entry` for the types and the definitions. The layer above may use every
+//! name below.
 #![tactic(auto)]
 
 mod changes;
 mod farm;
+mod order_places;
 mod replies;
 mod row;
 

@@ -131,6 +131,8 @@ impl Network for MemNetwork {
         Accepted::Linked(link.afresh())
     }
 
+    fn stop_accepting(&mut self) {}
+
     fn connect(&mut self) -> Connected<MemLink>
         // A connect gives the next link, as it was before its first call, where the plan lets it and there is one.
         ensures linked { IfConnected result (λ link. (next : LinkInMemory) × (rest : List LinkInMemory)

@@ -4,6 +4,7 @@
 //! Nothing here waits longer than for the time-out of one read, which is 200 milliseconds.
 #![tactic(auto)]
 
+mod connects;
 mod lists;
 mod networks;
 mod runners;

@@ -105,3 +105,99 @@ fn print_sides<R: Print, N: Network>(
     }
     print_calls(rt, near, &["", ""])
 }
+
+/// Connects and ends that without a byte. An accept gives it all the same, and a take from there finds the end.
+pub(crate) fn print_silence<R: Print, N: Network>(
+    rt: &R,
+    listening: &mut N,
+    calling: &mut N,
+) -> io::Result<()> {
+    match calling.connect() {
+        Connected::Linked(link) => {
+            let mut near = link;
+            N::finish(&mut near);
+            calling.done(near);
+        }
+        Connected::Failed => println!(rt; "  no connect")?,
+    }
+    match listening.accept() {
+        Accepted::Linked(link) => {
+            let mut far = link;
+            let ended = print_calls(rt, &mut far, &[""]);
+            N::finish(&mut far);
+            listening.done(far);
+            ended
+        }
+        Accepted::End => println!(rt; "  no more links"),
+        Accepted::Failed => println!(rt; "  no accept"),
+    }
+}
+
+/// One connection says nothing and another one asks twice, each time when it has an answer to what went before; then no
+/// accept follows. The first holds nobody up, the second comes back as a link of its own, and both find the end.
+pub(crate) fn print_waiting<R: Print, N: Network>(
+    rt: &R,
+    listening: &mut N,
+    calling: &mut N,
+) -> io::Result<()> {
+    match calling.connect() {
+        Connected::Linked(link) => {
+            let mut quiet = link;
+            let asked = print_two_questions(rt, listening, calling);
+            let ended = print_calls(rt, &mut quiet, &[""]);
+            calling.done(quiet);
+            asked?;
+            ended?;
+        }
+        Connected::Failed => println!(rt; "  no connect")?,
+    }
+    print_question(rt, listening)
+}
+
+/// Connects, asks twice, and takes once after the last accept.
+fn print_two_questions<R: Print, N: Network>(
+    rt: &R,
+    listening: &mut N,
+    calling: &mut N,
+) -> io::Result<()> {
+    match calling.connect() {
+        Connected::Linked(link) => {
+            let mut near = link;
+            let printed = print_answers(rt, listening, &mut near);
+            calling.done(near);
+            printed
+        }
+        Connected::Failed => println!(rt; "  no connect"),
+    }
+}
+
+fn print_answers<R: Print, N: Network>(
+    rt: &R,
+    listening: &mut N,
+    near: &mut N::End,
+) -> io::Result<()> {
+    print_calls(rt, near, &["one"])?;
+    print_question(rt, listening)?;
+    print_calls(rt, near, &["two"])?;
+    print_question(rt, listening)?;
+    listening.stop_accepting();
+    print_calls(rt, near, &[""])
+}
+
+/// Accepts, and takes what was asked. The take after that finds nothing, while nobody accepts.
+fn print_question<R: Print, N: Network>(rt: &R, listening: &mut N) -> io::Result<()> {
+    match listening.accept() {
+        Accepted::Linked(link) => {
+            let mut far = link;
+            let asked = print_calls(rt, &mut far, &[""]);
+            far.note_idle();
+            let waited = print_calls(rt, &mut far, &[""]);
+            N::finish(&mut far);
+            listening.done(far);
+            asked?;
+            waited
+        }
+        Accepted::End => println!(rt; "  no more links"),
+        Accepted::Failed => println!(rt; "  no accept"),
+    }
+}

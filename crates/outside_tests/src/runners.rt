@@ -31,13 +31,30 @@ fn print_table<R: Print>(rt: &R, alloc: Global, text: &str) -> io::Result<()> {
     }
 }
 
-/// A network to four hosts that answer, and one that can't be asked.
+/// What hosts answer: a verdict, which may lack its line feed, or none.
+const ANSWERS: [&str; 10] = [
+    "pass\n",
+    "fail",
+    "passed",
+    "",
+    "pass\nfail",
+    "fail\nfail\n",
+    "pass\n\n",
+    "pass\r\n",
+    "fail\n",
+    "pass",
+];
+
+/// A network to hosts that answer, to one that can't be asked, to one that fails behind its answer's line, and to one
+/// that fails before its line feed.
 fn hosts(alloc: Global) -> Result<MemNetwork, AllocError> {
     let mut connects = Vec::new(alloc);
-    for text in ["pass\n", "fail", "passed", ""] {
+    for text in ANSWERS {
         connects.push(link_of(alloc, text, &[2], &[])?)?;
     }
     connects.push(link_of(alloc, "pass\n", &[], &[1])?)?;
+    connects.push(link_of(alloc, "pass\n", &[5], &[3])?)?;
+    connects.push(link_of(alloc, "pass\n", &[4], &[3])?)?;
     Ok(MemNetwork::of(Vec::new(alloc), connects, Vec::new(alloc)))
 }
 
@@ -51,5 +68,5 @@ pub(crate) fn print_runners<R: Print>(rt: &R, alloc: Global) -> io::Result<()> {
         print_table(rt, alloc, text)?;
     }
     let mut runner = TestRunner::host(hosts(alloc)?);
-    print_answers(rt, alloc, &mut runner, 6)
+    print_answers(rt, alloc, &mut runner, 14)
 }

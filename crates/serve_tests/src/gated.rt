@@ -94,6 +94,8 @@ impl Sink for GatedLink {
 }
 
 impl Link for GatedLink {
+    fn note_idle(&mut self) {}
+
     ghost one_count = { λ _. refl };
 
     ghost written_aside = { λ _. refl };
@@ -151,6 +153,8 @@ impl Network for GatedNetwork {
         })
     }
 
+    fn stop_accepting(&mut self) {}
+
     fn connect(&mut self) -> Connected<GatedLink> {
         self.fault();
         Connected::Failed
@@ -176,7 +180,7 @@ fn print_answer<R: Print>(rt: &R, network: &GatedNetwork, first: bool) -> io::Re
 }
 
 /// Serves both links by so many handlers, and prints how that ended and what was answered on each.
-pub(crate) fn print_gated<R: Print + Threads + Wait + Sync>(
+pub(crate) fn print_gated<R: Print + Threads + Wait + Eprint + Sync>(
     rt: &R,
     alloc: Global,
     handlers: u8,

@@ -82,7 +82,7 @@ fn network(alloc: Global, outside: Outside) -> Result<MemNetwork, AllocError> {
 }
 
 /// Serves the farm, and prints how that ended, how often the network failed, and the line that was put.
-pub(crate) fn print_service<R: Print + Threads + Wait + Sync>(
+pub(crate) fn print_service<R: Print + Threads + Wait + Eprint + Sync>(
     rt: &R,
     alloc: Global,
     handlers: u8,

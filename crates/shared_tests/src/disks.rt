@@ -4,8 +4,9 @@ ghost use Rattle.turn_lock.specs.Known.{IsReady};
 use crate::asks::moment;
 use crate::missed::{Missed, failed, missed_call};
 use crate::passes::founded;
-use farm_disk::{CalmDisk, Disk, FileDisk};
+use farm_disk::{CalmDisk, Disk};
 use farm_entry::{Command, Reply};
+use file_disk::{FileDisk, Opening};
 use shared_farm::{Pass, SharedFarm};
 use std::alloc::Global;
 use std::sync::Wait;
@@ -76,7 +77,7 @@ fn two_threads_share_a_farm_over_memory(rt: HostRuntime) -> Result<(), Fail> {
 #[test]
 fn a_farm_over_a_file_in_no_folder_is_not_founded(rt: HostRuntime) -> Result<(), Fail> {
     let alloc = rt.alloc();
-    let Ok(disk) = FileDisk::at(alloc, rt, "missing/journal") else {
+    let Ok(disk) = FileDisk::at(alloc, rt, "missing/journal", Opening::Found(0)) else {
         return Err(failed(Missed::Memory));
     };
     let seen = shown(&rt, alloc, disk);

@@ -1,10 +1,9 @@
 -- How a test host is asked, and what its answers say.
-use Rattle.std.specs.Prelude.{◌≡◌, ◌≤◌, ◌<◌, ◌⊎◌, ◌||◌, ◌++◌, ℕ, Bool, true, List, [], ◌∷◌, length, if◌then◌else◌, Option, Some, None, Result, Ok, Err, codes, ⊤}
+use Rattle.std.specs.Prelude.{◌≡◌, ◌≤◌, ◌<◌, ◌⊎◌, ◌++◌, ℕ, Bool, true, List, [], ◌∷◌, length, if◌then◌else◌, Option, Some, None, codes}
 use Rattle.std.specs.Str.{bytes_eq}
 use Rattle.farm_types.specs.CommitId.{id_digits}
 use Rattle.farm_types.specs.declared.commit_id.CommitId.{CommitId}
 use Rattle.http_exchange.specs.Exchanges.{Exchange, talked, unconnected}
-use Rattle.link_io.specs.declared.source.TakeFailed.{TakeFailed}
 use Rattle.list_prefix.specs.Prefix.{IsPrefix}
 use Rattle.weight_exact.specs.declared.run.Verdict.{Verdict}
 use Rattle.weight_exact.specs.declared.run.Verdict.TheVariants.{Pass, Fail}
@@ -14,30 +13,35 @@ use Rattle.test_runners.specs.declared.host.TheConstants.{ANSWER_BYTES}
 abbrev pub question_of : CommitId → (test : List ℕ) → List ℕ
 question_of commit test = ((id_digits commit ++ 32 ∷ []) ++ test) ++ 10 ∷ []
 
--- what an answer says: the line `pass` or `fail`, which may lack its line feed
-abbrev pub answer_of : (answer : List ℕ) → Option Verdict
-answer_of answer =
-    if bytes_eq answer (codes "pass\n") || bytes_eq answer (codes "pass") then Some Pass
-    else if bytes_eq answer (codes "fail\n") || bytes_eq answer (codes "fail") then Some Fail
+-- what a line says that came whole, with its line feed
+abbrev pub line_of : (answer : List ℕ) → Option Verdict
+line_of answer =
+    if bytes_eq answer (codes "pass\n") then Some Pass
+    else if bytes_eq answer (codes "fail\n") then Some Fail
     else None
 
--- an answer is all that comes, or as many bytes as the longest one has
+-- what the whole of an answer says: the line `pass` or `fail`, which may lack its line feed
+abbrev pub answer_of : (answer : List ℕ) → Option Verdict
+answer_of answer =
+    if bytes_eq answer (codes "pass") then Some Pass
+    else if bytes_eq answer (codes "fail") then Some Fail
+    else line_of answer
+
+-- the whole of an answer was taken: the input has ended, or more came than an answer has
 abbrev pub IsAnswer : (taken : List ℕ) → (ended : Bool) → Type 0
-IsAnswer taken ended = (ended ≡ true) ⊎ (length taken ≡ ANSWER_BYTES)
+IsAnswer taken ended = (ended ≡ true) ⊎ (ANSWER_BYTES < length taken)
 
--- what was taken of an answer and read, unless a take failed
-abbrev pub IsTaken : (taken : List ℕ) → (ended : Bool) → Result (Option Verdict) TakeFailed → Type 0
-IsTaken taken ended (Ok said) = IsAnswer taken ended × (said ≡ answer_of taken)
-IsTaken taken ended (Err failed) = ⊤
+-- What an answer says of which this was taken, over a connection that failed so often: what the whole of it says, or,
+-- where a take failed, what the line says that had come whole by then
+abbrev pub Says : (taken : List ℕ) → (ended : Bool) → (count : ℕ) → Option Verdict → Type 0
+Says taken ended count said = (IsAnswer taken ended × (said ≡ answer_of taken)) ⊎ ((1 ≤ count) × (said ≡ line_of taken))
 
--- What a host said that was asked over a connection, where so much was put and taken, and that failed so often. It
--- gave a verdict; or the connection failed, not the whole question was put, or the answer says something else
+-- What a host said that was asked over a connection, where so much was put and taken, and that failed so often. The
+-- whole question was put, and the answer says a verdict; or the answer says none, or not the whole question was put
 abbrev pub IsAsked : (question sent taken : List ℕ) → (ended : Bool) → (count : ℕ) → Option Verdict → Type 0
-IsAsked question sent taken ended count (Some verdict) =
-    (sent ≡ question) × IsAnswer taken ended × (answer_of taken ≡ Some verdict)
+IsAsked question sent taken ended count (Some verdict) = (sent ≡ question) × Says taken ended count (Some verdict)
 IsAsked question sent taken ended count None =
-    IsPrefix sent question × ((1 ≤ count) ⊎ (length sent < length question)
-    ⊎ (IsAnswer taken ended × (answer_of taken ≡ None)))
+    IsPrefix sent question × ((length sent < length question) ⊎ Says taken ended count None)
 
 -- what a host said that was asked over a connection of its own, which was made or not
 abbrev pub SaysOver : (question : List ℕ) → Exchange → Option Verdict → Type 0

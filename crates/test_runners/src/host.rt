@@ -1,16 +1,15 @@
 //! A test host, and how it is asked.
-ghost use Rattle.std.specs.Prelude.{◌≡◌, ℕ, List, IfSome, OnErr};
+ghost use Rattle.std.specs.Prelude.{◌≡◌, ◌<◌, ◌≤◌, ◌↔◌, ℕ, List, [], true, IfOk, IfSome, OnErr, length};
 ghost use Rattle.std.specs.Io.KnownBytes.{append_known};
-ghost use Rattle.fault_types.specs.Counts.{Rose};
 ghost use Rattle.http_exchange.specs.Exchanges.{Exchange, Talk, exchange_events, talk_state, talked, tell_all};
 ghost use Rattle.link_io.specs.Links.{fresh_link, link_state};
 ghost use Rattle.link_io.specs.Telling.{add_told};
 ghost use Rattle.net_io.specs.Events.{returned};
-ghost use Rattle.test_runners.specs.Host.{IsAsked, IsTaken, SaysOver, answer_of, question_of};
+ghost use Rattle.test_runners.specs.Host.{IsAsked, Says, SaysOver, answer_of, line_of, question_of};
 
 use arrayvec::ArrayVec;
 use farm_types::{CommitId, ID_DIGITS, NAME_MAX_BYTES, Name};
-use link_io::{Link, Source, TakeFailed, put_all, take_piece};
+use link_io::{Link, TakeFailed, put_all, take_piece};
 use net_io::{Connected, Network};
 use weight_exact::Verdict;
 
@@ -19,6 +18,9 @@ const QUESTION_BYTES: usize = 242;
 
 /// The greatest length of an answer in bytes, with its line feed.
 const ANSWER_BYTES: usize = 5;
+
+/// How many bytes are taken of an answer at most: one more than an answer has.
+const LOOK_BYTES: usize = ANSWER_BYTES + 1;
 
 /// Asks the host behind a network for the verdict of a test at a commit, over a connection of its own, which is given
 /// back. None where the host gives none.
@@ -61,10 +63,7 @@ fn ask<L: Link>(link: &mut L, question: &[u8]) -> Option<Verdict>
         Ok(()) => {}
         Err(_) => return None,
     }
-    match take_answer(link) {
-        Ok(said) => said,
-        Err(_) => None,
-    }
+    take_answer(link)
 }
 
 /// The line by which a host is asked: a commit's id in digits, a space, and the name of a test.
@@ -82,34 +81,72 @@ fn question(test: &Name, commit: &CommitId) -> ArrayVec<u8, QUESTION_BYTES>
     line
 }
 
-/// Takes an answer, to the greatest length of one or to the end of the input, and reads it.
-fn take_answer<S: Source>(link: &mut S) -> Result<Option<Verdict>, TakeFailed>
-    ensures taken { (taken : List ℕ) × (S.taken link.new ≡ append_known (S.taken link.old) taken)
-        × IsTaken taken (S.ended link.new) result }
-    ensures aside { S.aside link.new ≡ S.aside link.old }
-    ensures rises { OnErr result (Rose (S.count link.old) (S.count link.new)) }
+/// Takes an answer to the end of the input, or to one byte more than an answer has, and reads it. What came before a
+/// take that failed is an answer where it is a whole line.
+fn take_answer<L: Link>(link: &mut L) -> Option<Verdict>
+    ensures taken { (taken : List ℕ) × (L.Source.taken link.new ≡ append_known (L.Source.taken link.old) taken)
+        × Says taken (L.Source.ended link.new) (L.Source.count link.new) result }
+    ensures aside { L.Source.aside link.new ≡ L.Source.aside link.old }
 {
-    let mut answer = ArrayVec::<u8, ANSWER_BYTES>::new();
-    'takes: while answer.len() < ANSWER_BYTES {
-        let mut buf = [0u8; ANSWER_BYTES];
-        let room = ANSWER_BYTES - answer.len();
-        let piece = take_piece(link, &mut buf[..room])?;
-        if piece.is_empty() {
-            break;
+    let mut answer = ArrayVec::<u8, LOOK_BYTES>::new();
+    'takes: while answer.len() < LOOK_BYTES {
+        let mut buf = [0u8; LOOK_BYTES];
+        let room = LOOK_BYTES - answer.len();
+        match take_more(link, &answer, &mut buf[..room]) {
+            Ok(piece) => {
+                if piece.is_empty() {
+                    break;
+                }
+                // There is room for it.
+                let _added = answer.try_extend_from_slice(piece);
+            }
+            Err(_) => return line_said(&answer),
         }
-        // There is room for it.
-        let _added = answer.try_extend_from_slice(piece);
     }
-    Ok(verdict_said(&answer))
+    answer_said(&answer)
 }
 
-/// The verdict that an answer says: the line `pass` or `fail`, which may lack its line feed.
-fn verdict_said(answer: &[u8]) -> Option<Verdict>
+/// Takes what follows of an answer of which this has come. Where its line is whole, nothing is held any more, and the
+/// link is told so: nothing but the end should come, and a host that keeps its connection open isn't waited for.
+fn take_more<'a, L: Link>(
+    link: &mut L,
+    answer: &[u8],
+    buf: &'a mut [u8],
+) -> Result<&'a [u8], TakeFailed>
+    requires { 0 < length buf.old }
+    ensures few { IfOk result (λ piece. length piece.now ≤ length buf.old) }
+    ensures adds { IfOk result (λ piece. L.Source.taken link.new ≡ append_known (L.Source.taken link.old) piece.now) }
+    ensures last { IfOk result (λ piece. (L.Source.ended link.new ≡ true) ↔ (piece.now ≡ [])) }
+    ensures aside { L.Source.aside link.new ≡ L.Source.aside link.old }
+    ensures unadded { OnErr result (L.Source.taken link.new ≡ L.Source.taken link.old) }
+    ensures failed { OnErr result (1 ≤ L.Source.count link.new) }
+{
+    if line_said(answer).is_some() {
+        link.note_idle();
+    }
+    take_piece(link, buf)
+}
+
+/// The verdict that the whole of an answer says: the line `pass` or `fail`, which may lack its line feed.
+fn answer_said(answer: &[u8]) -> Option<Verdict>
     ensures { result ≡ answer_of answer.now }
 {
-    if answer == b"pass\n".as_slice() || answer == b"pass".as_slice() {
+    if answer == b"pass".as_slice() {
         Some(Verdict::Pass)
-    } else if answer == b"fail\n".as_slice() || answer == b"fail".as_slice() {
+    } else if answer == b"fail".as_slice() {
+        Some(Verdict::Fail)
+    } else {
+        line_said(answer)
+    }
+}
+
+/// The verdict that a line says which has come whole, with its line feed, and with nothing behind it.
+fn line_said(answer: &[u8]) -> Option<Verdict>
+    ensures { result ≡ line_of answer.now }
+{
+    if answer == b"pass\n".as_slice() {
+        Some(Verdict::Pass)
+    } else if answer == b"fail\n".as_slice() {
         Some(Verdict::Fail)
     } else {
         None

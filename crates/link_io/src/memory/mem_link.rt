@@ -180,6 +180,8 @@ impl Sink for MemLink {
 }
 
 impl Link for MemLink {
+    fn note_idle(&mut self) {}
+
     ghost one_count = { λ _. refl };
 
     ghost written_aside = { λ _. refl };

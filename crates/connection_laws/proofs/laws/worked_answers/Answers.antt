@@ -11,6 +11,10 @@ pub returns-clause-cut : goal.returns-clause-cut
 unfolding closing_line interim_bytes methods_line status_line fault_text memory_text store_fault_text content_type length_name parts_joined item_bytes response_bytes digits
 returns-clause-cut _ = refl
 
+pub returns-clause-foreign : goal.returns-clause-foreign
+unfolding closing_line interim_bytes methods_line status_line fault_text memory_text store_fault_text content_type length_name parts_joined item_bytes response_bytes digits
+returns-clause-foreign _ = refl
+
 pub returns-clause-head : goal.returns-clause-head
 unfolding closing_line interim_bytes methods_line status_line fault_text memory_text store_fault_text content_type length_name parts_joined item_bytes response_bytes digits
 returns-clause-head _ = refl

@@ -6,6 +6,10 @@ pub returns-in-BadRequest : goal.returns-in-BadRequest
 unfolding fault_text
 returns-in-BadRequest c = sym (ap fault_text c.in-BadRequest.is)
 
+pub returns-in-Foreign : goal.returns-in-Foreign
+unfolding fault_text
+returns-in-Foreign c = sym (ap fault_text c.in-Foreign.is)
+
 pub returns-in-NotImplemented : goal.returns-in-NotImplemented
 unfolding fault_text
 returns-in-NotImplemented c = sym (ap fault_text c.in-NotImplemented.is)

@@ -13,6 +13,10 @@ pub returns-in-BadRequest : goal.returns-in-BadRequest
 unfolding status_line content_type length_name
 returns-in-BadRequest c = sym (ap (λ (s : StatusCode). opening_of (status_line s)) c.in-BadRequest.is)
 
+pub returns-in-Forbidden : goal.returns-in-Forbidden
+unfolding status_line content_type length_name
+returns-in-Forbidden c = sym (ap (λ (s : StatusCode). opening_of (status_line s)) c.in-Forbidden.is)
+
 pub returns-in-NotFound : goal.returns-in-NotFound
 unfolding status_line content_type length_name
 returns-in-NotFound c = sym (ap (λ (s : StatusCode). opening_of (status_line s)) c.in-NotFound.is)

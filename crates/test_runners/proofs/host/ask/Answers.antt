@@ -1,8 +1,8 @@
-use Rattle.std.proofs.Common.{◌≡◌, ◌<◌, [], length, take, inl, inr, sym, ap, ◌∙◌, arith}
+use Rattle.std.proofs.Common.{◌≡◌, ◌<◌, [], length, take, inl, sym, ap, ◌∙◌, arith}
 use Rattle.std.proofs.lemmas.List.{length-take}
 use Rattle.link_io.specs.Intake.{Intake}
 use Rattle.http_exchange.proofs.Outcomes.{prefix-take, taken-kept}
-use Rattle.test_runners.proofs.Asked.{asked-said, known-over}
+use Rattle.test_runners.proofs.Asked.{asked-says, known-over}
 use Rattle.test_runners.proofs.host.ask.Goals as goal
 
 pub returns-in-Err : goal.returns-in-Err
@@ -18,21 +18,22 @@ returns-in-Err g c =
       [],
       stop.2,
       taken-kept _ _ kept,
-      (prefix-take stop.0 c.args.question.now, inr (inl short)),
+      (prefix-take stop.0 c.args.question.now, inl short),
     )
 
-pub returns-in-Ok-take_answer : goal.returns-in-Ok-take_answer
-returns-in-Ok-take_answer g c =
+pub returns : goal.returns
+returns g c =
     let law = g.met.L.Link.taken_aside in
     let written = g.met.L.Link.written_aside in
     let kept : g.L.Source.taken c.put_all.new.output ≡ g.L.Source.taken c.args.link.now =
     ap (λ (i : Intake). i.taken)
     (sym (law c.put_all.new.output) ∙ c.put_all.ensures.aside ∙ law c.args.link.now) in
-    let took = c.in-Ok-take_answer.ensures.taken in (
+    let aside = c.take_answer.ensures.aside in
+    let took = c.take_answer.ensures.taken in (
       c.args.question.now,
       took.0,
-      sym (written c.take_answer.new.link) ∙ c.take_answer.ensures.aside ∙ written c.put_all.new.output ∙ c.in-Ok.ensures.done,
+      sym (written c.take_answer.new.link) ∙ aside ∙ written c.put_all.new.output ∙ c.in-Ok.ensures.done,
       known-over _ _ _ took.0 kept took.1,
-      asked-said c.args.question.now took.0 (g.L.Source.ended c.take_answer.new.link) (g.L.Source.count c.take_answer.new.link)
-          c.in-Ok-take_answer.said took.2.0 took.2.1,
+      asked-says c.args.question.now took.0 (g.L.Source.ended c.take_answer.new.link)
+          (g.L.Source.count c.take_answer.new.link) c.take_answer.result took.2,
     )

@@ -1,11 +1,11 @@
-use Rattle.http_requests.proofs.Joins.{asked-coding, asked-connection, asked-expect, asked-host, asked-length, asked-nothing}
+use Rattle.http_requests.proofs.Joins.{asked-coding, asked-connection, asked-host, asked-length, asked-nothing, asked-six}
 use Rattle.http_requests.proofs.facts.Asked.of.Goals as goal
 
 pub returns-in-4 : goal.returns-in-4
 returns-in-4 c = asked-host c.args.name.now c.where_same.result c.in-4.is c.where_same.ensures
 
 pub returns-in-6 : goal.returns-in-6
-returns-in-6 c = asked-expect c.args.name.now c.where_same-in-6.result c.in-6.is c.where_same-in-6.ensures
+returns-in-6 c = asked-six c.args.name.now c.of_six.result c.in-6.is c.of_six.ensures
 
 pub returns-in-10 : goal.returns-in-10
 returns-in-10 c = asked-connection c.args.name.now c.where_same-in-10.result c.in-10.is c.where_same-in-10.ensures

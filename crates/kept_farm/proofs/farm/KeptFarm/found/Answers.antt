@@ -8,4 +8,4 @@ pub invariant_of-result : goal.invariant_of-result
 invariant_of-result c =
     let e : Entry = record { at = c.args.at; what = Founded c.args.settings } in
     let legal : IsLegal (e ∷ []) = (tt, tt) in
-    record { legal = subst IsLegal (sym c.in_ok-found.ensures) legal; rows = search rules }
+    record { legal = subst IsLegal (sym c.in_ok-found.ensures) legal; rows = search rules; places = search rules }

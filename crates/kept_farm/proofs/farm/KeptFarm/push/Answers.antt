@@ -1,14 +1,26 @@
-use Rattle.std.proofs.Common.{◌≡◌, ◌<◌, List, [], ◌∷◌, ◌++◌, length, sym, ap, subst, ◌∙◌, arith}
+use Rattle.std.proofs.Common.{◌≡◌, ◌<◌, Bool, List, [], ◌∷◌, ◌++◌, length, sym, ap, subst, ◌∙◌, arith}
 use Rattle.farm_entry.specs.Legal.{IsLegal}
 use Rattle.farm_entry.specs.Pages.{totals}
 use Rattle.farm_entry.specs.declared.entry.Entry.{Entry}
 use Rattle.farm_entry.specs.declared.reply.Totals.{Totals}
+use Rattle.farm_laws.proofs.Bounds.{entries-bounded}
 use Rattle.kept_farm.specs.Changes.{AreFew, with_entry}
+use Rattle.kept_farm.specs.Places.{order_places, with_place}
 use Rattle.kept_farm.specs.Rows.{row_of}
 use Rattle.kept_farm.specs.declared.row.Row.{Row}
 use Rattle.kept_farm.proofs.Counting.{IsChange, change-moves, change-row, change-small, few, row-totals}
 use Rattle.kept_farm.proofs.Keeping.{beside-last, beside-pushed, some-legal}
+use Rattle.kept_farm.proofs.Places.{pushed-places}
 use Rattle.kept_farm.proofs.farm.KeptFarm.push.Goals as goal
+
+pub overflow_cast-place : goal.overflow_cast-place
+overflow_cast-place c =
+    omega (
+      arith,
+      c.len-entries.ensures,
+      c.self.invariant.rows.as_many,
+      entries-bounded c.self.inside.ledger c.self.invariant.legal,
+    )
 
 pub overflow_sub-entries : goal.overflow_sub-entries
 overflow_sub-entries c =
@@ -125,4 +137,10 @@ invariant_of-self-2 c =
           ∙ change-row H _ e c.with_entry-counted.result c.with_standings-totals.result c.unwrap_or-stands.result
           c.search_in-search.result c.standing_of-before.result c.standing_of-after.result change
           c.with_standings-totals.ensures c.unwrap_or-stands.ensures);
+      places =
+          c.put_place.ensures
+          ∙ ap (λ (b : Bool). with_place c.reserve-2.new.self.items b c.len-entries.result) c.is_order-is_order.ensures
+          ∙ pushed-places H e c.reserve-2.new.self.items c.len-entries.result (count ∙ h.rows.as_many)
+          (c.in_ok-reserve-2.ensures.items ∙ h.places)
+          ∙ ap (order_places 0) (sym more);
     }
