@@ -10,7 +10,8 @@ It takes a second and needs nothing built. Looked at are
 - docs/DEFINITIONS.md, PROMISES.md, DECISIONS.md and ARCHITECTURE.md: each name between backticks is a word of the code,
   a module or a crate, and each path from a crate on is a file;
 - docs/TRUST.md: the number of lines of each file that it lists;
-- must-fail: each `old:` text stands in its file exactly once, when its turn comes.
+- must-fail and bench/edits: each `old:` text stands in its file exactly once, when its turn comes;
+- docs/EDITS.md: it has a row for each edit of bench/edits, and for no other.
 """
 import pathlib
 import re
@@ -18,6 +19,7 @@ import sys
 
 ROOT = pathlib.Path(__file__).resolve().parent.parent
 CRATES = ROOT / "crates"
+EDITS = ROOT / "bench" / "edits"
 NAMED = ("DEFINITIONS", "PROMISES", "DECISIONS", "ARCHITECTURE")
 # Names of other things: what a form is filled in with, files beside crates, types of the system and of libraries.
 OTHERS = {"NAME", "curl", "bench", "stdin", "stdout", "serde_json", "main", "old", "BAD", "EDIT"}
@@ -89,18 +91,30 @@ def check_counts():
 
 def check_edits():
     for edit in sorted(CRATES.glob("*/must-fail/*.edit")):
-        texts, file, old = {}, None, None
-        for line in edit.read_text().splitlines():
-            word, _, rest = line.partition(": ")
-            if word == "file":
-                file = edit.parent.parent / rest.strip()
-                texts.setdefault(file, file.read_text())
-            elif word == "old":
-                old = rest
-                if texts[file].count(old) != 1:
-                    say(edit.relative_to(CRATES), f"stands {texts[file].count(old)} times in {file.name}: {old}")
-            elif word in ("new", "new:") and old in texts[file]:
-                texts[file] = texts[file].replace(old, rest, 1)
+        check_edit(edit, edit.parent.parent)
+    rows = set(re.findall(r"^\| `(\w+)` \| `(\w+)` \|", document("EDITS"), re.MULTILINE))
+    edits = {(edit.parent.name, edit.stem): edit for edit in sorted(EDITS.glob("*/*.edit"))}
+    for edit in edits.values():
+        check_edit(edit, CRATES / edit.parent.name)
+    for crate, name in sorted(rows ^ edits.keys()):
+        say("EDITS", f"{crate}/{name} has a row and no file of bench/edits, or a file and no row")
+
+
+def check_edit(edit, crate):
+    texts, file, old = {}, None, None
+    for line in edit.read_text().splitlines():
+        word, _, rest = line.partition(": ")
+        if word == "file":
+            file = crate / rest.strip()
+            if not file.is_file():
+                return say(edit.relative_to(ROOT), f"no file {rest}")
+            texts.setdefault(file, file.read_text())
+        elif word == "old":
+            old = rest
+            if texts[file].count(old) != 1:
+                say(edit.relative_to(ROOT), f"stands {texts[file].count(old)} times in {file.name}: {old}")
+        elif word in ("new", "new:") and old in texts[file]:
+            texts[file] = texts[file].replace(old, rest, 1)
 
 
 check_layers()

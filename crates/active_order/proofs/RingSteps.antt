@@ -4,7 +4,7 @@ use Rattle.std.proofs.lemmas.Bool.{cases_Bool, cases_eq, true≢false}
 use Rattle.std.proofs.lemmas.Map.Steps.{length-le_from_distinct_below}
 use Rattle.std.specs.List.{IsDistinct, AllByRecursion, list_any}
 use Rattle.active_order.specs.declared.links.Link.{Link}
-use Rattle.active_order.specs.Order.{has, strike, put_behind, first_of, IsOnce}
+use Rattle.active_order.specs.Order.{has, strike, put_behind, IsOnce}
 use Rattle.active_order.specs.Rings.{blank, after_of, before_of, order_of, IsRing}
 use Rattle.active_order.proofs.Lists.{same, other, has-here, has-there, has-rest, apart, none-first, none-rest, none-both, strike-none, strike-other, strike-gone, strike-once, behind-other, behind-once}
 use Rattle.active_order.proofs.Paths.{path-same, path-cut, path-join, after-in, before-in, walk-path, last-in, not-itself, IsCut, IsJoin}
@@ -305,22 +305,6 @@ ring-open links new xs ring after_is before_is =
       };
     }
 
-pub ring-start : (link : Link) → link.after ≡ 0 → link.before ≡ 0 → IsRing (link ∷ []) []
-ring-start link after_is before_is = record {
-  some = omega arith;
-  path = (after_is, before_is);
-  once = (refl, tt);
-  within = λ x h. absurd (true≢false (sym h));
-  out = λ x none x_zero low. absurd (x_zero (omega (arith, low)));
-  out_before = λ x none x_zero low. absurd (x_zero (omega (arith, low)));
-  low = record {
-    after = λ i low. let e : i ≡ 0 = omega (arith, low) in
-        subst (λ (j : ℕ). after_of (link ∷ []) j < 1) (sym e) (omega (arith, after_is));
-    before = λ i low. let e : i ≡ 0 = omega (arith, low) in
-        subst (λ (j : ℕ). before_of (link ∷ []) j < 1) (sym e) (omega (arith, before_is));
-  };
-}
-
 -- a ring of a list is a ring of what clauses see
 pub ring-seen : (links : List Link) (xs : List ℕ) → IsRing links xs → IsRing links (order_of links)
 ring-seen links xs ring = subst (λ (ys : List ℕ). IsRing links ys) (sym (order-is links xs ring)) ring
@@ -339,10 +323,6 @@ ring-contains links xs s ring above below =
     (λ (e : has s xs ≡ false).
     rw (e, same (after_of links s) s (ring.out s e (omega (arith, above)) below)) refl)
     (cases_Bool (has s xs))
-
-pub ring-first : (links : List Link) (xs : List ℕ) → IsRing links xs → after_of links 0 ≡ first_of xs
-ring-first links [] ring = ring.path.0
-ring-first links (x ∷ xs) ring = ring.path.0
 
 -- the last number goes, which is not in the list
 pub ring-close : (links : List Link) (last : Link) (xs : List ℕ) → 0 < length links → IsRing (links ++ last ∷ []) xs

@@ -1,12 +1,11 @@
 //! The service, played in memory: requests as bytes, answered by a real farm.
 ghost use Rattle.std.specs.Prelude.{true};
 
-use farm_answers::{answer_in_memory, answer_status, answer_text};
 use farm_core::Farm;
 use farm_entry::{Command, Entry};
 use farm_types::{Memory, Moment};
-use farm_wire::command_of;
-use http_answers::{Answer, put_answer};
+use farm_wire::{answer_text, command_of};
+use http_answers::{Answer, answer_status, put_answer};
 use http_requests::{LastHead, Next, Reading, Request, next_of};
 use http_routes::Pages;
 use http_words::{Endpoint, StatusCode};
@@ -50,7 +49,7 @@ impl<'f> Service<'f> {
     /// Answers a command at the service's moment, as text.
     pub(crate) fn tell(&mut self, command: &Command) -> Result<(StatusCode, String), Memory> {
         let at = moment_of(self.now).ok_or(Memory)?;
-        let answer = answer_in_memory(self.farm, command, at)?;
+        let answer = self.farm.answer(command, at)?;
         Ok((answer_status(&answer), answer_text(self.alloc, &answer)?))
     }
 

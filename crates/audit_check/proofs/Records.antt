@@ -24,9 +24,6 @@ with_entries-twice part more (entries H) = ap entries (sym (append_assoc part mo
 same_entries : (H K : List Entry) → entries H ≡ entries K → H ≡ K
 same_entries H K h = cc
 
-same_offset : (o k : ℕ) → broken o ≡ broken k → o ≡ k
-same_offset o k h = cc
-
 -- what one payload more tells behind others, of which each is made of entries
 
 behind_record : (gate at : ℕ) (read one : Option (List Entry)) (t more : Told) (H : List Entry) →

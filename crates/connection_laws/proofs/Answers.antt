@@ -9,10 +9,17 @@ use Rattle.connection_laws.specs.Answers.{item_bytes, response_bytes, interim_of
 
 -- an answer is put as it is said, apart from how its body is lent
 pub answer_bytes-response : (item : Item) (s : Response) (body : Bor (List ℕ)) → body.now ≡ s.body
-    → answer_bytes (record { status = s.status; allow = s.allow; closes = item.closes; withheld = item.withheld; body = body })
-    ≡ response_bytes item s
+    → answer_bytes (record {
+      status = s.status;
+      allow = s.allow;
+      closes = item.closes;
+      withheld = item.withheld;
+      body =
+          body;
+    }) ≡ response_bytes item s
 unfolding answer_bytes response_bytes
-answer_bytes-response item s body same i = response_bytes item (record { status = s.status; allow = s.allow; body = same i })
+answer_bytes-response item s body same i = response_bytes item
+    (record { status = s.status; allow = s.allow; body = same i })
 
 -- what is put for one item
 pub one_answer : (item : Item) (step : Step)

@@ -5,11 +5,11 @@ use Rattle.farm_entry.specs.declared.decision.Decision.{Decision}
 use Rattle.farm_entry.specs.declared.decision.Decision.TheVariants.{New, Refuse, Repeat, Show}
 use Rattle.farm_entry.specs.declared.entry.Entry.{Entry}
 use Rattle.farm_store.specs.Answering.{AreAnswers, history_after}
-use Rattle.farm_store.specs.declared.asking.Answer.{Answer}
+use Rattle.farm_entry.specs.declared.answer.Answer.{Answer}
 use Rattle.farm_store.specs.declared.asking.Ask.{Ask}
 use Rattle.farm_store.specs.declared.asking.TheConstants.{MAX_BATCH}
 use Rattle.std.specs.List.{range_with_len}
-use Rattle.farm_types.specs.declared.moment.Moment.{Moment}
+use Rattle.connection_laws.specs.Moments.{Given, at_count}
 use Rattle.http_requests.specs.Items.{Item}
 use Rattle.list_prefix.specs.Prefix.{IsPrefix}
 use Rattle.list_prefix.proofs.Prefixes.{IsPrefix-refl, IsPrefix-trans, IsPrefix-length}
@@ -21,26 +21,29 @@ use Rattle.connection_laws.specs.Outcomes.{Outcome, answered, failed, failed_too
 use Rattle.connection_laws.specs.Steps.{MayComeTo, AreSteps, IsWritten}
 
 -- answered: the items come to what the farm answered
-pub answered-steps : (clock : Moment → Type 0) (c : Progress) (H : List Entry) (items : List Item) (asks : List Ask)
-    (answers : List Answer) (steps : List Step) → AreAsked clock items asks → IsPrefix c.seen H → AreAnswers H asks answers
-    → AreAnsweredBy H asks answers steps → AreSteps clock c items steps
-answered-steps clock c H [] [] [] [] q b r s = tt
-answered-steps clock c H [] [] [] (step ∷ steps) q b r s = absurd s
-answered-steps clock c H [] [] (a ∷ answers) steps q b r s = absurd r
-answered-steps clock c H [] (ask ∷ asks) answers steps q b r s = absurd q
-answered-steps clock c H (item ∷ items) [] answers steps q b r s = absurd q
-answered-steps clock c H (item ∷ items) (ask ∷ asks) [] steps q b r s = absurd r
-answered-steps clock c H (item ∷ items) (ask ∷ asks) (a ∷ answers) [] q b r s = absurd s
-answered-steps clock c H (item ∷ items) (ask ∷ asks) (a ∷ answers) (step ∷ steps) q b r s =
+pub answered-steps : (gives : Given → Type 0) (c : Progress) (H : List Entry) (items : List Item) (asks : List Ask)
+    (answers : List Answer) (steps : List Step) → AreAsked gives items asks → IsPrefix c.seen H
+    → AreAnswers H asks answers
+    → AreAnsweredBy H asks answers steps → AreSteps gives c items steps
+answered-steps gives c H [] [] [] [] q b r s = tt
+answered-steps gives c H [] [] [] (step ∷ steps) q b r s = absurd s
+answered-steps gives c H [] [] (a ∷ answers) steps q b r s = absurd r
+answered-steps gives c H [] (ask ∷ asks) answers steps q b r s = absurd q
+answered-steps gives c H (item ∷ items) [] answers steps q b r s = absurd q
+answered-steps gives c H (item ∷ items) (ask ∷ asks) [] steps q b r s = absurd r
+answered-steps gives c H (item ∷ items) (ask ∷ asks) (a ∷ answers) [] q b r s = absurd s
+answered-steps gives c H (item ∷ items) (ask ∷ asks) (a ∷ answers) (step ∷ steps) q b r s =
     let next = progress_past c (answered H ask a) in
-    subst (λ (o : Outcome). (MayComeTo clock c item o × IsWritten o step.written) × AreSteps clock (progress_past c o) items steps) (sym s.0) (
+    subst (λ (o : Outcome). (MayComeTo gives c item o × IsWritten o step.written)
+    × AreSteps gives (progress_past c o) items steps) (sym s.0) (
       (record { asked = q.0; begins = b; answer = r.0 }, tt),
-      answered-steps clock next (after H (decision_on H ask)) items asks answers steps q.1
+      answered-steps gives next (after H (decision_on H ask)) items asks answers steps q.1
           (IsPrefix-refl (after H (decision_on H ask))) r.1 s.1,
     )
 
 -- the history after them is within the one that they leave, and nothing else is carried
-pub answered-progress_after : (c : Progress) (H : List Entry) (asks : List Ask) (answers : List Answer) (steps : List Step)
+pub answered-progress_after : (c : Progress) (H : List Entry) (asks : List Ask) (answers : List Answer)
+    (steps : List Step)
     → IsPrefix c.seen H → AreAnsweredBy H asks answers steps
     → IsPrefix (progress_after c steps).seen (history_after H asks)
     × ((progress_after c steps).totals ≡ c.totals) × ((progress_after c steps).faults ≡ c.faults)
@@ -52,14 +55,16 @@ answered-progress_after c H (ask ∷ asks) (a ∷ answers) [] b s = absurd s
 answered-progress_after c H (ask ∷ asks) (a ∷ answers) (step ∷ steps) b s =
     let left = after H (decision_on H ask) in
     subst (λ (o : Outcome). IsPrefix (progress_after (progress_past c o) steps).seen (history_after left asks)
-    × ((progress_after (progress_past c o) steps).totals ≡ c.totals) × ((progress_after (progress_past c o) steps).faults ≡ c.faults)) (sym s.0)
+    × ((progress_after (progress_past c o) steps).totals ≡ c.totals)
+    × ((progress_after (progress_past c o) steps).faults ≡ c.faults)) (sym s.0)
     (answered-progress_after (progress_past c (answered H ask a)) left asks answers steps (IsPrefix-refl left) s.1)
 
 pub history_after-longer : (H : List Entry) (asks : List Ask) → IsPrefix H (history_after H asks)
 history_after-longer H [] = IsPrefix-refl H
 history_after-longer H (ask ∷ asks) =
     let left = after H (decision_on H ask) in
-    IsPrefix-trans H left (history_after left asks) (after-longer H (decision_on H ask)) (history_after-longer left asks)
+    IsPrefix-trans H left (history_after left asks) (after-longer H (decision_on H ask))
+    (history_after-longer left asks)
 
 no_places : (H : List Entry) (n : ℕ) → length H ≡ length H + n → [] ≡ range_with_len (length H) n
 no_places H zero same = refl
@@ -104,27 +109,29 @@ answered-places H (ask ∷ asks) (a ∷ answers) (step ∷ steps) n s same =
     (λ m more. answered-places left asks answers steps m s.1 more)
 
 -- the disk failed: the items after the first share its counts
-failed_too-steps : (clock : Moment → Type 0) (c : Progress) (items : List Item) (asks : List Ask) → AreAsked clock items asks
+failed_too-steps : (gives : Given → Type 0) (c : Progress) (items : List Item) (asks : List Ask)
+    → AreAsked gives items asks
     → AreAtOnce items → length asks ≤ c.left
-    → AreSteps clock c items (map (λ (more : Ask). record { outcome = failed_too more; written = true }) asks)
-failed_too-steps clock c [] [] q o le = tt
-failed_too-steps clock c [] (ask ∷ asks) q o le = absurd q
-failed_too-steps clock c (item ∷ items) [] q o le = absurd q
-failed_too-steps clock c (item ∷ items) (ask ∷ asks) q o le =
+    → AreSteps gives c items (map (λ (more : Ask). record { outcome = failed_too more; written = true }) asks)
+failed_too-steps gives c [] [] q o le = tt
+failed_too-steps gives c [] (ask ∷ asks) q o le = absurd q
+failed_too-steps gives c (item ∷ items) [] q o le = absurd q
+failed_too-steps gives c (item ∷ items) (ask ∷ asks) q o le =
     let room : 0 < c.left = omega arith in
     let rest : length asks ≤ c.left - 1 = omega arith in (
       (record { asked = q.0; room = room; at_once = o.0 }, refl),
-      failed_too-steps clock (progress_past c (failed_too ask)) items asks q.1 o.1 rest,
+      failed_too-steps gives (progress_past c (failed_too ask)) items asks q.1 o.1 rest,
     )
 
-pub failed-steps : (clock : Moment → Type 0) (c : Progress) (H : List Entry) (before count : ℕ) (item : Item) (items : List Item)
-    (asks : List Ask) → AreAsked clock (item ∷ items) asks → AreAtOnce items → length asks ≤ MAX_BATCH
-    → IsPrefix c.seen H → c.faults ≤ before → Rose before count
-    → AreSteps clock c (item ∷ items) (failed_steps H asks before count)
-failed-steps clock c H before count item items [] q o le b first rose = absurd q
-failed-steps clock c H before count item items (ask ∷ asks) q o le b first rose = (
-  (record { asked = q.0; begins = b; first = first; rose = rose }, refl),
-  failed_too-steps clock (progress_past c (failed H ask before count)) items asks q.1 o (omega arith),
+pub failed-steps : (gives : Given → Type 0) (c : Progress) (H : List Entry) (before count : ℕ) (item : Item)
+    (items : List Item)
+    (asks : List Ask) → AreAsked gives (item ∷ items) asks → AreAtOnce items → length asks ≤ MAX_BATCH
+    → IsPrefix c.seen H → c.faults ≤ before → Rose before count → gives (at_count before) → gives (at_count count)
+    → AreSteps gives c (item ∷ items) (failed_steps H asks before count)
+failed-steps gives c H before count item items [] q o le b first rose from to = absurd q
+failed-steps gives c H before count item items (ask ∷ asks) q o le b first rose from to = (
+  (record { asked = q.0; begins = b; first = first; rose = rose; from_disk = from; to_disk = to }, refl),
+  failed_too-steps gives (progress_past c (failed H ask before count)) items asks q.1 o (omega arith),
 )
 
 failed_too-progress_after : (c : Progress) (asks : List Ask) → let d = progress_after c
@@ -136,31 +143,34 @@ failed_too-progress_after c (ask ∷ asks) = failed_too-progress_after (progress
 pub failed-progress_after : (c : Progress) (H : List Entry) (before count : ℕ) (ask : Ask) (asks : List Ask)
     → let d = progress_after c (failed_steps H (ask ∷ asks) before count) in
     (d.seen ≡ H) × (d.totals ≡ c.totals) × (d.faults ≡ count)
-failed-progress_after c H before count ask asks = failed_too-progress_after (progress_past c (failed H ask before count)) asks
+failed-progress_after c H before count ask asks = failed_too-progress_after
+    (progress_past c (failed H ask before count)) asks
 
 -- memory ran out
-pub uncalled-steps : (clock : Moment → Type 0) (c : Progress) (H : List Entry) (items : List Item) (asks : List Ask)
-    → AreAsked clock items asks → IsPrefix c.seen H → AreSteps clock c items (uncalled_steps H asks)
-uncalled-steps clock c H [] [] q b = tt
-uncalled-steps clock c H [] (ask ∷ asks) q b = absurd q
-uncalled-steps clock c H (item ∷ items) [] q b = absurd q
-uncalled-steps clock c H (item ∷ items) (ask ∷ asks) q b = (
+pub uncalled-steps : (gives : Given → Type 0) (c : Progress) (H : List Entry) (items : List Item) (asks : List Ask)
+    → AreAsked gives items asks → IsPrefix c.seen H → AreSteps gives c items (uncalled_steps H asks)
+uncalled-steps gives c H [] [] q b = tt
+uncalled-steps gives c H [] (ask ∷ asks) q b = absurd q
+uncalled-steps gives c H (item ∷ items) [] q b = absurd q
+uncalled-steps gives c H (item ∷ items) (ask ∷ asks) q b = (
   (record { asked = q.0; begins = b }, tt),
-  uncalled-steps clock (progress_past c (uncalled H ask)) H items asks q.1 (IsPrefix-refl H),
+  uncalled-steps gives (progress_past c (uncalled H ask)) H items asks q.1 (IsPrefix-refl H),
 )
 
 pub uncalled-progress_after : (c : Progress) (H : List Entry) (asks : List Ask) → IsPrefix c.seen H
     → let d = progress_after c (uncalled_steps H asks) in
     IsPrefix d.seen H × (d.totals ≡ c.totals) × (d.faults ≡ c.faults)
 uncalled-progress_after c H [] b = (b, refl, refl)
-uncalled-progress_after c H (ask ∷ asks) b = uncalled-progress_after (progress_past c (uncalled H ask)) H asks (IsPrefix-refl H)
+uncalled-progress_after c H (ask ∷ asks) b = uncalled-progress_after (progress_past c (uncalled H ask)) H asks
+    (IsPrefix-refl H)
 
 failed_too-places : (asks : List Ask)
     → recorded_places (map (λ (more : Ask). record { outcome = failed_too more; written = true }) asks) ≡ []
 failed_too-places [] = refl
 failed_too-places (ask ∷ asks) = failed_too-places asks
 
-pub failed-places : (H : List Entry) (before count : ℕ) (asks : List Ask) → recorded_places (failed_steps H asks before count) ≡ []
+pub failed-places : (H : List Entry) (before count : ℕ) (asks : List Ask)
+    → recorded_places (failed_steps H asks before count) ≡ []
 failed-places H before count [] = refl
 failed-places H before count (ask ∷ asks) = failed_too-places asks
 

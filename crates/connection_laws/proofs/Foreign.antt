@@ -15,8 +15,9 @@ use Rattle.farm_entry.specs.declared.limits.TheConstants.{MAX_ENTRIES}
 use Rattle.farm_entry.specs.declared.opening.Opening.{Opening}
 use Rattle.farm_entry.specs.declared.refusal.Refusal.TheVariants.{Full}
 use Rattle.farm_entry.specs.declared.reply.Reply.TheVariants as reply
-use Rattle.farm_store.specs.declared.asking.Answer.{Answer}
+use Rattle.farm_entry.specs.declared.answer.Answer.{Answer}
 use Rattle.farm_store.specs.declared.asking.Ask.{Ask}
+use Rattle.connection_laws.specs.Moments.{Given}
 use Rattle.farm_types.specs.declared.moment.Moment.{Moment}
 use Rattle.farm_wire.specs.Reading.{body_reading}
 use Rattle.farm_wire.specs.declared.fault.WireFault.{WireFault}
@@ -181,27 +182,27 @@ origin-shows bytes item x origin =
 
 -- ---- what it comes to
 
-come-adds_none : (clock : Moment → Type 0) (c : Progress) (item : Item) (o : Outcome) → Shows (kind_of item)
-    → MayComeTo clock c item o → recorded_place o ≡ []
-come-adds_none clock c item (faulted f) shows m = refl
-come-adds_none clock c item (misread f) shows m = refl
-come-adds_none clock c item (answered H ask a) shows m =
+come-adds_none : (gives : Given → Type 0) (c : Progress) (item : Item) (o : Outcome) → Shows (kind_of item)
+    → MayComeTo gives c item o → recorded_place o ≡ []
+come-adds_none gives c item (faulted f) shows m = refl
+come-adds_none gives c item (misread f) shows m = refl
+come-adds_none gives c item (answered H ask a) shows m =
     show-adds_none H ask.command ask.at (subst Shows m.asked.command shows)
-come-adds_none clock c item (counted H) shows m = refl
-come-adds_none clock c item (copied H from) shows m = refl
-come-adds_none clock c item (failed H ask before count) shows m = refl
-come-adds_none clock c item (failed_too ask) shows m = refl
-come-adds_none clock c item unread shows m = refl
-come-adds_none clock c item (uncalled H ask) shows m = refl
+come-adds_none gives c item (counted H) shows m = refl
+come-adds_none gives c item (copied H from) shows m = refl
+come-adds_none gives c item (failed H ask before count) shows m = refl
+come-adds_none gives c item (failed_too ask) shows m = refl
+come-adds_none gives c item unread shows m = refl
+come-adds_none gives c item (uncalled H ask) shows m = refl
 
-pub origin-adds_none : (clock : Moment → Type 0) (c : Progress) (bytes : List ℕ) (item : Item) (o : Outcome)
-    (x : IsRequest bytes item) → has_origin (fields_of x.head) ≡ true → MayComeTo clock c item o → recorded_place o ≡ []
-origin-adds_none clock c bytes item o x origin m = come-adds_none clock c item o (origin-shows bytes item x origin) m
+pub origin-adds_none : (gives : Given → Type 0) (c : Progress) (bytes : List ℕ) (item : Item) (o : Outcome)
+    (x : IsRequest bytes item) → has_origin (fields_of x.head) ≡ true → MayComeTo gives c item o → recorded_place o ≡ []
+origin-adds_none gives c bytes item o x origin m = come-adds_none gives c item o (origin-shows bytes item x origin) m
 
-pub origin-after : (clock : Moment → Type 0) (c : Progress) (bytes : List ℕ) (item : Item) (o : Outcome)
-    (x : IsRequest bytes item) → has_origin (fields_of x.head) ≡ true → MayComeTo clock c item o
+pub origin-after : (gives : Given → Type 0) (c : Progress) (bytes : List ℕ) (item : Item) (o : Outcome)
+    (x : IsRequest bytes item) → has_origin (fields_of x.head) ≡ true → MayComeTo gives c item o
     → (H : List Entry) (ask : Ask) (a : Answer)
     → o ≡ answered H ask a → after H (decision_on H ask) ≡ H
-origin-after clock c bytes item o x origin m H ask a is =
+origin-after gives c bytes item o x origin m H ask a is =
     after-adds_none H (decision_on H ask)
-    (sym (ap recorded_place is) ∙ origin-adds_none clock c bytes item o x origin m)
+    (sym (ap recorded_place is) ∙ origin-adds_none gives c bytes item o x origin m)

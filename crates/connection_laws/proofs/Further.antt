@@ -2,7 +2,7 @@
 use Rattle.std.proofs.Common.{ℕ, ◌≡◌, ◌≤◌, Bool, true, false, List, [], ◌∷◌, ◌++◌, length, refl, sym, ap, ◌∙◌, subst, append-nil}
 use Rattle.farm_entry.specs.Legal.{IsLegal}
 use Rattle.farm_entry.specs.declared.entry.Entry.{Entry}
-use Rattle.farm_types.specs.declared.moment.Moment.{Moment}
+use Rattle.connection_laws.specs.Moments.{Given}
 use Rattle.http_requests.specs.Items.{Item, Items, End}
 use Rattle.link_io.specs.Links.{LinkState}
 use Rattle.link_io.specs.declared.source.TheConstants.{INPUT_LIMIT}
@@ -14,7 +14,8 @@ use Rattle.connection_laws.specs.Kinds.{Kind, faulty, commands, totals, log, kin
 use Rattle.connection_laws.specs.Marks.{Mark}
 use Rattle.connection_laws.specs.Outcomes.{Outcome, faulted, misread, answered, counted, copied, failed, failed_too, unread, uncalled, Step}
 use Rattle.connection_laws.specs.Progress.{Progress, IsWithin, progress_after, progress_past, recorded_place, recorded_places}
-use Rattle.connection_laws.specs.Serving.{HasPassed, IsKept, IsStopped}
+use Rattle.connection_laws.specs.Serving.{HasPassed, IsKept, IsStopped, IsWaiting, OnReadFault}
+use Rattle.connection_laws.specs.declared.served.ServeFault.{ServeFault}
 use Rattle.connection_laws.specs.Steps.{AreSteps, IsStep, MayComeTo}
 use Rattle.connection_laws.proofs.Transcripts.{transcript-append}
 use Rattle.connection_laws.proofs.Progress.{progress_after-append, recorded_places-append, steps-append}
@@ -50,21 +51,22 @@ further-place c (commands reading) = refl
 further-place c totals = refl
 further-place c (log from) = refl
 
-pub further-step : (clock : Moment → Type 0) (c : Progress) (item : Item) (k : Kind) → kind_of item ≡ k → IsLegal c.totals
-    → IsStep clock c item (further_step c k)
-further-step clock c item (faulty f) is legal = (is, refl)
-further-step clock c item (commands reading) is legal = (record { reading = reading; asked = is }, tt)
-further-step clock c item totals is legal = (record { asked = is; begins = IsPrefix-refl c.totals; legal = legal }, tt)
-further-step clock c item (log from) is legal = (record { asked = is; begins = IsPrefix-refl c.seen }, tt)
+pub further-step : (gives : Given → Type 0) (c : Progress) (item : Item) (k : Kind) → kind_of item ≡ k
+    → IsLegal c.totals
+    → IsStep gives c item (further_step c k)
+further-step gives c item (faulty f) is legal = (is, refl)
+further-step gives c item (commands reading) is legal = (record { reading = reading; asked = is }, tt)
+further-step gives c item totals is legal = (record { asked = is; begins = IsPrefix-refl c.totals; legal = legal }, tt)
+further-step gives c item (log from) is legal = (record { asked = is; begins = IsPrefix-refl c.seen }, tt)
 
-pub further-steps : (clock : Moment → Type 0) (c : Progress) (items : List Item) → IsLegal c.totals
-    → AreSteps clock c items (further_steps c items)
-further-steps clock c [] legal = tt
-further-steps clock c (item ∷ items) legal =
+pub further-steps : (gives : Given → Type 0) (c : Progress) (items : List Item) → IsLegal c.totals
+    → AreSteps gives c items (further_steps c items)
+further-steps gives c [] legal = tt
+further-steps gives c (item ∷ items) legal =
     let next = progress_past c (further_step c (kind_of item)).outcome in
     let kept = further-kept c (kind_of item) in (
-      further-step clock c item (kind_of item) refl legal,
-      further-steps clock next items (subst (λ (H : List Entry). IsLegal H) (sym kept.totals) legal),
+      further-step gives c item (kind_of item) refl legal,
+      further-steps gives next items (subst (λ (H : List Entry). IsLegal H) (sym kept.totals) legal),
     )
 
 pub further-within : (c : Progress) (items : List Item) (final : Mark) → IsWithin c final
@@ -80,25 +82,27 @@ further-within c (item ∷ items) final w =
     })
 
 -- the history of the last totals stays legal
-past-legal : (clock : Moment → Type 0) (c : Progress) (item : Item) (o : Outcome) → MayComeTo clock c item o → IsLegal c.totals
+past-legal : (gives : Given → Type 0) (c : Progress) (item : Item) (o : Outcome) → MayComeTo gives c item o
+    → IsLegal c.totals
     → IsLegal (progress_past c o).totals
-past-legal clock c item (faulted f) m legal = legal
-past-legal clock c item (misread f) m legal = legal
-past-legal clock c item (answered H ask a) m legal = legal
-past-legal clock c item (counted H) m legal = m.legal
-past-legal clock c item (copied H from) m legal = legal
-past-legal clock c item (failed H ask before count) m legal = legal
-past-legal clock c item (failed_too ask) m legal = legal
-past-legal clock c item unread m legal = legal
-past-legal clock c item (uncalled H ask) m legal = legal
+past-legal gives c item (faulted f) m legal = legal
+past-legal gives c item (misread f) m legal = legal
+past-legal gives c item (answered H ask a) m legal = legal
+past-legal gives c item (counted H) m legal = m.legal
+past-legal gives c item (copied H from) m legal = legal
+past-legal gives c item (failed H ask before count) m legal = legal
+past-legal gives c item (failed_too ask) m legal = legal
+past-legal gives c item unread m legal = legal
+past-legal gives c item (uncalled H ask) m legal = legal
 
-pub after-legal : (clock : Moment → Type 0) (c : Progress) (items : List Item) (steps : List Step) → AreSteps clock c items steps
+pub after-legal : (gives : Given → Type 0) (c : Progress) (items : List Item) (steps : List Step)
+    → AreSteps gives c items steps
     → IsLegal c.totals → IsLegal (progress_after c steps).totals
-after-legal clock c [] [] g legal = legal
-after-legal clock c [] (step ∷ steps) g legal = absurd g
-after-legal clock c (item ∷ items) [] g legal = absurd g
-after-legal clock c (item ∷ items) (step ∷ steps) g legal =
-    after-legal clock (progress_past c step.outcome) items steps g.1 (past-legal clock c item step.outcome g.0.0 legal)
+after-legal gives c [] [] g legal = legal
+after-legal gives c [] (step ∷ steps) g legal = absurd g
+after-legal gives c (item ∷ items) [] g legal = absurd g
+after-legal gives c (item ∷ items) (step ∷ steps) g legal =
+    after-legal gives (progress_past c step.outcome) items steps g.1 (past-legal gives c item step.outcome g.0.0 legal)
 
 -- ---- what was answered, and then all that is left
 
@@ -106,8 +110,8 @@ further-places : (c : Progress) (items : List Item) → recorded_places (further
 further-places c [] = refl
 further-places c (item ∷ items) =
     let step = further_step c (kind_of item) in
-    ap (λ (l : List ℕ). l ++ recorded_places (further_steps (progress_past c step.outcome) items)) (further-place c (kind_of item))
-    ∙ further-places (progress_past c step.outcome) items
+    ap (λ (l : List ℕ). l ++ recorded_places (further_steps (progress_past c step.outcome) items))
+    (further-place c (kind_of item)) ∙ further-places (progress_past c step.outcome) items
 
 further-totals : (c : Progress) (items : List Item) → (progress_after c (further_steps c items)).totals ≡ c.totals
 further-totals c [] = refl
@@ -119,30 +123,34 @@ further-totals c (item ∷ items) =
 abbrev pub with_further : Progress → List Step → List Item → List Step
 with_further start steps more = steps ++ further_steps (progress_after start steps) more
 
-pub with_further-steps : (clock : Moment → Type 0) (start : Progress) (items more : List Item) (steps : List Step)
-    → AreSteps clock start items steps → IsLegal start.totals → AreSteps clock start (items ++ more) (with_further start steps more)
-with_further-steps clock start items more steps g legal =
+pub with_further-steps : (gives : Given → Type 0) (start : Progress) (items more : List Item) (steps : List Step)
+    → AreSteps gives start items steps → IsLegal start.totals
+    → AreSteps gives start (items ++ more) (with_further start steps more)
+with_further-steps gives start items more steps g legal =
     let c = progress_after start steps in
-    steps-append clock start items more steps (further_steps c more) g
-    (further-steps clock c more (after-legal clock start items steps g legal))
+    steps-append gives start items more steps (further_steps c more) g
+    (further-steps gives c more (after-legal gives start items steps g legal))
 
-pub with_further-within : (start : Progress) (final : Mark) (more : List Item) (steps : List Step) → IsWithin (progress_after start steps) final
+pub with_further-within : (start : Progress) (final : Mark) (more : List Item) (steps : List Step)
+    → IsWithin (progress_after start steps) final
     → IsWithin (progress_after start (with_further start steps more)) final
 with_further-within start final more steps w =
     let c = progress_after start steps in
     subst (λ (d : Progress). IsWithin d final) (sym (progress_after-append start steps (further_steps c more)))
     (further-within c more final w)
 
-pub with_further-begins : (clock : Moment → Type 0) (start : Progress) (put : List ℕ) (items more : List Item) (steps : List Step)
-    → AreSteps clock start items steps → IsPrefix put (transcript items steps)
+pub with_further-begins : (gives : Given → Type 0) (start : Progress) (put : List ℕ) (items more : List Item)
+    (steps : List Step)
+    → AreSteps gives start items steps → IsPrefix put (transcript items steps)
     → IsPrefix put (transcript (items ++ more) (with_further start steps more))
-with_further-begins clock start put items more steps g p =
+with_further-begins gives start put items more steps g p =
     let rest = further_steps (progress_after start steps) more in
     IsPrefix-trans put (transcript items steps) (transcript (items ++ more) (steps ++ rest)) p
-    (transcript more rest, transcript-append clock start items more steps rest g)
+    (transcript more rest, transcript-append gives start items more steps rest g)
 
 -- they record nothing, and the totals stay
-pub with_further-kept : (start : Progress) (steps : List Step) (more : List Item) (mine kept : List ℕ) (read : List Entry)
+pub with_further-kept : (start : Progress) (steps : List Step) (more : List Item) (mine kept : List ℕ)
+    (read : List Entry)
     → IsKept start steps mine kept read → IsKept start (with_further start steps more) mine kept read
 with_further-kept start steps more mine kept read k =
     let c = progress_after start steps in
@@ -160,36 +168,42 @@ with_further-kept start steps more mine kept read k =
     }
 
 -- What was put for some items is a prefix of the answers to all.
-pub further-held : (start : Progress) (final : Mark) (clock : Moment → Type 0) (taken put : List ℕ) (over : Bool)
-    (items more : List Item) (steps : List Step) (end : End) → Items taken (items ++ more) end → AreSteps clock start items steps
+pub further-held : (start : Progress) (final : Mark) (gives : Given → Type 0) (taken put : List ℕ) (over : Bool)
+    (items more : List Item) (steps : List Step) (end : End) → Items taken (items ++ more) end
+    → AreSteps gives start items steps
     → IsLegal start.totals → IsWithin (progress_after start steps) final → IsPrefix put (transcript items steps)
-    → HeldFrom start final clock taken put over false
-further-held start final clock taken put over items more steps end i g legal w p = record {
+    → HeldFrom start final gives taken put over false
+further-held start final gives taken put over items more steps end i g legal w p = record {
   items = items ++ more;
   steps = with_further start steps more;
-  are_steps = with_further-steps clock start items more steps g legal;
+  are_steps = with_further-steps gives start items more steps g legal;
   ends = with_further-within start final more steps w;
-  is_put = record { end = end; items_are = i; begins = with_further-begins clock start put items more steps g p };
+  is_put = record { end = end; items_are = i; begins = with_further-begins gives start put items more steps g p };
 }
 
 -- The serving stopped there.
-pub further-stopped : (start : Progress) (final : Mark) (clock : Moment → Type 0) (old new : LinkState) (taken put : List ℕ)
+pub further-stopped : (fault : ServeFault) (start : Progress) (final : Mark) (gives : Given → Type 0)
+    (old new : LinkState) (taken put : List ℕ)
     (items more : List Item) (steps : List Step) (end : End) (mine kept : List ℕ) (read : List Entry)
     → HasPassed old new taken put → length taken ≤ INPUT_LIMIT
-    → Items taken (items ++ more) end → AreSteps clock start items steps → IsLegal start.totals
-    → IsWithin (progress_after start steps) final → IsPrefix put (transcript items steps) → IsKept start steps mine kept read
-    → IsStopped start final clock old new mine kept read
-further-stopped start final clock old new taken put items more steps end mine kept read passed most i g legal w p k = record {
-  taken = taken;
-  put = put;
-  passed = passed;
-  most = most;
-  held = record {
-    items = items ++ more;
-    steps = with_further start steps more;
-    are_steps = with_further-steps clock start items more steps g legal;
-    ends = with_further-within start final more steps w;
-    is_put = record { end = end; items_are = i; begins = with_further-begins clock start put items more steps g p };
-  };
-  keeps = with_further-kept start steps more mine kept read k;
-}
+    → Items taken (items ++ more) end → AreSteps gives start items steps → IsLegal start.totals
+    → IsWithin (progress_after start steps) final → IsPrefix put (transcript items steps)
+    → IsKept start steps mine kept read
+    → OnReadFault fault (IsWaiting start final gives old new mine kept read)
+    → IsStopped fault start final gives old new mine kept read
+further-stopped fault start final gives old new taken put items more steps end mine kept read passed most i g legal w p
+    k waits = record {
+      taken = taken;
+      put = put;
+      passed = passed;
+      most = most;
+      held = record {
+        items = items ++ more;
+        steps = with_further start steps more;
+        are_steps = with_further-steps gives start items more steps g legal;
+        ends = with_further-within start final more steps w;
+        is_put = record { end = end; items_are = i; begins = with_further-begins gives start put items more steps g p };
+      };
+      keeps = with_further-kept start steps more mine kept read k;
+      waiting = waits;
+    }

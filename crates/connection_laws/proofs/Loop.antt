@@ -1,7 +1,7 @@
 -- What is held of a connection, as its bytes are taken and answered.
 use Rattle.std.proofs.Common.{ℕ, ◌≡◌, inl, Bool, true, false, List, [], ◌++◌, refl, sym, ap, ◌∙◌, subst, append_assoc, arith}
 use Rattle.farm_entry.specs.Legal.{IsLegal}
-use Rattle.farm_types.specs.declared.moment.Moment.{Moment}
+use Rattle.connection_laws.specs.Moments.{Given}
 use Rattle.http_requests.specs.Fronts.{Opens, behind}
 use Rattle.http_requests.specs.Items.{Item, Items, End, ended}
 use Rattle.list_prefix.specs.Prefix.{IsPrefix}
@@ -20,10 +20,11 @@ use Rattle.connection_laws.proofs.Transcripts.{transcript-append}
 -- ---- what is held
 
 -- later marks
-pub held-longer : (start : Progress) (final later : Mark) (clock : Moment → Type 0) (taken put : List ℕ) (over whole : Bool)
-    → Follows final later → HeldFrom start final clock taken put over whole
-    → HeldFrom start later clock taken put over whole
-held-longer start final later clock taken put over whole f h = record {
+pub held-longer : (start : Progress) (final later : Mark) (gives : Given → Type 0) (taken put : List ℕ)
+    (over whole : Bool)
+    → Follows final later → HeldFrom start final gives taken put over whole
+    → HeldFrom start later gives taken put over whole
+held-longer start final later gives taken put over whole f h = record {
   items = h.items;
   steps = h.steps;
   are_steps = h.are_steps;
@@ -32,22 +33,24 @@ held-longer start final later clock taken put over whole f h = record {
 }
 
 -- earlier marks
-pub held-earlier : (early start : Progress) (final : Mark) (clock : Moment → Type 0) (taken put : List ℕ) (over whole : Bool)
-    → IsBefore early start → HeldFrom start final clock taken put over whole
-    → HeldFrom early final clock taken put over whole
-held-earlier early start final clock taken put over whole b h = record {
+pub held-earlier : (early start : Progress) (final : Mark) (gives : Given → Type 0) (taken put : List ℕ)
+    (over whole : Bool)
+    → IsBefore early start → HeldFrom start final gives taken put over whole
+    → HeldFrom early final gives taken put over whole
+held-earlier early start final gives taken put over whole b h = record {
   items = h.items;
   steps = h.steps;
-  are_steps = steps-before clock early start h.items h.steps b h.are_steps;
+  are_steps = steps-before gives early start h.items h.steps b h.are_steps;
   ends =
-      within-before (progress_after early h.steps) (progress_after start h.steps) final (progress_after-before early start h.steps b) h.ends;
+      within-before (progress_after early h.steps) (progress_after start h.steps) final
+      (progress_after-before early start h.steps b) h.ends;
   is_put = h.is_put;
 }
 
 -- the whole is a prefix
-pub whole-part : (start : Progress) (final : Mark) (clock : Moment → Type 0) (taken put : List ℕ) (over : Bool)
-    → HeldFrom start final clock taken put over true → HeldFrom start final clock taken put over false
-whole-part start final clock taken put over h = record {
+pub whole-part : (start : Progress) (final : Mark) (gives : Given → Type 0) (taken put : List ℕ) (over : Bool)
+    → HeldFrom start final gives taken put over true → HeldFrom start final gives taken put over false
+whole-part start final gives taken put over h = record {
   items = h.items;
   steps = h.steps;
   are_steps = h.are_steps;
@@ -60,10 +63,10 @@ whole-part start final clock taken put over h = record {
 }
 
 -- what was put less of is a prefix too
-pub part-shorter : (start : Progress) (final : Mark) (clock : Moment → Type 0) (taken put less : List ℕ) (over : Bool)
-    → IsPrefix less put → HeldFrom start final clock taken put over false
-    → HeldFrom start final clock taken less over false
-part-shorter start final clock taken put less over p h = record {
+pub part-shorter : (start : Progress) (final : Mark) (gives : Given → Type 0) (taken put less : List ℕ) (over : Bool)
+    → IsPrefix less put → HeldFrom start final gives taken put over false
+    → HeldFrom start final gives taken less over false
+part-shorter start final gives taken put less over p h = record {
   items = h.items;
   steps = h.steps;
   are_steps = h.are_steps;
@@ -76,86 +79,92 @@ part-shorter start final clock taken put less over p h = record {
 }
 
 -- the mark at exit follows the one at entry
-pub held-follows : (start : Progress) (final : Mark) (clock : Moment → Type 0) (taken put : List ℕ) (over whole : Bool)
-    → HeldFrom start final clock taken put over whole → IsWithin start final
-held-follows start final clock taken put over whole h =
+pub held-follows : (start : Progress) (final : Mark) (gives : Given → Type 0) (taken put : List ℕ) (over whole : Bool)
+    → HeldFrom start final gives taken put over whole → IsWithin start final
+held-follows start final gives taken put over whole h =
     let end = progress_after start h.steps in
-    let low = progress_after-count clock start h.items h.steps h.are_steps in
+    let low = progress_after-count gives start h.items h.steps h.are_steps in
     let high = h.ends.faults in
     record {
-      seen = IsPrefix-trans start.seen end.seen final.seen (progress_after-longer clock start h.items h.steps h.are_steps).0 h.ends.seen;
+      seen = IsPrefix-trans start.seen end.seen final.seen
+          (progress_after-longer gives start h.items h.steps h.are_steps).0 h.ends.seen;
       faults = omega arith;
     }
 
 -- ---- as it comes
 
 -- nothing is answered yet
-pub so_far-start : (start : Progress) (clock : Moment → Type 0) (taken : List ℕ) → IsSoFar start clock taken [] [] []
-so_far-start start clock taken = record { opens = tt; are_steps = tt; put_is = refl }
+pub so_far-start : (start : Progress) (gives : Given → Type 0) (taken : List ℕ) → IsSoFar start gives taken [] [] []
+so_far-start start gives taken = record { opens = tt; are_steps = tt; put_is = refl }
 
 -- more is taken
-pub so_far-more : (start : Progress) (clock : Moment → Type 0) (taken more put : List ℕ) (items : List Item) (steps : List Step)
-    → IsSoFar start clock taken put items steps → IsSoFar start clock (taken ++ more) put items steps
-so_far-more start clock taken more put items steps s =
+pub so_far-more : (start : Progress) (gives : Given → Type 0) (taken more put : List ℕ) (items : List Item)
+    (steps : List Step)
+    → IsSoFar start gives taken put items steps → IsSoFar start gives (taken ++ more) put items steps
+so_far-more start gives taken more put items steps s =
     record { opens = (opens-more taken more items s.opens).0; are_steps = s.are_steps; put_is = s.put_is }
 
 -- what was put for the items so far, and then something for those behind them
-put-append : (start : Progress) (clock : Moment → Type 0) (taken put part : List ℕ) (items more : List Item) (steps rest : List Step)
-    → IsSoFar start clock taken put items steps → part ≡ transcript more rest
+put-append : (start : Progress) (gives : Given → Type 0) (taken put part : List ℕ) (items more : List Item)
+    (steps rest : List Step)
+    → IsSoFar start gives taken put items steps → part ≡ transcript more rest
     → put ++ part ≡ transcript (items ++ more) (steps ++ rest)
-put-append start clock taken put part items more steps rest s is =
+put-append start gives taken put part items more steps rest s is =
     ap (λ (l : List ℕ). l ++ part) s.put_is ∙ ap (λ (l : List ℕ). transcript items steps ++ l) is
-    ∙ sym (transcript-append clock start items more steps rest s.are_steps)
+    ∙ sym (transcript-append gives start items more steps rest s.are_steps)
 
 -- items more are answered, none of which closes
-pub so_far-append : (start : Progress) (clock : Moment → Type 0) (taken put : List ℕ) (items more : List Item)
-    (steps rest : List Step) → IsSoFar start clock taken put items steps → Opens (behind taken items) more
-    → AreSteps clock (progress_after start steps) more rest
-    → IsSoFar start clock taken (put ++ transcript more rest) (items ++ more) (steps ++ rest)
-so_far-append start clock taken put items more steps rest s o g = record {
+pub so_far-append : (start : Progress) (gives : Given → Type 0) (taken put : List ℕ) (items more : List Item)
+    (steps rest : List Step) → IsSoFar start gives taken put items steps → Opens (behind taken items) more
+    → AreSteps gives (progress_after start steps) more rest
+    → IsSoFar start gives taken (put ++ transcript more rest) (items ++ more) (steps ++ rest)
+so_far-append start gives taken put items more steps rest s o g = record {
   opens = opens-append taken items more s.opens o;
-  are_steps = steps-append clock start items more steps rest s.are_steps g;
-  put_is = put-append start clock taken put (transcript more rest) items more steps rest s refl;
+  are_steps = steps-append gives start items more steps rest s.are_steps g;
+  put_is = put-append start gives taken put (transcript more rest) items more steps rest s refl;
 }
 
-within_all : (start : Progress) (steps rest : List Step) (final : Mark) → IsWithin (progress_after (progress_after start steps) rest) final
+within_all : (start : Progress) (steps rest : List Step) (final : Mark)
+    → IsWithin (progress_after (progress_after start steps) rest) final
     → IsWithin (progress_after start (steps ++ rest)) final
-within_all start steps rest final w = subst (λ (c : Progress). IsWithin c final) (sym (progress_after-append start steps rest)) w
+within_all start steps rest final w = subst (λ (c : Progress). IsWithin c final)
+    (sym (progress_after-append start steps rest)) w
 
 -- a part of the answers to items more was put
-pub so_far-part : (start : Progress) (final : Mark) (clock : Moment → Type 0) (taken put part : List ℕ) (over : Bool)
-    (items more others : List Item) (steps rest : List Step) (end : End) → IsSoFar start clock taken put items steps
-    → Items (behind taken items) (more ++ others) end → AreSteps clock (progress_after start steps) more rest → IsLegal start.totals
+pub so_far-part : (start : Progress) (final : Mark) (gives : Given → Type 0) (taken put part : List ℕ) (over : Bool)
+    (items more others : List Item) (steps rest : List Step) (end : End) → IsSoFar start gives taken put items steps
+    → Items (behind taken items) (more ++ others) end → AreSteps gives (progress_after start steps) more rest
+    → IsLegal start.totals
     → IsPrefix part (transcript more rest) → IsWithin (progress_after (progress_after start steps) rest) final
-    → HeldFrom start final clock taken (put ++ part) over false
-so_far-part start final clock taken put part over items more others steps rest end s i g legal p w =
+    → HeldFrom start final gives taken (put ++ part) over false
+so_far-part start final gives taken put part over items more others steps rest end s i g legal p w =
     let all : Items taken ((items ++ more) ++ others) end =
     subst (λ (l : List Item). Items taken l end) (sym (append_assoc items more others))
     (opens-items taken items (more ++ others) end s.opens i) in
-    further-held start final clock taken (put ++ part) over (items ++ more) others (steps ++ rest) end all
-    (steps-append clock start items more steps rest s.are_steps g) legal (within_all start steps rest final w) (
+    further-held start final gives taken (put ++ part) over (items ++ more) others (steps ++ rest) end all
+    (steps-append gives start items more steps rest s.are_steps g) legal (within_all start steps rest final w) (
       p.0,
-      sym (put-append start clock taken put (transcript more rest) items more steps rest s refl)
+      sym (put-append start gives taken put (transcript more rest) items more steps rest s refl)
           ∙ ap (λ (l : List ℕ). put ++ l) p.1
           ∙ sym (append_assoc put part p.0),
     )
 
 -- all items more were answered
-pub so_far-whole : (start : Progress) (final : Mark) (clock : Moment → Type 0) (taken put : List ℕ) (over : Bool)
-    (items more : List Item) (steps rest : List Step) (end : End) → IsSoFar start clock taken put items steps
-    → Items (behind taken items) more end → AreSteps clock (progress_after start steps) more rest
+pub so_far-whole : (start : Progress) (final : Mark) (gives : Given → Type 0) (taken put : List ℕ) (over : Bool)
+    (items more : List Item) (steps rest : List Step) (end : End) → IsSoFar start gives taken put items steps
+    → Items (behind taken items) more end → AreSteps gives (progress_after start steps) more rest
     → IsReadOut taken (items ++ more) end over → IsWithin (progress_after (progress_after start steps) rest) final
-    → HeldFrom start final clock taken (put ++ transcript more rest) over true
-so_far-whole start final clock taken put over items more steps rest end s i g read w = record {
+    → HeldFrom start final gives taken (put ++ transcript more rest) over true
+so_far-whole start final gives taken put over items more steps rest end s i g read w = record {
   items = items ++ more;
   steps = steps ++ rest;
-  are_steps = steps-append clock start items more steps rest s.are_steps g;
+  are_steps = steps-append gives start items more steps rest s.are_steps g;
   ends = within_all start steps rest final w;
   is_put = record {
     end = end;
     items_are = opens-items taken items more end s.opens i;
     read = read;
-    put_is = put-append start clock taken put (transcript more rest) items more steps rest s refl;
+    put_is = put-append start gives taken put (transcript more rest) items more steps rest s refl;
   };
 }
 
@@ -164,14 +173,16 @@ so_far-whole start final clock taken put over items more steps rest end s i g re
 start_within : (start final : Mark) → Follows start final → IsWithin (progress_at start) final
 start_within start final f = record { seen = f.longer; faults = f.more }
 
-pub held-none : (start final : Mark) (clock : Moment → Type 0) (taken : List ℕ) (over : Bool) (items : List Item) (end : End)
-    → Items taken items end → IsLegal start.seen → Follows start final → Held start final clock taken [] over false
-held-none start final clock taken over items end i legal f =
-    further-held (progress_at start) final clock taken [] over [] items [] end i tt legal (start_within start final f)
+pub held-none : (start final : Mark) (gives : Given → Type 0) (taken : List ℕ) (over : Bool) (items : List Item)
+    (end : End)
+    → Items taken items end → IsLegal start.seen → Follows start final → Held start final gives taken [] over false
+held-none start final gives taken over items end i legal f =
+    further-held (progress_at start) final gives taken [] over [] items [] end i tt legal (start_within start final f)
     (IsPrefix-refl [])
 
-pub held-silent : (start final : Mark) (clock : Moment → Type 0) → Follows start final → Held start final clock [] [] true true
-held-silent start final clock f = record {
+pub held-silent : (start final : Mark) (gives : Given → Type 0) → Follows start final
+    → Held start final gives [] [] true true
+held-silent start final gives f = record {
   items = [];
   steps = [];
   are_steps = tt;

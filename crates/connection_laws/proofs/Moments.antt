@@ -1,7 +1,7 @@
 -- What is held with some moments is held with more.
 use Rattle.std.proofs.Common.{ℕ, Bool, List, [], ◌∷◌}
 use Rattle.farm_store.specs.declared.asking.Ask.{Ask}
-use Rattle.farm_types.specs.declared.moment.Moment.{Moment}
+use Rattle.connection_laws.specs.Moments.{Given, at_moment, at_count}
 use Rattle.http_requests.specs.Items.{Item}
 use Rattle.connection_laws.specs.Held.{HeldFrom}
 use Rattle.connection_laws.specs.Marks.{Mark}
@@ -9,11 +9,11 @@ use Rattle.connection_laws.specs.Outcomes.{Outcome, faulted, misread, answered, 
 use Rattle.connection_laws.specs.Progress.{Progress, progress_past}
 use Rattle.connection_laws.specs.Steps.{AreSteps, IsAsked, MayComeTo}
 
-module _ (clock other : Moment → Type 0) (more : (at : Moment) → clock at → other at) where
-  asked-more : (item : Item) (ask : Ask) → IsAsked clock item ask → IsAsked other item ask
-  asked-more item ask a = record { command = a.command; moment = more ask.at a.moment }
+module _ (gives other : Given → Type 0) (more : (given : Given) → gives given → other given) where
+  asked-more : (item : Item) (ask : Ask) → IsAsked gives item ask → IsAsked other item ask
+  asked-more item ask a = record { command = a.command; moment = more (at_moment ask.at) a.moment }
 
-  may_come-more : (c : Progress) (item : Item) (o : Outcome) → MayComeTo clock c item o → MayComeTo other c item o
+  may_come-more : (c : Progress) (item : Item) (o : Outcome) → MayComeTo gives c item o → MayComeTo other c item o
   may_come-more c item (faulted f) m = m
   may_come-more c item (misread f) m = m
   may_come-more c item (answered H ask a) m =
@@ -21,13 +21,20 @@ module _ (clock other : Moment → Type 0) (more : (at : Moment) → clock at �
   may_come-more c item (counted H) m = m
   may_come-more c item (copied H from) m = m
   may_come-more c item (failed H ask before count) m =
-      record { asked = asked-more item ask m.asked; begins = m.begins; first = m.first; rose = m.rose }
+      record {
+        asked = asked-more item ask m.asked;
+        begins = m.begins;
+        first = m.first;
+        rose = m.rose;
+        from_disk = more (at_count before) m.from_disk;
+        to_disk = more (at_count count) m.to_disk;
+      }
   may_come-more c item (failed_too ask) m =
       record { asked = asked-more item ask m.asked; room = m.room; at_once = m.at_once }
   may_come-more c item unread m = m
   may_come-more c item (uncalled H ask) m = record { asked = asked-more item ask m.asked; begins = m.begins }
 
-  pub steps-more : (c : Progress) (items : List Item) (steps : List Step) → AreSteps clock c items steps
+  pub steps-more : (c : Progress) (items : List Item) (steps : List Step) → AreSteps gives c items steps
       → AreSteps other c items steps
   steps-more c [] [] g = g
   steps-more c [] (step ∷ steps) g = absurd g
@@ -38,7 +45,7 @@ module _ (clock other : Moment → Type 0) (more : (at : Moment) → clock at �
   )
 
   pub held-more : (start : Progress) (final : Mark) (taken put : List ℕ) (over whole : Bool)
-      → HeldFrom start final clock taken put over whole → HeldFrom start final other taken put over whole
+      → HeldFrom start final gives taken put over whole → HeldFrom start final other taken put over whole
   held-more start final taken put over whole h = record {
     items = h.items;
     steps = h.steps;

@@ -50,7 +50,8 @@ none_at : (b : Bool) (len : ℕ) → (if b then Err fault.LengthRequired else Ok
 none_at true len e = let bad : ⊥ = cc in absurd bad
 none_at false len e = let same : 0 ≡ len = cc in omega arith
 
-length_by-short : (method : List ℕ) (stated : StatedLength) (len : ℕ) → StatesWithin stated → length_by method stated ≡ Ok len
+length_by-short : (method : List ℕ) (stated : StatedLength) (len : ℕ) → StatesWithin stated
+    → length_by method stated ≡ Ok len
     → len ≤ MAX_BODY_BYTES
 length_by-short method stated.Absent len short e = none_at _ len e
 length_by-short method (stated.Bytes n) len short e = let same : n ≡ len = cc in omega arith
@@ -207,14 +208,17 @@ reading_in _ other = other
 kind_at-said : (e : Endpoint) (body : List ℕ) → length body ≤ MAX_BODY_BYTES → (r : Result Command WireFault)
     → kind_at e body ≡ commands r → IsSaid r
 kind_at-said (endpoint.Command route) body short r is =
-    subst (λ (x : Result Command WireFault). IsSaid x) (ap (λ (k : Kind). reading_in k r) is) (body-said route body short)
+    subst (λ (x : Result Command WireFault). IsSaid x) (ap (λ (k : Kind). reading_in k r) is)
+    (body-said route body short)
 kind_at-said endpoint.Totals body short r is = let bad : ⊥ = cc in absurd bad
 kind_at-said (endpoint.Log from) body short r is = let bad : ⊥ = cc in absurd bad
 
-kind_by-said : (asks : Result Endpoint Fault) (body : List ℕ) → length body ≤ MAX_BODY_BYTES → (r : Result Command WireFault)
+kind_by-said : (asks : Result Endpoint Fault) (body : List ℕ) → length body ≤ MAX_BODY_BYTES
+    → (r : Result Command WireFault)
     → kind_by asks body ≡ commands r → IsSaid r
 kind_by-said (Ok e) body short r is = kind_at-said e body short r is
 kind_by-said (Err f) body short r is = let bad : ⊥ = cc in absurd bad
 
 pub never-too_long : (bytes : List ℕ) (item : Item) → IsNext bytes item → kind_of item ≢ commands (Err TooLong)
-never-too_long bytes item next is = (kind_by-said item.asks item.body (body-short bytes item next) (Err TooLong) is).said refl
+never-too_long bytes item next is = (kind_by-said item.asks item.body (body-short bytes item next) (Err TooLong)
+    is).said refl

@@ -1,8 +1,8 @@
 -- The bytes that are put for an item.
 use Rattle.std.specs.Prelude.{ℕ, Bool, true, false, List, [], ◌∷◌, ◌++◌, length, codes, decimal, Option, None, if◌then◌else◌}
 use Rattle.entry_codec.specs.LogPage.{log_page}
-use Rattle.farm_answers.specs.Statuses.{answer_status}
-use Rattle.farm_answers.specs.Texts.{answer_text}
+use Rattle.http_answers.specs.Statuses.{answer_status}
+use Rattle.farm_wire.specs.Answers.{answer_text}
 use Rattle.farm_entry.specs.Pages.{totals}
 use Rattle.farm_wire.specs.Refusals.{fault_data}
 use Rattle.farm_wire.specs.Replies.{log_data, totals_data}
@@ -53,7 +53,8 @@ response_of step = if step.written then response_to step.outcome else no_memory
 -- the bytes of an answer to an item
 unfoldable pub response_bytes : Item → Response → List ℕ
 response_bytes item s =
-    parts_joined (status_line s.status) (decimal (length s.body)) (allow_line s.allow) (close_line item.closes) (body_put item.withheld s.body)
+    parts_joined (status_line s.status) (decimal (length s.body)) (allow_line s.allow) (close_line item.closes)
+    (body_put item.withheld s.body)
 
 -- the interim answer, where the item has one
 abbrev pub interim_of : Bool → List ℕ

@@ -2,19 +2,19 @@
 use Rattle.std.specs.Prelude.{ℕ, ◌≡◌, true, false, List, [], ◌∷◌, map, ⊤}
 use Rattle.farm_entry.specs.Playing.{after}
 use Rattle.farm_entry.specs.declared.entry.Entry.{Entry}
-use Rattle.farm_store.specs.declared.asking.Answer.{Answer}
+use Rattle.farm_entry.specs.declared.answer.Answer.{Answer}
 use Rattle.farm_store.specs.declared.asking.Ask.{Ask}
-use Rattle.farm_types.specs.declared.moment.Moment.{Moment}
+use Rattle.connection_laws.specs.Moments.{Given}
 use Rattle.http_requests.specs.Items.{Item}
 use Rattle.connection_laws.specs.Progress.{decision_on}
 use Rattle.connection_laws.specs.Outcomes.{answered, failed, failed_too, uncalled, Step}
 use Rattle.connection_laws.specs.Steps.{IsAsked}
 
 -- the items' commands are asked, one for each
-abbrev pub AreAsked : (Moment → Type 0) → List Item → List Ask → Type 0
-AreAsked clock [] [] = ⊤
-AreAsked clock (item ∷ items) (ask ∷ asks) = IsAsked clock item ask × AreAsked clock items asks
-AreAsked clock _ _ = ⊥
+abbrev pub AreAsked : (Given → Type 0) → List Item → List Ask → Type 0
+AreAsked gives [] [] = ⊤
+AreAsked gives (item ∷ items) (ask ∷ asks) = IsAsked gives item ask × AreAsked gives items asks
+AreAsked gives _ _ = ⊥
 
 -- the items have no interim answer
 abbrev pub AreAtOnce : List Item → Type 0

@@ -1,6 +1,6 @@
 -- What is held of one connection.
 use Rattle.std.specs.Prelude.{ℕ, ◌≡◌, ◌⊎◌, Bool, true, false, List, ◌++◌, length}
-use Rattle.farm_types.specs.declared.moment.Moment.{Moment}
+use Rattle.connection_laws.specs.Moments.{Given}
 use Rattle.http_requests.specs.Fronts.{Opens}
 use Rattle.http_requests.specs.Items.{Item, Items, End, closed}
 use Rattle.link_io.specs.declared.source.TheConstants.{INPUT_LIMIT}
@@ -40,19 +40,21 @@ IsPut false taken put ended items steps = IsPart taken put items steps
 
 -- What is held of a connection, from what its pass and its reader knew at entry: there are items, and what they came
 -- to, within what is seen at exit.
-pub record HeldFrom (start : Progress) (final : Mark) (clock : Moment → Type 0) (taken put : List ℕ) (ended whole : Bool) : Type 0 where
+pub record HeldFrom (start : Progress) (final : Mark) (gives : Given → Type 0) (taken put : List ℕ) (ended whole : Bool)
+    : Type 0 where
   pub items : List Item
   pub steps : List Step
-  pub are_steps : AreSteps clock start items steps
+  pub are_steps : AreSteps gives start items steps
   pub ends : IsWithin (progress_after start steps) final
   pub is_put : IsPut whole taken put ended items steps
 
 -- What is held of a connection, from a history and a count at entry to those at exit.
-abbrev pub Held : (start final : Mark) → (Moment → Type 0) → (taken put : List ℕ) → (ended whole : Bool) → Type 0
-Held start final clock taken put ended whole = HeldFrom (progress_at start) final clock taken put ended whole
+abbrev pub Held : (start final : Mark) → (Given → Type 0) → (taken put : List ℕ) → (ended whole : Bool) → Type 0
+Held start final gives taken put ended whole = HeldFrom (progress_at start) final gives taken put ended whole
 
 -- what a connection has come to between two items: each item so far was answered whole, and none of them closes
-pub record IsSoFar (start : Progress) (clock : Moment → Type 0) (taken put : List ℕ) (items : List Item) (steps : List Step) : Type 0 where
+pub record IsSoFar (start : Progress) (gives : Given → Type 0) (taken put : List ℕ) (items : List Item)
+    (steps : List Step) : Type 0 where
   pub opens : Opens taken items
-  pub are_steps : AreSteps clock start items steps
+  pub are_steps : AreSteps gives start items steps
   pub put_is : put ≡ transcript items steps

@@ -7,5 +7,6 @@ pub mod Progress
 pub mod Steps
 pub mod Batches
 pub mod Held
+pub mod Waiting
 pub mod Serving
 pub mod Worked

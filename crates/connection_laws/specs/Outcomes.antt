@@ -1,7 +1,7 @@
 -- What items come to.
 use Rattle.std.specs.Prelude.{ℕ, Bool, List}
 use Rattle.farm_entry.specs.declared.entry.Entry.{Entry}
-use Rattle.farm_store.specs.declared.asking.Answer.{Answer}
+use Rattle.farm_entry.specs.declared.answer.Answer.{Answer}
 use Rattle.farm_store.specs.declared.asking.Ask.{Ask}
 use Rattle.farm_wire.specs.declared.fault.WireFault.{WireFault}
 use Rattle.http_words.specs.declared.fault.Fault.{Fault}

@@ -45,7 +45,12 @@ progress_past c (misread f) = progress_with c c.seen
 progress_past c (answered H ask a) = progress_with c (after H (decision_on H ask))
 progress_past c (counted H) = record { seen = c.seen; totals = H; faults = c.faults; left = 0 }
 progress_past c (copied H from) = progress_with c H
-progress_past c (failed H ask before count) = record { seen = H; totals = c.totals; faults = count; left = MAX_BATCH - 1 }
+progress_past c (failed H ask before count) = record {
+  seen = H;
+  totals = c.totals;
+  faults = count;
+  left = MAX_BATCH - 1;
+}
 progress_past c (failed_too ask) = record { seen = c.seen; totals = c.totals; faults = c.faults; left = c.left - 1 }
 progress_past c unread = progress_with c c.seen
 progress_past c (uncalled H ask) = progress_with c H

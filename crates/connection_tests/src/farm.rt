@@ -4,7 +4,7 @@ ghost use Rattle.turn_lock.specs.Known.{IsReady};
 use entry_codec::read_entries;
 use farm_disk::CalmDisk;
 use farm_entry::Settings;
-use farm_http::{Pages, ServeFault, Served, serve_link};
+use farm_http::{Caller, Pages, ServeFault, Served, Service, serve_link};
 use farm_journal::Journal;
 use farm_store::Store;
 use farm_types::Moment;
@@ -54,28 +54,30 @@ fn serve_one<R: Wait>(
     alloc: Global,
     pages: &Pages,
     farm: &SharedFarm<CalmDisk>,
-    pass: &mut Pass,
+    pass: Pass,
     connection: &mut Connection,
-)
-    requires { IsReady farm.now pass.old }
-    ensures { IsReady farm.entry.now pass.new }
+) -> Pass
+    requires { IsReady farm.now pass }
+    ensures { IsReady farm.entry.now result }
 {
+    let mut pass = pass;
     let Ok(at) = Moment::of(NOW_MS) else {
-        return;
+        return pass;
     };
-    let Ok(mut reader) = farm.reader(rt, pass) else {
-        return;
+    let Ok(reader) = farm.reader(rt, &mut pass) else {
+        return pass;
     };
-    connection.result = serve_link(
+    let clock = MemClock::at(at);
+    let service = Service {
         rt,
         alloc,
         pages,
         farm,
-        pass,
-        &mut reader,
-        &mut connection.link,
-        &MemClock::at(at),
-    );
+        clock: &clock,
+    };
+    let mut caller = Caller { pass, reader };
+    connection.result = serve_link(&service, &mut caller, &mut connection.link);
+    caller.pass
 }
 
 fn serve_each<R: Wait>(
@@ -91,7 +93,7 @@ fn serve_each<R: Wait>(
 {
     let mut pass = pass;
     for connection in connections {
-        serve_one(rt, alloc, pages, farm, &mut pass, connection);
+        pass = serve_one(rt, alloc, pages, farm, pass, connection);
     }
     pass
 }

@@ -26,7 +26,6 @@ use Rattle.farm_entry.specs.Standing.{is_active, standing}
 use Rattle.farm_entry.specs.declared.command.Command.{Command}
 use Rattle.farm_entry.specs.declared.command.Command.TheVariants as command
 use Rattle.farm_entry.specs.declared.command.OpenAsk.{OpenAsk}
-use Rattle.farm_entry.specs.declared.decision.Decision.{Decision}
 use Rattle.farm_entry.specs.declared.decision.Decision.TheVariants.{New, Refuse}
 use Rattle.farm_entry.specs.declared.entry.Entry.{Entry}
 use Rattle.farm_entry.specs.declared.entry.What.TheVariants.{Cancelled as cancelled}
@@ -49,9 +48,6 @@ use Rattle.decision_laws.specs.Causes.{CauseOf, HasEnded, HasManySearches, HasNo
 -- a decision that refuses, and one that doesn't
 new-refuse : (e : Entry) (r : Refusal) → New e ≡ Refuse r → ⊥
 new-refuse e r h = let b : true ≡ false = cc in true≢false b
-
-show-refuse : {P : Type 0} (d : Decision) (r : Refusal) → d ≡ Refuse r → (Refuse r ≡ d → P) → P
-show-refuse d r h p = p (sym h)
 
 -- a cause of the refusal that a decision is
 pub caused : (H : List Entry) (q : Command) (m : Moment) (r s : Refusal) → CauseOf r H q m → Refuse r ≡ Refuse s →

@@ -1,4 +1,4 @@
--- Why a command is not prepared, and why an entry is not admitted.
+-- Why a command is not prepared, and why entries are not admitted.
 use Rattle.std.specs.Prelude.{◌≡◌, List, [], ◌∷◌, ◌++◌, ⊤}
 use Rattle.farm_types.specs.declared.moment.Moment.{Moment}
 use Rattle.farm_entry.specs.Decision.{decide}
@@ -20,3 +20,13 @@ IsRefusedBy H q m core.Memory = ⊤
 abbrev pub IsUnfit : List Entry → Entry → AdmitFault → Type 0
 IsUnfit H e admit.Illegal = ¬ IsLegal (H ++ e ∷ [])
 IsUnfit H e admit.Memory = ⊤
+
+-- entries were added to a history up to one that was not admitted
+pub record IsHalted (H entries K : List Entry) (fault : AdmitFault) : Type 0 where
+  pub before : List Entry
+  pub entry : Entry
+  pub behind : List Entry
+  pub split : entries ≡ before ++ entry ∷ behind
+  pub added : K ≡ H ++ before
+  pub legal : IsLegal K
+  pub unfit : IsUnfit K entry fault

@@ -21,14 +21,6 @@ IsPrepared H q m (Repeat r) = (place : ℕ) × (decide H q m ≡ decision.Repeat
 IsPrepared H q m (Shown r) = decide H q m ≡ decision.Show r
 IsPrepared H q m (New e r) = (decide H q m ≡ decision.New e) × (reply_at (H ++ e ∷ []) (length H) ≡ Some r)
 
--- the reply to a command that comes to this decision at a history: the first one again, what it shows, or that of its
--- entry when it comes next
-abbrev pub IsReplied : List Entry → Decision → Reply → Type 0
-IsReplied H (decision.Repeat place) r = reply_at H place ≡ Some r
-IsReplied H (decision.Show page) r = r ≡ page
-IsReplied H (decision.New e) r = reply_at (H ++ e ∷ []) (length H) ≡ Some r
-IsReplied H (decision.Refuse cause) r = ⊥
-
 -- the entries that may be committed once a command was prepared: its own, or none
 abbrev pub ready_after : Result Prepared CoreFault → List Entry
 ready_after (Ok (New e r)) = e ∷ []

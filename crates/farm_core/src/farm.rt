@@ -2,7 +2,9 @@
 
 use crate::prepared::{CoreFault, Prepared};
 use crate::tail::{cut, handed_out, reply_of, run_at};
-use farm_entry::{Command, Decision, Entry, LeasedRun, Reply, Settings, Standing, Totals, What};
+use farm_entry::{
+    Answer, Command, Decision, Entry, LeasedRun, Reply, Settings, Standing, Totals, What,
+};
 use farm_types::{Memory, Moment};
 use kept_decisions::{KeptFarm, decide, is_next, standing_of};
 use std::alloc::Global;
@@ -58,6 +60,7 @@ impl Farm {
     ghost use Rattle.std.specs.Prelude.{◌≡◌, ◌<◌, ◌-◌, ◌++◌, ◌∷◌, ◌↔◌, [], length, take, drop, slice_get, Some};
     ghost use Rattle.std.specs.Prelude.{IsTrue, IfOk, IfErr, OnOk, OnErr};
     ghost use Rattle.std.specs.Option.{option_map};
+    ghost use Rattle.farm_entry.specs.Answer.{IsAnswer};
     ghost use Rattle.farm_entry.specs.Decision.{decide};
     ghost use Rattle.farm_entry.specs.History.{opening_numbered};
     ghost use Rattle.farm_entry.specs.Legal.{IsLegal, IsNext};
@@ -65,8 +68,8 @@ impl Farm {
     ghost use Rattle.farm_entry.specs.Playing.{after};
     ghost use Rattle.farm_entry.specs.Reply.{reply_at};
     ghost use Rattle.farm_entry.specs.Standing.{standing};
-    ghost use Rattle.farm_core.specs.FarmFaults.{IsRefusedBy, IsUnfit};
-    ghost use Rattle.farm_core.specs.Outcome.{IsHandedOut, IsPrepared, IsReplied, IsRunAt, ready_after};
+    ghost use Rattle.farm_core.specs.FarmFaults.{IsHalted, IsRefusedBy, IsUnfit};
+    ghost use Rattle.farm_core.specs.Outcome.{IsHandedOut, IsPrepared, IsRunAt, ready_after};
 
     /// A farm that was founded with these settings at this moment: its history is that one entry.
     ///
@@ -84,6 +87,22 @@ impl Farm {
             kept: KeptFarm::found(alloc, settings, at)?,
             committed: 1,
         })
+    }
+
+    /// The farm that an entry founds: its history is that entry.
+    ///
+    /// # Errors
+    ///
+    /// [`AdmitFault::Illegal`], exactly where the entry alone is no legal history; or [`AdmitFault::Memory`].
+    pub fn founded_by(alloc: Global, entry: &Entry) -> Result<Farm, AdmitFault>
+        ensures founded { IfOk result (λ farm. farm ≡ record { history = entry.now ∷ []; ready = [] }) }
+        ensures legal { OnOk result (IsLegal (entry.now ∷ [])) }
+        ensures illegal { IfErr result (IsUnfit [] entry.now) }
+    {
+        match &entry.what {
+            What::Founded { settings } => Ok(Farm::found(alloc, *settings, entry.at)?),
+            _ => Err(AdmitFault::Illegal),
+        }
     }
 
     /// The history, which is legal, and stays so with what may be committed next.
@@ -143,16 +162,15 @@ impl Farm {
     }
 
     /// Answers a command: says what it comes to at the history and a moment, and where that is a new entry, the history
-    /// ends with it from now on. It comes to the same as to prepare the command and to commit its entry, but makes no
-    /// copy of the entry. Nothing that was ready before may be committed any more.
+    /// ends with it from now on. A refusal is an answer, given exactly where the farm's definitions refuse the command.
+    /// It comes to the same as to prepare the command and to commit its entry, but makes no copy of the entry. Nothing
+    /// that was ready before may be committed any more.
     ///
     /// # Errors
     ///
-    /// [`CoreFault::Refused`], exactly where the farm's definitions refuse the command; or [`CoreFault::Memory`]. The
-    /// history stays.
-    pub fn answer(&mut self, command: &Command, at: Moment) -> Result<Reply, CoreFault>
-        ensures replied { IfOk result (IsReplied self.old.history (decide self.old.history command.now at)) }
-        ensures refused { IfErr result (IsRefusedBy self.old.history command.now at) }
+    /// [`Memory`]. The history stays.
+    pub fn answer(&mut self, command: &Command, at: Moment) -> Result<Answer, Memory>
+        ensures answer { IfOk result (IsAnswer self.old.history (decide self.old.history command.now at)) }
         ensures history { OnOk result
             (self.new.history ≡ after self.old.history (decide self.old.history command.now at)) }
         ensures kept { OnErr result (self.new.history ≡ self.old.history) }
@@ -162,17 +180,20 @@ impl Farm {
         self.forget_ready();
         // (decisions and replies are large, and `?` would move each twice more)
         match self.decide(command, at) {
-            Ok(Decision::Refuse(refusal)) => Err(CoreFault::Refused(refusal)),
-            Ok(Decision::Repeat(place)) => Ok(self.repeat(place as usize)?),
-            Ok(Decision::Show(reply)) => Ok(reply),
+            Ok(Decision::Refuse(refusal)) => Ok(Answer::Refused(refusal)),
+            Ok(Decision::Repeat(place)) => match self.repeat(place as usize) {
+                Ok(reply) => Ok(Answer::Done(reply)),
+                Err(memory) => Err(memory),
+            },
+            Ok(Decision::Show(reply)) => Ok(Answer::Done(reply)),
             Ok(Decision::New(entry)) => match self.prepare_new(entry) {
                 Ok(reply) => {
                     self.commit_next();
-                    Ok(reply)
+                    Ok(Answer::Done(reply))
                 }
-                Err(Memory) => Err(CoreFault::Memory),
+                Err(memory) => Err(memory),
             },
-            Err(Memory) => Err(CoreFault::Memory),
+            Err(memory) => Err(memory),
         }
     }
 
@@ -182,7 +203,8 @@ impl Farm {
     ///
     /// # Errors
     ///
-    /// Those of [`Farm::answer`]. The history stays.
+    /// [`CoreFault::Refused`], exactly where the farm's definitions refuse the command; or [`CoreFault::Memory`]. The
+    /// history stays.
     pub fn enter(&mut self, command: &Command, at: Moment) -> Result<Option<LeasedRun>, CoreFault>
         ensures handed { IfOk result (IsHandedOut self.old.history (decide self.old.history command.now at)) }
         ensures refused { IfErr result (IsRefusedBy self.old.history command.now at) }
@@ -251,6 +273,24 @@ impl Farm {
         Ok(())
     }
 
+    /// Takes entries that came from elsewhere, one after the other, up to the first that may not come next. Nothing that
+    /// was ready before may be committed any more.
+    ///
+    /// # Errors
+    ///
+    /// [`AdmitFault::Illegal`], exactly where the history with one of these entries and those before it is not legal;
+    /// or [`AdmitFault::Memory`]. The history has the entries before the one that was not admitted.
+    pub fn admit_all(&mut self, entries: Vec<Entry>) -> Result<(), AdmitFault>
+        ensures admitted { OnOk result (self.new.history ≡ self.old.history ++ entries.items) }
+        ensures legal { OnOk result (IsLegal (self.old.history ++ entries.items)) }
+        ensures halted { IfErr result (IsHalted self.old.history entries.items self.new.history) }
+        ensures ready { self.new.ready ≡ [] }
+    {
+        let _ = self.history();
+        self.forget_ready();
+        self.admit_each(entries)
+    }
+
     /// Takes the last entries of the history away. They may be committed again, in their order.
     pub fn retract(&mut self, count: usize)
         requires { count < length self.old.history }
@@ -259,6 +299,27 @@ impl Farm {
     {
         self.forget_ready();
         self.committed -= count;
+    }
+
+    /// Takes entries, one after the other, where nothing may be committed.
+    fn admit_each(&mut self, entries: Vec<Entry>) -> Result<(), AdmitFault>
+        requires none_ready { self.old.ready ≡ [] }
+        requires legal { IsLegal self.old.history }
+        ensures admitted { OnOk result (self.new.history ≡ self.old.history ++ entries.items) }
+        ensures legal { OnOk result (IsLegal (self.old.history ++ entries.items)) }
+        ensures halted { IfErr result (IsHalted self.old.history entries.items self.new.history) }
+        ensures ready { self.new.ready ≡ [] }
+    {
+        let mut rest = entries;
+        // The first stands last, from where it is taken without moving the others.
+        rest.reverse();
+        while let Some(entry) = rest.pop() {
+            match self.admit(entry) {
+                Ok(()) => {}
+                Err(fault) => return Err(fault),
+            }
+        }
+        Ok(())
     }
 
     /// Leaves nothing that may be committed.

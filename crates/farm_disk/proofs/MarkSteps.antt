@@ -5,16 +5,12 @@ use Rattle.std.specs.List.{range_with_len}
 use Rattle.std.proofs.lemmas.Bool.{cases_lt}
 use Rattle.std.proofs.lemmas.Bool.Decides.{nat_tests}
 use Rattle.std.proofs.lemmas.List.FromFn.{length-map-range_with_len, get_or-map-range_with_len}
-use Rattle.std.proofs.lemmas.Option.{unwrap_or-slice_get, slice_get_past}
+use Rattle.std.proofs.lemmas.Option.{slice_get_past}
 use Rattle.farm_disk.specs.Images.{Step, IsImage}
 use Rattle.farm_disk.specs.Model.{least, greatest, IsRun}
 use Rattle.farm_disk.specs.Certain.{certain, mark_at}
 use Rattle.farm_disk.proofs.CertainBytes.{allowed-is-certain}
 use Rattle.farm_disk.proofs.Model.{least-le-greatest, may_be_left-image}
-
--- a mark is read as an element of the list
-mark_at-get_or : (marks : List (Option ℕ)) (k : ℕ) → mark_at marks k ≡ get_or marks k None
-mark_at-get_or marks k = unwrap_or-slice_get marks k None
 
 -- past the marks there is none
 pub mark_at-past : (marks : List (Option ℕ)) (k : ℕ) → length marks ≤ k → mark_at marks k ≡ None

@@ -36,13 +36,6 @@ torn_part at n bytes old within part =
       no_longer = omega (arith, whole.no_longer, part);
     }
 
--- a cut to a size, or to more
-pub shortened : (n size : ℕ) (old : List ℕ) → n ≤ size → Shortened n old (take size old)
-shortened n size old above = record {
-  below = take-take n size old above;
-  no_longer = omega (arith, length-take size old);
-}
-
 pub calls-keep-sound : CallsKeepSound
 calls-keep-sound = record {
   fresh = λ bytes. record { run = tt; size = omega arith; image = refl };

@@ -1,5 +1,5 @@
 -- What a call on a store comes to, where nothing was pending.
-use Rattle.std.proofs.Common.{◌≡◌, ◌++◌, [], List, Ok, Err, sym, ap, subst, ◌∙◌, ⊎_elim, append-nil}
+use Rattle.std.proofs.Common.{◌≡◌, ◌++◌, [], List, Err, sym, ap, subst, ◌∙◌, ⊎_elim, append-nil}
 use Rattle.farm_types.specs.declared.moment.Moment.{Moment}
 use Rattle.farm_entry.specs.Decision.{decide}
 use Rattle.farm_entry.specs.Playing.{after}
@@ -8,12 +8,12 @@ use Rattle.farm_entry.specs.declared.decision.Decision.{Decision}
 use Rattle.farm_entry.specs.declared.decision.Decision.TheVariants.{New, Refuse, Repeat, Show}
 use Rattle.farm_entry.specs.declared.entry.Entry.{Entry}
 use Rattle.farm_entry.specs.declared.refusal.Refusal.{Refusal}
-use Rattle.farm_entry.specs.declared.reply.Reply.{Reply}
-use Rattle.farm_store.specs.Answering.{CallSays, IsAnswer}
+use Rattle.farm_entry.specs.Answer.{IsAnswer}
+use Rattle.farm_store.specs.Answering.{CallSays}
 use Rattle.farm_store.specs.State.{IsRepaired, StoreState}
-use Rattle.farm_store.specs.declared.asking.Answer.TheVariants as answer
+use Rattle.farm_entry.specs.declared.answer.Answer.TheVariants as answer
 use Rattle.farm_store.specs.declared.asking.CallFault.TheVariants as call
-use Rattle.farm_drill.specs.Asked.{AskSays, IsDone, IsRefused}
+use Rattle.farm_drill.specs.Asked.{AskSays, IsRefused}
 
 -- a repair finds the history as it was
 unchanged : {D : Type 0} (old : StoreState D) (repaired : List Entry) → IsRepaired old repaired → old.pending ≡ []
@@ -30,13 +30,6 @@ refused-by H (Refuse x) cause same = ap Refuse (sym same)
 refused-by H (Repeat place) cause same = absurd same
 refused-by H (Show page) cause same = absurd same
 refused-by H (New e) cause same = absurd same
-
-pub done-says : {D : Type 0} (old new : StoreState D) (command : Command) (at : Moment) (reply : Reply)
-    → CallSays command at (Ok reply) old new → old.pending ≡ [] → AskSays old.history command at (Ok reply) new.history
-done-says old new command at reply says none =
-    let same : says.repaired ≡ old.history = unchanged old says.repaired says.found none in
-    subst (λ (H : List Entry). IsDone H command at reply new.history) same
-    (record { answers = says.answers.0; history = says.history })
 
 pub refused-says : {D : Type 0} (old new : StoreState D) (command : Command) (at : Moment) (cause : Refusal)
     → CallSays command at (Err (call.Refused cause)) old new → old.pending ≡ []

@@ -30,8 +30,8 @@ use Rattle.farm_core.specs.Outcome.{handed_out}
 use Rattle.farm_laws.proofs.Bounds.{entries-bounded}
 use Rattle.farm_laws.proofs.Moments.{moments-until_last}
 use Rattle.farm_laws.proofs.Replies.{slice_get-last}
-use Rattle.farm_store.specs.Answering.{IsAnswer}
-use Rattle.farm_store.specs.declared.asking.Answer.TheVariants as answer
+use Rattle.farm_entry.specs.Answer.{IsAnswer}
+use Rattle.farm_entry.specs.declared.answer.Answer.TheVariants as answer
 use Rattle.list_prefix.specs.Prefix.{IsPrefix}
 use Rattle.drill_plan.specs.Start.{drill_founding, drill_moment}
 use Rattle.farm_drill.specs.Asked.{AskSays, IsDone, IsRefused}

@@ -26,8 +26,8 @@ use Rattle.farm_entry.specs.declared.refusal.Refusal.{Refusal}
 use Rattle.farm_entry.specs.declared.refusal.Refusal.TheVariants.{Full}
 use Rattle.farm_entry.specs.declared.reply.Reply.{Reply}
 use Rattle.farm_laws.proofs.OrdersOnce.{days-limited}
-use Rattle.farm_store.specs.Answering.{IsAnswer}
-use Rattle.farm_store.specs.declared.asking.Answer.TheVariants as answer
+use Rattle.farm_entry.specs.Answer.{IsAnswer}
+use Rattle.farm_entry.specs.declared.answer.Answer.TheVariants as answer
 use Rattle.list_prefix.specs.Prefix.{IsPrefix}
 use Rattle.drill_plan.specs.Start.{drill_founding, revert_ms}
 use Rattle.drill_plan.specs.declared.limits.TheConstants.{DRILL_DAILY}

@@ -24,8 +24,8 @@ use Rattle.farm_entry.specs.declared.refusal.Refusal.TheVariants.{Full}
 use Rattle.farm_entry.specs.declared.reply.Reply.{Reply}
 use Rattle.farm_entry.proofs.Growing.{all_leases-grow}
 use Rattle.farm_laws.proofs.Numbered.{lease-found}
-use Rattle.farm_store.specs.Answering.{IsAnswer}
-use Rattle.farm_store.specs.declared.asking.Answer.TheVariants as answer
+use Rattle.farm_entry.specs.Answer.{IsAnswer}
+use Rattle.farm_entry.specs.declared.answer.Answer.TheVariants as answer
 use Rattle.farm_drill.specs.Asked.{IsDone, IsRefused}
 use Rattle.farm_drill.specs.Ends.{IsFull}
 use Rattle.farm_drill.proofs.Lists.{any-append, any-from_none, any-none}

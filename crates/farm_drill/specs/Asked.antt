@@ -8,8 +8,8 @@ use Rattle.farm_entry.specs.declared.decision.Decision.TheVariants.{Refuse}
 use Rattle.farm_entry.specs.declared.entry.Entry.{Entry}
 use Rattle.farm_entry.specs.declared.refusal.Refusal.{Refusal}
 use Rattle.farm_entry.specs.declared.reply.Reply.{Reply}
-use Rattle.farm_store.specs.Answering.{IsAnswer}
-use Rattle.farm_store.specs.declared.asking.Answer.TheVariants as answer
+use Rattle.farm_entry.specs.Answer.{IsAnswer}
+use Rattle.farm_entry.specs.declared.answer.Answer.TheVariants as answer
 
 -- the history goes on as the command is decided, and the reply is that of the decision
 pub record IsDone (H : List Entry) (command : Command) (at : Moment) (reply : Reply) (new : List Entry) : Type 0 where

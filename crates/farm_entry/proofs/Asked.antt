@@ -10,7 +10,7 @@ use Rattle.flake_rate.specs.Tests.{fits_rate, is_bar, is_miss, is_rate}
 use Rattle.flake_rate.specs.declared.bar.Bar.{Bar}
 use Rattle.flake_rate.specs.declared.miss.Miss.{Miss}
 use Rattle.flake_rate.specs.declared.rate.Rate.{Rate}
-use Rattle.flake_rate.proofs.Limits.{bar-tested, bar-within, fits-tested, fits-within, miss-tested, miss-within, rate-tested, rate-within}
+use Rattle.flake_rate.proofs.Limits.{bar-tested, fits-tested, fits-within, miss-tested, rate-tested}
 use Rattle.flake_rate.proofs.Values.{bar-from_numbers, miss-from_numbers, rate-from_numbers}
 use Rattle.farm_entry.specs.declared.refusal.OpenFault.{OpenFault}
 use Rattle.farm_entry.specs.Ask.{bar_of, fitting, miss_of, rate_of, when_passed}
@@ -32,17 +32,11 @@ pub rate_of-made : (a b : ℕ) (r : Rate) → IsRate a b → rate_numerator r �
 rate_of-made a b r within over under =
     when_passed-same (is_rate a b) _ r (rate-tested a b within) (λ h. rate-from_numbers _ r (sym over) (sym under))
 
-pub rate_of-refused : (a b : ℕ) → (IsRate a b → ⊥) → rate_of a b ≡ None
-rate_of-refused a b other = when_passed-none (is_rate a b) _ (λ h. other (rate-within a b h))
-
 -- misses
 
 pub miss_of-made : (c d : ℕ) (m : Miss) → IsMiss c d → miss_numerator m ≡ c / gcd c d → miss_denominator m ≡ d / gcd c d → miss_of c d ≡ Some m
 miss_of-made c d m within over under =
     when_passed-same (is_miss c d) _ m (miss-tested c d within) (λ h. miss-from_numbers _ m (sym over) (sym under))
-
-pub miss_of-refused : (c d : ℕ) → (IsMiss c d → ⊥) → miss_of c d ≡ None
-miss_of-refused c d other = when_passed-none (is_miss c d) _ (λ h. other (miss-within c d h))
 
 taken : {X : Type 0} (test : Bool) (x : X) → IsTrue test → (if test then Some x else None) ≡ Some x
 taken true x h = refl
@@ -78,6 +72,3 @@ falsely h = true≢false (sym h)
 pub bar_of-made : (t u : ℕ) (b : Bar) → IsBar t u → bar_numerator b ≡ t → bar_denominator b ≡ u → bar_of t u ≡ Some b
 bar_of-made t u b within over under =
     when_passed-same (is_bar t u) _ b (bar-tested t u within) (λ h. bar-from_numbers _ b (sym over) (sym under))
-
-pub bar_of-refused : (t u : ℕ) → (IsBar t u → ⊥) → bar_of t u ≡ None
-bar_of-refused t u other = when_passed-none (is_bar t u) _ (λ h. other (bar-within t u h))

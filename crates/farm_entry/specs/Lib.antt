@@ -9,5 +9,6 @@ pub mod Orders
 pub mod Pages
 pub mod Reply
 pub mod Decision
+pub mod Answer
 pub mod Legal
 pub mod Playing

@@ -11,13 +11,14 @@
 //!
 //! The definitions stand in `specs/`, to be read in this order: `Ask` (the search that a request asks for), `Setup`
 //! (from an opening to its weights), `History` (what a list of entries holds), `Standing`, `Due`, `Orders`, `Pages`,
-//! `Reply`, `Decision`, `Legal` and `Playing` (what becomes of a history as commands are decided). They compute. Their
-//! laws stand in a crate above this one, `farm_laws`, and farms that are played by evaluating them in `farm_worked`.
-//! The layers above may cite the lemmas of `proofs/Growing` (what a history holds after appending an entry, and its
-//! last moment), `proofs/Asked` (what is made of the numbers of an ask) and `proofs/SameSettings`. Its tests stand in
-//! `entry_tests`.
+//! `Reply`, `Decision`, `Answer`, `Legal` and `Playing` (what becomes of a history as commands are decided). They
+//! compute. Their laws stand in a crate above this one, `farm_laws`, and farms that are played by evaluating them in
+//! `farm_worked`. The layers above may cite the lemmas of `proofs/Growing` (what a history holds after appending an
+//! entry, and its last moment), `proofs/Asked` (what is made of the numbers of an ask) and `proofs/SameSettings`. Its
+//! tests stand in `entry_tests`.
 #![tactic(auto)]
 
+mod answer;
 mod ask;
 mod command;
 mod decision;
@@ -36,6 +37,7 @@ mod settings;
 mod standing;
 mod states;
 
+pub use answer::Answer;
 pub use command::{Command, OpenAsk, Suspects};
 pub use decision::Decision;
 pub use entry::{Entry, Fate, What};

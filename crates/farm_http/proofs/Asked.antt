@@ -3,8 +3,9 @@ use Rattle.std.proofs.Common.{ℕ, ◌≡◌, ◌||◌, inl, inr, Bool, true, fa
 use Rattle.std.proofs.lemmas.Bool.{false≢true}
 use Rattle.http_requests.specs.Fields.{fields_of}
 use Rattle.http_requests.specs.Framing.{wants_interim}
-use Rattle.http_requests.specs.Items.{Item, IsNext, body_of, head_size, item_by, item_of}
-use Rattle.http_requests.specs.Next.{AwaitsBody, IsNextFor, item_in}
+use Rattle.connection_laws.specs.Waiting.{AreWaiting}
+use Rattle.http_requests.specs.Items.{Item, HasHead, IsNext, body_of, head_size, item_by, item_of}
+use Rattle.http_requests.specs.Next.{AwaitsBody, AwaitsHead, IsNextFor, item_in}
 use Rattle.http_requests.specs.declared.next.Awaited.{Awaited}
 use Rattle.http_requests.specs.declared.request.Request.{Request}
 use Rattle.http_requests.proofs.Heads.{HasHead-append, HasHead-unique}
@@ -39,7 +40,8 @@ record HeadAsks (head : RequestHead) : Type 0 where
   body : body_of head ≡ Ok len
   asks : wants_interim head.minor (fields_of head) len ≡ true
 
-item_by-asks : (head : RequestHead) (rest : List ℕ) (r : Result ℕ Fault) → body_of head ≡ r → (item_of head rest).interim ≡ true
+item_by-asks : (head : RequestHead) (rest : List ℕ) (r : Result ℕ Fault) → body_of head ≡ r
+    → (item_of head rest).interim ≡ true
     → HeadAsks head
 unfolding item_of
 item_by-asks head rest (Ok len) is asks =
@@ -55,14 +57,16 @@ next_of-asks held item (inl x) asks =
     record { head = x.head; has = x.has; len = h.len; body = h.body; asks = h.asks }
 
 -- a request that has one: its head does, whatever follows
-pub next-asks : (complete : Bool) (held : List ℕ) (request : Request) → IsNextFor complete held request → request.interim ≡ true
+pub next-asks : (complete : Bool) (held : List ℕ) (request : Request) → IsNextFor complete held request
+    → request.interim ≡ true
     → AsksInterim held
 next-asks complete held request next asks =
     next_of-asks held (item_in held request)
     (subst (λ (l : List ℕ). IsNext l (item_in held request)) (append-nil held) (next.next [] (λ e. refl))) asks
 
 -- and so does one whose body is awaited
-pub body-asks : (complete : Bool) (held : List ℕ) (awaited : Awaited) → AwaitsBody complete held awaited → awaited.interim ≡ true
+pub body-asks : (complete : Bool) (held : List ℕ) (awaited : Awaited) → AwaitsBody complete held awaited
+    → awaited.interim ≡ true
     → AsksInterim held
 body-asks complete held awaited a asks =
     record { head = a.head; has = a.has; len = a.len; body = a.body; asks = sym a.interim ∙ asks }
@@ -81,6 +85,42 @@ item-asks held item a (inl x) =
 out_by : (out asked : Bool) → (out ≡ true → asked ≡ true) → (out || asked) ≡ asked
 out_by false asked f = refl
 out_by true asked f = sym (f refl)
+
+-- the length of a body is one
+one-length : (r : Result ℕ Fault) (m n : ℕ) → r ≡ Ok m → r ≡ Ok n → m ≡ n
+one-length r m n first second = let same : m ≡ n = cc in same
+
+body-has : (complete : Bool) (held : List ℕ) (awaited : Awaited) → AwaitsBody complete held awaited → AsksInterim held
+    → awaited.interim ≡ true
+body-has complete held awaited a b =
+    let same : a.head ≡ b.head = HasHead-unique held a.head b.head a.has b.has in
+    let body : body_of a.head ≡ Ok b.len = ap (λ (h : RequestHead). body_of h) same ∙ b.body in
+    let lengths : a.len ≡ b.len = one-length (body_of a.head) a.len b.len a.body body in
+    a.interim
+    ∙ ap (λ (n : ℕ). wants_interim a.head.minor (fields_of a.head) n) lengths
+    ∙ ap (λ (h : RequestHead). wants_interim h.minor (fields_of h) b.len) same
+    ∙ b.asks
+
+not-out : (out : Bool) (held : List ℕ) → ((head : RequestHead) → ¬ (HasHead held head))
+    → (out ≡ true → AsksInterim held)
+    → out ≡ false
+not-out false held none asks = refl
+not-out true held none asks = let a = asks refl in absurd (none a.head a.has)
+
+-- where no head is whole, none is out, and where a head is whole whose body isn't, the one that it asks for is
+pub head-waits : (complete : Bool) (held : List ℕ) (out : Bool) → AwaitsHead complete held
+    → (out ≡ true → AsksInterim held)
+    → AreWaiting held out
+head-waits complete held out a asks =
+    inl (record { awaits = subst (λ (b : Bool). AwaitsHead b held) a.open_ a; none = not-out out held a.none asks })
+
+pub body-waits : (complete : Bool) (held : List ℕ) (out : Bool) (awaited : Awaited) → AwaitsBody complete held awaited
+    → (out ≡ true → AsksInterim held) → AreWaiting held (out || awaited.interim)
+body-waits complete held out awaited a asks = inr (record {
+  awaited = awaited;
+  awaits = subst (λ (b : Bool). AwaitsBody b held awaited) a.open_ a;
+  asks = out_by out awaited.interim (λ e. body-has complete held awaited a (asks e));
+})
 
 pub next-out : (complete : Bool) (r : ReceivedState) (request : Request) → IsNextFor complete r.held request
     → (r.interim ≡ true → AsksInterim r.held) → (r.interim || request.interim) ≡ request.interim

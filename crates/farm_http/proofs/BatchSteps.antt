@@ -14,11 +14,11 @@ use Rattle.connection_laws.proofs.Transcripts.{all-fronts}
 use Rattle.farm_entry.specs.Playing.{after}
 use Rattle.farm_entry.specs.declared.entry.Entry.{Entry}
 use Rattle.farm_store.specs.Answering.{AreAnswers}
-use Rattle.farm_store.specs.declared.asking.Answer.{Answer}
+use Rattle.farm_entry.specs.declared.answer.Answer.{Answer}
 use Rattle.farm_store.specs.declared.asking.Ask.{Ask}
 use Rattle.farm_store.specs.declared.asking.CallFault.{CallFault}
 use Rattle.farm_store.specs.declared.asking.CallFault.TheVariants as fault
-use Rattle.farm_types.specs.declared.moment.Moment.{Moment}
+use Rattle.connection_laws.specs.Moments.{Given, at_count}
 use Rattle.http_answers.specs.Answers.{allow_line, body_put, close_line, status_line}
 use Rattle.http_answers.specs.Pieces.{parts_joined}
 use Rattle.http_requests.specs.Items.{Item, Items, closed}
@@ -29,7 +29,8 @@ use Rattle.shared_farm.specs.Turns.{IsTurn}
 use Rattle.turn_lock.specs.Known.{Known}
 use Rattle.farm_http.specs.Batches.{ArePutAs, BatchState, IsBatch, IsPutAs, all_answered}
 use Rattle.farm_http.specs.Bytes.{PutSays, farm_responses, request_bytes, requests_bytes}
-use Rattle.farm_http.specs.Callers.{Caller, IsAfter, mark_of}
+use Rattle.farm_http.specs.Callers.{IsAfter, mark_of}
+use Rattle.farm_http.specs.declared.caller.Caller.{Caller}
 use Rattle.farm_http.specs.Fronts.{AreAnswered, AreFront, FrontSays}
 use Rattle.farm_http.specs.Turns.{IsBatchPut, TurnPut}
 use Rattle.farm_http.specs.declared.front.Answered.{Answered}
@@ -38,11 +39,13 @@ use Rattle.farm_http.proofs.Turns.{IsAnsweredTurn, IsFailedTurn, IsUnansweredTur
 -- ---- bytes
 
 -- the answer to a request is the one to its item
-pub item-request : (item : Item) (request : Request) (step : Step) (r : Response) → IsPutAs item request → response_of step ≡ r
+pub item-request : (item : Item) (request : Request) (step : Step) (r : Response) → IsPutAs item request
+    → response_of step ≡ r
     → response_bytes item (response_of step) ≡ request_bytes request r
 unfolding response_bytes request_bytes
 item-request item request step r p is i =
-    parts_joined (status_line (is i).status) (decimal (length (is i).body)) (allow_line (is i).allow) (close_line (p.closes i)) (body_put (p.withheld i) (is i).body)
+    parts_joined (status_line (is i).status) (decimal (length (is i).body)) (allow_line (is i).allow)
+    (close_line (p.closes i)) (body_put (p.withheld i) (is i).body)
 
 -- each step is answered so
 abbrev pub SayEach : List Step → List Response → Type 0
@@ -94,7 +97,8 @@ answered_steps H (ask ∷ asks) (a ∷ answers) [] = []
 answered_steps H (ask ∷ asks) (a ∷ answers) (w ∷ ws) =
     record { outcome = answered H ask a; written = w } ∷ answered_steps (after H (decision_on H ask)) asks answers ws
 
-pub answered-by : (H : List Entry) (asks : List Ask) (answers : List Answer) (ws : List Bool) → AreAnswers H asks answers
+pub answered-by : (H : List Entry) (asks : List Ask) (answers : List Answer) (ws : List Bool)
+    → AreAnswers H asks answers
     → length ws ≡ length answers → AreAnsweredBy H asks answers (answered_steps H asks answers ws)
 answered-by H [] [] ws x same = tt
 answered-by H [] (a ∷ answers) ws x same = absurd x
@@ -121,24 +125,26 @@ alike-say [] (ask ∷ asks) make r is same = absurd (omega arith)
 alike-say (request ∷ requests) [] make r is same = absurd (omega arith)
 alike-say (request ∷ requests) (ask ∷ asks) make r is same = (is ask, alike-say requests asks make r is (omega arith))
 
-failed-say : (requests : List Request) (H : List Entry) (asks : List Ask) (first last : ℕ) → length requests ≡ length asks
+failed-say : (requests : List Request) (H : List Entry) (asks : List Ask) (first last : ℕ)
+    → length requests ≡ length asks
     → SayEach (failed_steps H asks first last) (map (λ (request : Request). store_fault) requests)
 failed-say [] H [] first last same = tt
 failed-say [] H (ask ∷ asks) first last same = absurd (omega arith)
 failed-say (request ∷ requests) H [] first last same = absurd (omega arith)
 failed-say (request ∷ requests) H (ask ∷ asks) first last same = (
   refl,
-  alike-say requests asks (λ (more : Ask). record { outcome = failed_too more; written = true }) store_fault (λ more. refl)
-      (omega arith),
+  alike-say requests asks (λ (more : Ask). record { outcome = failed_too more; written = true }) store_fault
+      (λ more. refl) (omega arith),
 )
 
 -- all of a batch's steps together: there is one for the first item
-steps-put : (clock : Moment → Type 0) (c : Progress) (out : Bool) (item : Item) (items : List Item) (requests : List Request)
-    (steps : List Step) (responses : List Response) → out ≡ item.interim → AreSteps clock c (item ∷ items) steps
+steps-put : (gives : Given → Type 0) (c : Progress) (out : Bool) (item : Item) (items : List Item)
+    (requests : List Request)
+    (steps : List Step) (responses : List Response) → out ≡ item.interim → AreSteps gives c (item ∷ items) steps
     → ArePutAs (item ∷ items) requests → AreAtOnce items → SayEach steps responses
     → interim_of out ++ requests_bytes requests responses ≡ transcript (item ∷ items) steps
-steps-put clock c out item items requests [] responses same g p o x = absurd g
-steps-put clock c out item items requests (step ∷ steps) responses same g p o x =
+steps-put gives c out item items requests [] responses same g p o x = absurd g
+steps-put gives c out item items requests (step ∷ steps) responses same g p o x =
     ap (λ (b : Bool). interim_of b ++ requests_bytes requests responses) same
     ∙ items-put item items requests step steps responses p o x
 
@@ -150,28 +156,32 @@ put_as-length (item ∷ items) (request ∷ requests) p = ap (λ (n : ℕ). suc 
 
 -- ---- items
 
-pub front-stands : (complete : Bool) (held : List ℕ) (items : List Item) (done : Answered) → AreFront complete held items done
+pub front-stands : (complete : Bool) (held : List ℕ) (items : List Item) (done : Answered)
+    → AreFront complete held items done
     → Fronts held items
 front-stands complete held items done f = front_by done.closes refl
   where
     front_by : (b : Bool) → done.closes ≡ b → Fronts held items
     front_by true is =
-        all-fronts held items closed (subst (λ (l : List ℕ). Items l items closed) (append-nil held) (f.0 is [] (λ e. refl)))
+        all-fronts held items closed (subst (λ (l : List ℕ). Items l items closed) (append-nil held)
+        (f.0 is [] (λ e. refl)))
     front_by false is = opens-fronts held items (f.1 is).open_
 
 -- what was put for items at the front, by the steps that they came to
-pub front-says : (clock : Moment → Type 0) (c : Progress) (complete : Bool) (held : List ℕ) (out : Bool)
-    (before now : Option (List ℕ)) (old new : Caller) (done : Answered) (items : List Item) (steps : List Step) (bytes : List ℕ)
-    → 1 ≤ length items → AreFront complete held items done → done.requests ≡ length items → AreSteps clock c items steps
+pub front-says : (gives : Given → Type 0) (c : Progress) (complete : Bool) (held : List ℕ) (out : Bool)
+    (before now : Option (List ℕ)) (old new : Caller) (done : Answered) (items : List Item) (steps : List Step)
+    (bytes : List ℕ)
+    → 1 ≤ length items → AreFront complete held items done → done.requests ≡ length items → AreSteps gives c items steps
     → IsAfter c steps old new → interim_of out ++ bytes ≡ transcript items steps → (result : Result Answered ServeFault)
     → ((d : Answered) → result ≡ Ok d → d ≡ done) → PutSays bytes before now result
-    → FrontSays clock c complete held out before now old new result
-front-says clock c complete held out before now old new done items steps bytes some front count steps_are after is (Ok d) same put =
+    → FrontSays gives c complete held out before now old new result
+front-says gives c complete held out before now old new done items steps bytes some front count steps_are after is
+    (Ok d) same put =
     let d_is = same d refl in
     record {
       put = bytes;
       puts = put;
-      says = subst (λ (x : Answered). AreAnswered clock c complete held out bytes old new x) (sym d_is) (record {
+      says = subst (λ (x : Answered). AreAnswered gives c complete held out bytes old new x) (sym d_is) (record {
         items = items;
         steps = steps;
         some = some;
@@ -182,7 +192,8 @@ front-says clock c complete held out before now old new done items steps bytes s
         requests = count;
       });
     }
-front-says clock c complete held out before now old new done items steps bytes some front count steps_are after is (Err f) same put =
+front-says gives c complete held out before now old new done items steps bytes some front count steps_are after is
+    (Err f) same put =
     record {
       put = put.0;
       puts = put.2;
@@ -202,25 +213,29 @@ front-says clock c complete held out before now old new done items steps bytes s
     IsPrefix-behind first part all p =
         (p.0, ap (λ (l : List ℕ). first ++ l) p.1 ∙ sym (append_assoc first part p.0))
 
-asked-length : (clock : Moment → Type 0) (items : List Item) (asks : List Ask) → AreAsked clock items asks
+asked-length : (gives : Given → Type 0) (items : List Item) (asks : List Ask) → AreAsked gives items asks
     → length asks ≡ length items
-asked-length clock [] [] q = refl
-asked-length clock [] (ask ∷ asks) q = absurd q
-asked-length clock (item ∷ items) [] q = absurd q
-asked-length clock (item ∷ items) (ask ∷ asks) q = ap (λ (n : ℕ). suc n) (asked-length clock items asks q.1)
+asked-length gives [] [] q = refl
+asked-length gives [] (ask ∷ asks) q = absurd q
+asked-length gives (item ∷ items) [] q = absurd q
+asked-length gives (item ∷ items) (ask ∷ asks) q = ap (λ (n : ℕ). suc n) (asked-length gives items asks q.1)
 
 -- ---- what is known after the batch
 
-failed-after : (clock : Moment → Type 0) (c : Progress) (first last : ℕ) (old new : Known) (item : Item) (others : List Item)
-    (asks : List Ask) → AreAsked clock (item ∷ others) asks → IsFailedTurn c first last old new
-    → IsAfter c (failed_steps new.seen asks first last) (record { pass = old; read = c.totals }) (record { pass = new; read = c.totals })
-failed-after clock c first last old new item others [] q a = absurd q
-failed-after clock c first last old new item others (ask ∷ asks) q a =
+failed-after : (gives : Given → Type 0) (c : Progress) (first last : ℕ) (old new : Known) (item : Item)
+    (others : List Item) (asks : List Ask) → AreAsked gives (item ∷ others) asks → IsFailedTurn c first last old new
+    → IsAfter c (failed_steps new.seen asks first last) (record { pass = old; reader = c.totals })
+    (record { pass = new; reader = c.totals })
+failed-after gives c first last old new item others [] q a = absurd q
+failed-after gives c first last old new item others (ask ∷ asks) q a =
     let steps = failed_steps new.seen (ask ∷ asks) first last in
     let carried = failed-progress_after c new.seen first last ask asks in
     let count : (progress_after c steps).faults ≡ new.faults = carried.2 ∙ sym a.last in
     record {
-      within = record { seen = subst (λ (H : List Entry). IsPrefix H new.seen) (sym carried.0) (IsPrefix-refl new.seen); faults = omega arith };
+      within = record {
+        seen = subst (λ (H : List Entry). IsPrefix H new.seen) (sym carried.0) (IsPrefix-refl new.seen);
+        faults = omega arith;
+      };
       places =
           a.unanswered.mine ∙ sym (append-nil old.mine)
           ∙ ap (λ (l : List ℕ). old.mine ++ l) (sym (failed-places new.seen first last (ask ∷ asks)));
@@ -228,7 +243,8 @@ failed-after clock c first last old new item others (ask ∷ asks) q a =
     }
 
 uncalled-after : (c : Progress) (old new : Known) (asks : List Ask) → IsUnansweredTurn c old new → c.faults ≤ new.faults
-    → IsAfter c (uncalled_steps new.seen asks) (record { pass = old; read = c.totals }) (record { pass = new; read = c.totals })
+    → IsAfter c (uncalled_steps new.seen asks) (record { pass = old; reader = c.totals })
+    (record { pass = new; reader = c.totals })
 uncalled-after c old new asks a le =
     let steps = uncalled_steps new.seen asks in
     let carried = uncalled-progress_after c new.seen asks a.begins in
@@ -242,7 +258,7 @@ uncalled-after c old new asks a le =
 
 answered-after : (c : Progress) (old new : Known) (asks : List Ask) (answers : List Answer) (steps : List Step)
     (a : IsAnsweredTurn c asks answers old new) → AreAnsweredBy a.at asks answers steps → c.faults ≤ new.faults
-    → IsAfter c steps (record { pass = old; read = c.totals }) (record { pass = new; read = c.totals })
+    → IsAfter c steps (record { pass = old; reader = c.totals }) (record { pass = new; reader = c.totals })
 answered-after c old new asks answers steps a by le =
     let carried = answered-progress_after c a.at asks answers steps a.begins by in
     let count : (progress_after c steps).faults ≡ c.faults = carried.2 in
@@ -255,73 +271,80 @@ answered-after c old new asks answers steps a by le =
       counted = sym carried.1;
     }
 
-module _ {D : Type 0} (count : D → ℕ) (clock : Moment → Type 0) (c : Progress) (complete : Bool) (held : List ℕ) (out : Bool)
-    (before now : Option (List ℕ)) (old new : Known) (b : BatchState) where
-  by_turn : (is : IsBatch clock complete held b) → out ≡ is.first.interim → IsWithin c (mark_of old) → old.faults ≤ new.faults
+module _ {D : Type 0} (count : D → ℕ) (gives : Given → Type 0) (c : Progress) (complete : Bool) (held : List ℕ)
+    (out : Bool) (before now : Option (List ℕ)) (old new : Known) (b : BatchState)
+    (counts : (disk : D) → gives (at_count (count disk))) where
+  by_turn : (is : IsBatch gives complete held b) → out ≡ is.first.interim → IsWithin c (mark_of old)
+      → old.faults ≤ new.faults
       → (result : Result Answered ServeFault) → ((d : Answered) → result ≡ Ok d → d ≡ all_answered b)
-      → (turn : Result (List Answer) CallFault) → IsTurn count b.asks turn old new → TurnPut turn b.requests before now result
-      → FrontSays clock c complete held out before now (record { pass = old; read = c.totals })
-      (record { pass = new; read = c.totals }) result
+      → (turn : Result (List Answer) CallFault) → IsTurn count b.asks turn old new
+      → TurnPut turn b.requests before now result
+      → FrontSays gives c complete held out before now (record { pass = old; reader = c.totals })
+      (record { pass = new; reader = c.totals }) result
   by_turn is shown w le result same (Ok answers) t (ws, long, put) =
       let a = turn-answered count c b.asks answers old new w t in
       let steps = answered_steps a.at b.asks answers ws in
       let items = is.first ∷ is.others in
       let by = answered-by a.at b.asks answers ws a.answered long in
       let low = w.faults in
-      let g = answered-steps clock c a.at items b.asks answers steps is.asked a.begins a.answered by in
-      front-says clock c complete held out before now _ _ (all_answered b) items steps
+      let g = answered-steps gives c a.at items b.asks answers steps is.asked a.begins a.answered by in
+      front-says gives c complete held out before now _ _ (all_answered b) items steps
       (requests_bytes b.requests (farm_responses answers ws)) (omega arith) is.front
-      (asked-length clock items b.asks is.asked) g
+      (asked-length gives items b.asks is.asked) g
       (answered-after c old new b.asks answers steps a by (omega arith))
-      (steps-put clock c out is.first is.others b.requests steps (farm_responses answers ws) shown g is.put_as is.at_once
-      (answered-say a.at b.asks answers ws a.answered long)) result same put
+      (steps-put gives c out is.first is.others b.requests steps (farm_responses answers ws) shown g is.put_as
+      is.at_once (answered-say a.at b.asks answers ws a.answered long)) result same put
   by_turn is shown w le result same (Err (fault.Refused cause)) t put = absurd put
   by_turn is shown w le result same (Err (fault.StoreFault first last)) t put =
       let a = turn-failed count c b.asks first last old new w t in
       let items = is.first ∷ is.others in
       let steps = failed_steps new.seen b.asks first last in
       let responses = map (λ (request : Request). store_fault) b.requests in
-      let each = put_as-length items b.requests is.put_as ∙ sym (asked-length clock items b.asks is.asked) in
+      let each = put_as-length items b.requests is.put_as ∙ sym (asked-length gives items b.asks is.asked) in
       let g =
-      failed-steps clock c new.seen first last is.first is.others b.asks is.asked is.at_once is.few a.unanswered.begins
-      a.first a.rose in
-      front-says clock c complete held out before now _ _ (all_answered b) items steps (requests_bytes b.requests responses)
-      (omega arith) is.front (asked-length clock items b.asks is.asked) g
-      (failed-after clock c first last old new is.first is.others b.asks is.asked a)
-      (steps-put clock c out is.first is.others b.requests steps responses shown g is.put_as is.at_once
+      failed-steps gives c new.seen first last is.first is.others b.asks is.asked is.at_once is.few a.unanswered.begins
+      a.first a.rose (subst (λ (n : ℕ). gives (at_count n)) (sym t.cause.0) (counts t.found.disk))
+      (subst (λ (n : ℕ). gives (at_count n)) (sym t.cause.1) (counts t.left.disk)) in
+      front-says gives c complete held out before now _ _ (all_answered b) items steps
+      (requests_bytes b.requests responses) (omega arith) is.front (asked-length gives items b.asks is.asked) g
+      (failed-after gives c first last old new is.first is.others b.asks is.asked a)
+      (steps-put gives c out is.first is.others b.requests steps responses shown g is.put_as is.at_once
       (failed-say b.requests new.seen b.asks first last each)) result same put
   by_turn is shown w le result same (Err fault.Memory) t put =
       let a = turn-uncalled count c b.asks old new w t in
       let items = is.first ∷ is.others in
       let steps = uncalled_steps new.seen b.asks in
       let responses = map (λ (request : Request). no_memory) b.requests in
-      let each = put_as-length items b.requests is.put_as ∙ sym (asked-length clock items b.asks is.asked) in
+      let each = put_as-length items b.requests is.put_as ∙ sym (asked-length gives items b.asks is.asked) in
       let low = w.faults in
-      let g = uncalled-steps clock c new.seen items b.asks is.asked a.begins in
-      front-says clock c complete held out before now _ _ (all_answered b) items steps (requests_bytes b.requests responses)
-      (omega arith) is.front (asked-length clock items b.asks is.asked) g (uncalled-after c old new b.asks a (omega arith))
-      (steps-put clock c out is.first is.others b.requests steps responses shown g is.put_as is.at_once
+      let g = uncalled-steps gives c new.seen items b.asks is.asked a.begins in
+      front-says gives c complete held out before now _ _ (all_answered b) items steps
+      (requests_bytes b.requests responses) (omega arith) is.front (asked-length gives items b.asks is.asked) g
+      (uncalled-after c old new b.asks a (omega arith))
+      (steps-put gives c out is.first is.others b.requests steps responses shown g is.put_as is.at_once
       (alike-say b.requests b.asks (λ (ask : Ask). record { outcome = uncalled new.seen ask; written = true }) no_memory
       (λ ask. refl) each)) result same put
 
   -- what answering a batch at one turn came to
-  pub batch-says : (is : IsBatch clock complete held b) → out ≡ is.first.interim → IsWithin c (mark_of old)
+  pub batch-says : (is : IsBatch gives complete held b) → out ≡ is.first.interim → IsWithin c (mark_of old)
       → old.faults ≤ new.faults → (result : Result Answered ServeFault)
       → ((d : Answered) → result ≡ Ok d → d ≡ all_answered b)
       → IsBatchPut count b.asks b.requests old new before now result
-      → FrontSays clock c complete held out before now (record { pass = old; read = c.totals })
-      (record { pass = new; read = c.totals }) result
+      → FrontSays gives c complete held out before now (record { pass = old; reader = c.totals })
+      (record { pass = new; reader = c.totals }) result
   batch-says is shown w le result same p = by_turn is shown w le result same p.turn p.had p.put
 
 -- what a batch's turn came to, where its answers were put or a put failed, as the answer that tells of it
-turn-put_ok : (turn : Result (List Answer) CallFault) (requests : List Request) (before now : Option (List ℕ)) (d : Answered)
+turn-put_ok : (turn : Result (List Answer) CallFault) (requests : List Request) (before now : Option (List ℕ))
+    (d : Answered)
     → TurnPut {T = Unit {0}} turn requests before now (Ok tt) → TurnPut {T = Answered} turn requests before now (Ok d)
 turn-put_ok (Ok answers) requests before now d t = t
 turn-put_ok (Err (fault.Refused cause)) requests before now d t = absurd t
 turn-put_ok (Err (fault.StoreFault first last)) requests before now d t = t
 turn-put_ok (Err fault.Memory) requests before now d t = t
 
-turn-put_err : (turn : Result (List Answer) CallFault) (requests : List Request) (before now : Option (List ℕ)) (f e : ServeFault)
+turn-put_err : (turn : Result (List Answer) CallFault) (requests : List Request) (before now : Option (List ℕ))
+    (f e : ServeFault)
     → TurnPut {T = Unit {0}} turn requests before now (Err f) → TurnPut {T = Answered} turn requests before now (Err e)
 turn-put_err (Ok answers) requests before now f e t = t
 turn-put_err (Err (fault.Refused cause)) requests before now f e t = absurd t
@@ -329,7 +352,8 @@ turn-put_err (Err (fault.StoreFault first last)) requests before now f e t = t
 turn-put_err (Err fault.Memory) requests before now f e t = t
 
 pub batch-put_ok : {D : Type 0} (count : D → ℕ) (asks : List Ask) (requests : List Request) (old new : Known)
-    (before now : Option (List ℕ)) (d : Answered) (u : Unit {0}) → IsBatchPut {D = D} {T = Unit {0}} count asks requests old new before now (Ok u)
+    (before now : Option (List ℕ)) (d : Answered) (u : Unit {0})
+    → IsBatchPut {D = D} {T = Unit {0}} count asks requests old new before now (Ok u)
     → IsBatchPut {D = D} {T = Answered} count asks requests old new before now (Ok d)
 batch-put_ok count asks requests old new before now d u p = record {
   turn = p.turn;

@@ -5,14 +5,14 @@ use Rattle.std.specs.List.{All}
 use Rattle.connection_laws.specs.Progress.{decision_on}
 use Rattle.connection_laws.proofs.Batches.{history_after-longer}
 use Rattle.connection_laws.proofs.Progress.{after-longer}
-use Rattle.farm_answers.specs.Texts.{AnswerHasDates}
-use Rattle.farm_answers.proofs.Answers.{answer-dates}
+use Rattle.farm_wire.specs.Answers.{AnswerHasDates}
+use Rattle.farm_wire.proofs.Answers.{answer-dates}
 use Rattle.farm_entry.specs.Legal.{IsLegal}
 use Rattle.farm_entry.specs.Playing.{after}
 use Rattle.farm_entry.specs.declared.entry.Entry.{Entry}
 use Rattle.farm_laws.proofs.Induct.{IsLegal-first}
 use Rattle.farm_store.specs.Answering.{AreAnswers, history_after}
-use Rattle.farm_store.specs.declared.asking.Answer.{Answer}
+use Rattle.farm_entry.specs.declared.answer.Answer.{Answer}
 use Rattle.farm_store.specs.declared.asking.Ask.{Ask}
 use Rattle.list_prefix.specs.Prefix.{IsPrefix}
 use Rattle.shared_farm.specs.Turns.{IsTurn}
@@ -23,7 +23,8 @@ use Rattle.farm_http.proofs.Turns.{repaired-longer}
 longer-busy : (H L : List Entry) → IsPrefix H L → H ≢ [] → L ≢ []
 longer-busy [] L p busy none = busy refl
 longer-busy (e ∷ H) L p busy none =
-    let same : length L ≡ length (e ∷ H) + length p.0 = ap (λ (l : List Entry). length l) p.1 ∙ length-append (e ∷ H) p.0 in
+    let same : length L ≡ length (e ∷ H) + length p.0 = ap (λ (l : List Entry). length l) p.1
+    ∙ length-append (e ∷ H) p.0 in
     let empty : length L ≡ 0 = ap (λ (l : List Entry). length l) none in
     absurd (omega arith)
 
@@ -46,7 +47,8 @@ answers-dates H (ask ∷ asks) (a ∷ answers) busy x legal =
     (answers-dates left asks answers there x.1 legal)
 
 -- there is an answer to each ask
-answers-length : (H : List Entry) (asks : List Ask) (answers : List Answer) → AreAnswers H asks answers → length answers ≡ length asks
+answers-length : (H : List Entry) (asks : List Ask) (answers : List Answer) → AreAnswers H asks answers
+    → length answers ≡ length asks
 answers-length H [] [] x = refl
 answers-length H [] (a ∷ answers) x = absurd x
 answers-length H (ask ∷ asks) [] x = absurd x
@@ -56,7 +58,8 @@ answers-length H (ask ∷ asks) (a ∷ answers) x =
 -- a legal history isn't empty
 legal-busy : (H : List Entry) → IsLegal H → H ≢ []
 legal-busy [] legal none = legal
-legal-busy (e ∷ H) legal none = let empty : length (e ∷ H) ≡ 0 = ap (λ (l : List Entry). length l) none in absurd (omega arith)
+legal-busy (e ∷ H) legal none = let empty : length (e ∷ H) ≡ 0 = ap (λ (l : List Entry). length l) none in absurd
+    (omega arith)
 
 module _ {D : Type 0} (count : D → ℕ) (asks : List Ask) (answers : List Answer) (old new : Known) where
   -- a turn answers each of its asks

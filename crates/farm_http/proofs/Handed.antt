@@ -10,13 +10,15 @@ use Rattle.farm_http.specs.declared.front.Answered.{Answered}
 use Rattle.farm_http.proofs.Single.{one_answered}
 
 -- a fault that is handed on came of the same puts
-pub put-handed : (Q : ServeFault → Type 0) (all : List ℕ) (before now : Option (List ℕ)) (r : Result Answered ServeFault)
+pub put-handed : (Q : ServeFault → Type 0) (all : List ℕ) (before now : Option (List ℕ))
+    (r : Result Answered ServeFault)
     → IsErrAnd r Q → (part : List ℕ) × IsPrefix part all × (now ≡ append_known before part) → PutSays all before now r
 put-handed Q all before now (Ok d) failed put = absurd failed
 put-handed Q all before now (Err other) failed put = put
 
 -- nothing is answered then
-pub none-answered : (Q : ServeFault → Type 0) (request : Request) (r : Result Answered ServeFault) → IsErrAnd r Q → (d : Answered)
+pub none-answered : (Q : ServeFault → Type 0) (request : Request) (r : Result Answered ServeFault) → IsErrAnd r Q
+    → (d : Answered)
     → r ≡ Ok d → d ≡ one_answered request
 none-answered Q request (Ok a) failed d is = absurd failed
 none-answered Q request (Err other) failed d is = let bad : ⊥ = cc in absurd bad

@@ -5,6 +5,7 @@ pub mod Gathering
 pub mod Dates
 pub mod Puts
 pub mod Asked
+pub mod Stops
 pub mod Work
 pub mod Receiving
 pub mod Single

@@ -8,7 +8,7 @@ use Rattle.connection_laws.specs.Outcomes.{Step, copied}
 use Rattle.connection_laws.specs.Progress.{Progress, IsWithin}
 use Rattle.connection_laws.specs.declared.served.ServeFault.{ServeFault}
 use Rattle.decimal_text.specs.Decimals.{number}
-use Rattle.farm_types.specs.declared.moment.Moment.{Moment}
+use Rattle.connection_laws.specs.Moments.{Given}
 use Rattle.http_requests.specs.Items.{Item, IsNext, body_of, head_size, item_by, item_of}
 use Rattle.http_requests.specs.Next.{IsNextFor, item_in}
 use Rattle.http_requests.specs.declared.request.Request.{Request}
@@ -53,7 +53,8 @@ path-number : (text : List ℕ) (m : ℕ) → path_number text ≡ Some m → 1 
 unfolding path_number
 path-number text m e = one-number (number text) m e
 
-log-numbered : (name : PathField) (o : Option ℕ) → ((m : ℕ) → o ≡ Some m → 1 ≤ m) → IsFromOne (numbered name endpoint.Log o)
+log-numbered : (name : PathField) (o : Option ℕ) → ((m : ℕ) → o ≡ Some m → 1 ≤ m)
+    → IsFromOne (numbered name endpoint.Log o)
 log-numbered name None some = tt
 log-numbered name (Some n) some = some n refl
 
@@ -80,7 +81,8 @@ row-from false row text f = tt
 
 by-from : (o : Option Page) (text method : List ℕ) → IsFromOne (endpoint_by o text method)
 by-from None text method = tt
-by-from (Some row) text method = row-from (allows (allow_of row) method) row text (fault.MethodNotAllowed (allow_of row))
+by-from (Some row) text method = row-from (allows (allow_of row) method) row text
+    (fault.MethodNotAllowed (allow_of row))
 
 endpoint-from : (method target : List ℕ) → IsFromOne (endpoint_of method target)
 unfolding endpoint_of
@@ -99,7 +101,8 @@ unfolding item_of
 item_of-from head rest = item_by-from head rest (body_of head)
 
 next-from : (held : List ℕ) (item : Item) → IsNext held item → IsFromOne item.asks
-next-from held item (inl x) = subst (λ (i : Item). IsFromOne i.asks) (sym x.item_is) (item_of-from x.head (drop (head_size x.head) held))
+next-from held item (inl x) = subst (λ (i : Item). IsFromOne i.asks) (sym x.item_is)
+    (item_of-from x.head (drop (head_size x.head) held))
 next-from held item (inr x) = subst (λ (i : Item). IsFromOne i.asks) (sym x.item_is) tt
 
 pub log-from : (complete : Bool) (held : List ℕ) (request : Request) (from : ℕ) → IsNextFor complete held request
@@ -110,18 +113,21 @@ log-from complete held request from next asks =
 
 -- ---- a page of a history that begins with what was seen
 
-pub copied-says : (clock : Moment → Type 0) (c : Progress) (complete : Bool) (held : List ℕ) (out : Bool)
+pub copied-says : (gives : Given → Type 0) (c : Progress) (complete : Bool) (held : List ℕ) (out : Bool)
     (before now : Option (List ℕ)) (old new : Known) (request : Request) (from : ℕ) (w : Bool)
     → IsNextFor complete held request → out ≡ request.interim → IsWithin c (mark_of old)
     → request.asks ≡ Ok (endpoint.Log from) → IsPrefix old.seen new.seen → new.mine ≡ old.mine → old.faults ≤ new.faults
     → (result : Result Answered ServeFault) → ((d : Answered) → result ≡ Ok d → d ≡ one_answered request)
-    → PutSays (request_bytes request (response_of (record { outcome = copied new.seen from; written = w }))) before now result
-    → FrontSays clock c complete held out before now (record { pass = old; read = c.totals }) (record { pass = new; read = c.totals }) result
-copied-says clock c complete held out before now old new request from w next shown within asks longer mine more result same put =
+    → PutSays (request_bytes request (response_of (record { outcome = copied new.seen from; written = w }))) before now
+    result
+    → FrontSays gives c complete held out before now (record { pass = old; reader = c.totals })
+    (record { pass = new; reader = c.totals }) result
+copied-says gives c complete held out before now old new request from w next shown within asks longer mine more result
+    same put =
     let low = within.faults in
     let step : Step = record { outcome = copied new.seen from; written = w } in
-    front-single clock c complete held out before now (record { pass = old; read = c.totals }) (record { pass = new; read = c.totals })
-    request step (response_of step) next shown (
+    front-single gives c complete held out before now (record { pass = old; reader = c.totals })
+    (record { pass = new; reader = c.totals }) request step (response_of step) next shown (
       record {
         asked = ap (λ (a : Result Endpoint Fault). kind_by a (item_in held request).body) asks;
         begins = IsPrefix-trans c.seen old.seen new.seen within.seen longer;

@@ -5,9 +5,9 @@ use Rattle.std.proofs.lemmas.List.{length-drop, length-map, length-take-le, map-
 use Rattle.std.specs.Io.KnownBytes.{append_known}
 use Rattle.connection_laws.specs.Answers.{Response}
 use Rattle.connection_laws.specs.declared.served.ServeFault.{ServeFault}
-use Rattle.farm_store.specs.declared.asking.Answer.{Answer}
+use Rattle.farm_entry.specs.declared.answer.Answer.{Answer}
 use Rattle.http_requests.specs.declared.request.Request.{Request}
-use Rattle.link_io.proofs.Told.{append_known-append, append_known-nil}
+use Rattle.link_io.proofs.Told.{append_known-append}
 use Rattle.list_prefix.specs.Prefix.{IsPrefix}
 use Rattle.list_prefix.proofs.Prefixes.{IsPrefix-trans}
 use Rattle.farm_http.specs.Bytes.{OutState, IsGathered, IsCutOff, OutSays, PutSays, farm_response, farm_responses, request_bytes, requests_bytes}
@@ -17,19 +17,24 @@ use Rattle.farm_http.specs.Bytes.{OutState, IsGathered, IsCutOff, OutSays, PutSa
 -- the answers to more requests stand behind those before them
 pub requests_bytes-append : (requests more : List Request) (responses others : List Response)
     → length requests ≡ length responses
-    → requests_bytes (requests ++ more) (responses ++ others) ≡ requests_bytes requests responses ++ requests_bytes more others
+    → requests_bytes (requests ++ more) (responses ++ others)
+    ≡ requests_bytes requests responses ++ requests_bytes more others
 requests_bytes-append [] more [] others same = refl
 requests_bytes-append [] more (r ∷ responses) others same = absurd (omega arith)
 requests_bytes-append (request ∷ requests) more [] others same = absurd (omega arith)
 requests_bytes-append (request ∷ requests) more (r ∷ responses) others same =
-    ap (λ (l : List ℕ). request_bytes request r ++ l) (requests_bytes-append requests more responses others (omega arith))
+    ap (λ (l : List ℕ). request_bytes request r ++ l) (requests_bytes-append requests more responses others
+    (omega arith))
     ∙ sym (append_assoc (request_bytes request r) (requests_bytes requests responses) (requests_bytes more others))
 
 -- what is put of them before one of the requests, with its answer, begins the whole
-pub record IsOneMore (requests : List Request) (place : ℕ) (request : Request) (before : List Response) (r : Response) : Type 0 where
-  pub next : requests_bytes (take (place + 1) requests) (before ++ r ∷ []) ≡ requests_bytes (take place requests) before ++ request_bytes request r
+pub record IsOneMore (requests : List Request) (place : ℕ) (request : Request) (before : List Response) (r : Response) :
+    Type 0 where
+  pub next : requests_bytes (take (place + 1) requests) (before ++ r ∷ [])
+      ≡ requests_bytes (take place requests) before ++ request_bytes request r
   pub begins : (others : List Response)
-      → IsPrefix (requests_bytes (take place requests) before ++ request_bytes request r) (requests_bytes requests (before ++ r ∷ others))
+      → IsPrefix (requests_bytes (take place requests) before ++ request_bytes request r)
+      (requests_bytes requests (before ++ r ∷ others))
 
 pub one-more : (requests : List Request) (place : ℕ) (d : Request) (before : List Response) (r : Response)
     → place < length requests → length before ≡ place → IsOneMore requests place (get_or requests place d) before r
@@ -74,16 +79,9 @@ farm_responses-length (a ∷ answers) (w ∷ ws) same =
 
 -- ---- what is out and what is gathered
 
--- nothing was put yet
-pub gathered-none : (s : OutState) → IsGathered [] s s
-gathered-none s = record {
-  out = [];
-  sent = sym (append_known-nil s.sent);
-  rest = append-nil s.held;
-}
-
 -- bytes put behind those before them
-pub gathered-append : (first second : List ℕ) (old mid new : OutState) → IsGathered first old mid → IsGathered second mid new
+pub gathered-append : (first second : List ℕ) (old mid new : OutState) → IsGathered first old mid
+    → IsGathered second mid new
     → IsGathered (first ++ second) old new
 gathered-append first second old mid new a b = record {
   out = a.out ++ b.out;
@@ -101,7 +99,8 @@ gathered-append first second old mid new a b = record {
     held-append : (first second : List ℕ) (old mid : OutState) (out : List ℕ) → old.held ++ first ≡ out ++ mid.held
         → old.held ++ (first ++ second) ≡ out ++ (mid.held ++ second)
     held-append first second old mid out is =
-        sym (append_assoc old.held first second) ∙ ap (λ (l : List ℕ). l ++ second) is ∙ append_assoc out mid.held second
+        sym (append_assoc old.held first second) ∙ ap (λ (l : List ℕ). l ++ second) is
+        ∙ append_assoc out mid.held second
 
 -- a put that failed behind those before it
 pub gathered-cut : (first second : List ℕ) (old mid new : OutState) → IsGathered first old mid → IsCutOff second mid new
@@ -119,7 +118,8 @@ gathered-cut first second old mid new a b = record {
 }
 
 -- it failed before more bytes too
-pub cut-more : (first all : List ℕ) (old new : OutState) → IsPrefix first all → IsCutOff first old new → IsCutOff all old new
+pub cut-more : (first all : List ℕ) (old new : OutState) → IsPrefix first all → IsCutOff first old new
+    → IsCutOff all old new
 cut-more first all old new p a = record {
   out = a.out;
   sent = a.sent;
@@ -138,7 +138,8 @@ pub put-all : (all : List ℕ) (old new : OutState) → IsGathered all old new �
 put-all all old new a none empty =
     a.sent
     ∙ ap (λ (l : List ℕ). append_known old.sent l)
-    (sym (append-nil a.out) ∙ ap (λ (l : List ℕ). a.out ++ l) (sym empty) ∙ sym a.rest ∙ ap (λ (l : List ℕ). l ++ all) none)
+    (sym (append-nil a.out) ∙ ap (λ (l : List ℕ). a.out ++ l) (sym empty) ∙ sym a.rest
+    ∙ ap (λ (l : List ℕ). l ++ all) none)
 
 pub put-part : (all : List ℕ) (old new : OutState) → IsCutOff all old new → old.held ≡ []
     → (part : List ℕ) × IsPrefix part all × (new.sent ≡ append_known old.sent part)
@@ -183,7 +184,8 @@ put-itself all bytes first old mid new same is a none kept put =
     let b : IsGathered all mid new = record {
       out = all;
       sent = put ∙ ap (λ (l : List ℕ). append_known mid.sent l) same;
-      rest = ap (λ (l : List ℕ). l ++ all) none ∙ sym (append-nil all) ∙ ap (λ (l : List ℕ). all ++ l) (sym none ∙ sym kept);
+      rest = ap (λ (l : List ℕ). l ++ all) none ∙ sym (append-nil all)
+          ∙ ap (λ (l : List ℕ). all ++ l) (sym none ∙ sym kept);
     } in
     gathered-append [] all old mid new
     (subst (λ (l : List ℕ). IsGathered [] (record { sent = old.sent; held = l }) mid) is a) b
@@ -217,7 +219,8 @@ alike-whole : (requests : List Request) (place : ℕ) (d : Request) (r : Respons
     → alike r requests ≡ alike r (take place requests) ++ r ∷ alike r (drop (suc place) requests)
 alike-whole requests place d r inside =
     ap (λ (l : List Request). alike r l)
-    (sym (take-append-drop place requests) ∙ ap (λ (l : List Request). take place requests ++ l) (drop-cons requests place d inside))
+    (sym (take-append-drop place requests) ∙ ap (λ (l : List Request). take place requests ++ l)
+    (drop-cons requests place d inside))
     ∙ map-append (λ (_ : Request). r) (take place requests) (get_or requests place d ∷ drop (suc place) requests)
 
 alike-length : (requests : List Request) (place : ℕ) (r : Response) → place ≤ length requests
@@ -236,21 +239,26 @@ module _ (requests : List Request) (place : ℕ) (r : Response) (old mid : OutSt
       let one = one-more requests place d before r inside (alike-length requests place r (omega arith)) in
       let all : requests_bytes (take (place + 1) requests) (alike r (take (place + 1) requests))
       ≡ requests_bytes (take place requests) before ++ request_bytes (get_or requests place d) r =
-      ap (λ (l : List Response). requests_bytes (take (place + 1) requests) l) (alike-more requests place d r inside) ∙ one.next in
+      ap (λ (l : List Response). requests_bytes (take (place + 1) requests) l) (alike-more requests place d r inside)
+      ∙ one.next in
       subst (λ (l : List ℕ). IsGathered l old new) (sym all)
-      (gathered-append (requests_bytes (take place requests) before) (request_bytes (get_or requests place d) r) old mid new a b)
+      (gathered-append (requests_bytes (take place requests) before) (request_bytes (get_or requests place d) r) old mid
+      new a b)
 
   -- or it was cut off
   pub alike-stop : (d : Request) (new : OutState) → place < length requests
       → IsGathered (requests_bytes (take place requests) (alike r (take place requests))) old mid
-      → IsCutOff (request_bytes (get_or requests place d) r) mid new → IsCutOff (requests_bytes requests (alike r requests)) old new
+      → IsCutOff (request_bytes (get_or requests place d) r) mid new
+      → IsCutOff (requests_bytes requests (alike r requests)) old new
   alike-stop d new inside a b =
       let before = alike r (take place requests) in
       let one = one-more requests place d before r inside (alike-length requests place r (omega arith)) in
-      subst (λ (l : List Response). IsCutOff (requests_bytes requests l) old new) (sym (alike-whole requests place d r inside))
+      subst (λ (l : List Response). IsCutOff (requests_bytes requests l) old new)
+      (sym (alike-whole requests place d r inside))
       (cut-more _ (requests_bytes requests (before ++ r ∷ alike r (drop (suc place) requests))) old new
       (one.begins (alike r (drop (suc place) requests)))
-      (gathered-cut (requests_bytes (take place requests) before) (request_bytes (get_or requests place d) r) old mid new a b))
+      (gathered-cut (requests_bytes (take place requests) before) (request_bytes (get_or requests place d) r) old mid
+      new a b))
 
   -- all answers are gathered
   pub alike-all : length requests ≤ place
@@ -273,14 +281,14 @@ pub record AreCutOff (requests : List Request) (answers : List Answer) (old new 
   pub count : length written ≡ length answers
   pub cut : IsCutOff (requests_bytes requests (farm_responses answers written)) old new
 
-pub answers-none : (requests : List Request) (answers : List Answer) (s : OutState) → AreGathered requests answers 0 s s
-answers-none requests answers s = record { written = []; count = refl; gathered = gathered-none s }
-
-module _ (requests : List Request) (answers : List Answer) (place : ℕ) (old mid : OutState) (same : length answers ≡ length requests) where
-  taken-length : (written : List Bool) → length written ≡ place → place ≤ length requests → length (take place answers) ≡ length written
+module _ (requests : List Request) (answers : List Answer) (place : ℕ) (old mid : OutState)
+    (same : length answers ≡ length requests) where
+  taken-length : (written : List Bool) → length written ≡ place → place ≤ length requests
+      → length (take place answers) ≡ length written
   taken-length written count within = length-take-le place answers (omega arith) ∙ sym count
 
-  pub answers-step : (d : Request) (e : Answer) (w : Bool) (new : OutState) → e ≡ get_or answers place e → place < length requests
+  pub answers-step : (d : Request) (e : Answer) (w : Bool) (new : OutState) → e ≡ get_or answers place e
+      → place < length requests
       → AreGathered requests answers place old mid
       → IsGathered (request_bytes (get_or requests place d) (farm_response e w)) mid new
       → AreGathered requests answers (place + 1) old new
@@ -288,7 +296,8 @@ module _ (requests : List Request) (answers : List Answer) (place : ℕ) (old mi
       let r = farm_response e w in
       let before = farm_responses (take place answers) a.written in
       let long = taken-length a.written a.count (omega arith) in
-      let one = one-more requests place d before r inside (farm_responses-length (take place answers) a.written long ∙ a.count) in
+      let one = one-more requests place d before r inside
+      (farm_responses-length (take place answers) a.written long ∙ a.count) in
       let there : place < length answers = omega arith in
       let more : farm_responses (take (place + 1) answers) (a.written ++ w ∷ []) ≡ before ++ r ∷ [] =
       ap (λ (l : List Answer). farm_responses l (a.written ++ w ∷ [])) (take_more answers place e there)
@@ -301,10 +310,12 @@ module _ (requests : List Request) (answers : List Answer) (place : ℕ) (old mi
         count = omega (arith, length-append a.written (w ∷ []));
         gathered =
             subst (λ (l : List ℕ). IsGathered l old new) (sym all)
-            (gathered-append (requests_bytes (take place requests) before) (request_bytes (get_or requests place d) r) old mid new a.gathered b);
+            (gathered-append (requests_bytes (take place requests) before) (request_bytes (get_or requests place d) r)
+            old mid new a.gathered b);
       }
 
-  pub answers-stop : (d : Request) (e : Answer) (w : Bool) (new : OutState) → e ≡ get_or answers place e → place < length requests
+  pub answers-stop : (d : Request) (e : Answer) (w : Bool) (new : OutState) → e ≡ get_or answers place e
+      → place < length requests
       → AreGathered requests answers place old mid
       → IsCutOff (request_bytes (get_or requests place d) (farm_response e w)) mid new
       → AreCutOff requests answers old new
@@ -312,12 +323,14 @@ module _ (requests : List Request) (answers : List Answer) (place : ℕ) (old mi
       let r = farm_response e w in
       let before = farm_responses (take place answers) a.written in
       let long = taken-length a.written a.count (omega arith) in
-      let one = one-more requests place d before r inside (farm_responses-length (take place answers) a.written long ∙ a.count) in
+      let one = one-more requests place d before r inside
+      (farm_responses-length (take place answers) a.written long ∙ a.count) in
       let there : place < length answers = omega arith in
       let rest = drop (suc place) answers in
       let others = map (λ (_ : Answer). true) rest in
       let whole : answers ≡ take place answers ++ get_or answers place e ∷ rest =
-      sym (take-append-drop place answers) ∙ ap (λ (l : List Answer). take place answers ++ l) (drop-cons answers place e there) in
+      sym (take-append-drop place answers) ∙ ap (λ (l : List Answer). take place answers ++ l)
+      (drop-cons answers place e there) in
       let said : farm_responses answers (a.written ++ w ∷ others) ≡ before ++ r ∷ farm_responses rest others =
       ap (λ (l : List Answer). farm_responses l (a.written ++ w ∷ others)) whole
       ∙ farm_responses-append (take place answers) (get_or answers place e ∷ rest) a.written (w ∷ others) long
@@ -334,27 +347,37 @@ module _ (requests : List Request) (answers : List Answer) (place : ℕ) (old mi
             );
         cut =
             subst (λ (l : List Response). IsCutOff (requests_bytes requests l) old new) (sym said)
-            (cut-more _ (requests_bytes requests (before ++ r ∷ farm_responses rest others)) old new (one.begins (farm_responses rest others))
-            (gathered-cut (requests_bytes (take place requests) before) (request_bytes (get_or requests place d) r) old mid new a.gathered b));
+            (cut-more _ (requests_bytes requests (before ++ r ∷ farm_responses rest others)) old new
+            (one.begins (farm_responses rest others))
+            (gathered-cut (requests_bytes (take place requests) before) (request_bytes (get_or requests place d) r) old
+            mid new a.gathered b));
       }
 
   -- all were gathered and then put out
-  pub answers-out : {T : Type 0} (new : OutState) (result : Result T ServeFault) → length requests ≤ place → place ≤ length requests
-      → AreGathered requests answers place old mid → OutSays [] mid new result → old.held ≡ [] → OnOk result (new.held ≡ [])
+  pub answers-out : {T : Type 0} (new : OutState) (result : Result T ServeFault) → length requests ≤ place
+      → place ≤ length requests
+      → AreGathered requests answers place old mid → OutSays [] mid new result → old.held ≡ []
+      → OnOk result (new.held ≡ [])
       → (written : List Bool) × (length written ≡ length answers)
       × PutSays (requests_bytes requests (farm_responses answers written)) old.sent new.sent result
   answers-out new result past within a b none empty =
       let count = a.count in
       let all : IsGathered (requests_bytes requests (farm_responses answers a.written)) old mid =
-      subst (λ (l : List Request). IsGathered (requests_bytes l (farm_responses answers a.written)) old mid) (take_all place requests past)
-      (subst (λ (l : List Answer). IsGathered (requests_bytes (take place requests) (farm_responses l a.written)) old mid)
-      (take_all place answers (omega arith)) a.gathered) in
+      subst (λ (l : List Request). IsGathered (requests_bytes l (farm_responses answers a.written)) old mid)
+      (take_all place requests past)
+      (subst (λ (l : List Answer). IsGathered (requests_bytes (take place requests) (farm_responses l a.written)) old
+      mid) (take_all place answers (omega arith)) a.gathered) in
       (a.written, omega arith, puts-out _ old mid new result all b none empty)
 
 -- a fault while they are put
-pub answers-cut : {T : Type 0} (requests : List Request) (answers : List Answer) (old new : OutState) (result : Result T ServeFault)
+pub answers-cut : {T : Type 0} (requests : List Request) (answers : List Answer) (old new : OutState)
+    (result : Result T ServeFault)
     (f : ServeFault) → result ≡ Err f → AreCutOff requests answers old new → old.held ≡ []
     → (written : List Bool) × (length written ≡ length answers)
     × PutSays (requests_bytes requests (farm_responses answers written)) old.sent new.sent result
-answers-cut requests answers old new result f is a none =
-    (a.written, a.count, cut-put (requests_bytes requests (farm_responses answers a.written)) old new result f is a.cut none)
+answers-cut requests answers old new result f is a none = (
+  a.written,
+  a.count,
+  cut-put (requests_bytes requests (farm_responses answers a.written)) old new result f is a.cut
+      none,
+)

@@ -10,7 +10,7 @@ use Rattle.connection_laws.specs.declared.served.ServeFault.{ServeFault}
 use Rattle.farm_entry.specs.Legal.{IsLegal}
 use Rattle.farm_entry.specs.declared.command.Command.{Command}
 use Rattle.farm_entry.specs.declared.entry.Entry.{Entry}
-use Rattle.farm_types.specs.declared.moment.Moment.{Moment}
+use Rattle.connection_laws.specs.Moments.{Given}
 use Rattle.farm_wire.specs.Reading.{body_reading}
 use Rattle.farm_wire.specs.declared.fault.WireFault.{WireFault}
 use Rattle.farm_wire.specs.declared.fault.WireFault.TheVariants as wire
@@ -26,36 +26,41 @@ use Rattle.list_prefix.specs.Prefix.{IsPrefix}
 use Rattle.turn_lock.specs.Known.{Known}
 use Rattle.farm_http.specs.Batches.{BatchState, IsBatch, all_answered}
 use Rattle.farm_http.specs.Bytes.{PutSays, request_bytes}
-use Rattle.farm_http.specs.Callers.{Caller, IsAfter, mark_of}
+use Rattle.farm_http.specs.Callers.{IsAfter, mark_of}
+use Rattle.farm_http.specs.declared.caller.Caller.{Caller}
 use Rattle.farm_http.specs.Fronts.{FrontSays}
 use Rattle.farm_http.specs.declared.front.Answered.{Answered}
 use Rattle.farm_http.proofs.BatchSteps.{front-says, front-stands, items-put}
 use Rattle.farm_http.proofs.Gathering.{front-one, next-here}
 
 -- a request that doesn't close takes a byte or more
-pub next-bytes : (complete : Bool) (held : List ℕ) (request : Request) → IsNextFor complete held request → request.closes ≡ false
+pub next-bytes : (complete : Bool) (held : List ℕ) (request : Request) → IsNextFor complete held request
+    → request.closes ≡ false
     → 0 < request.size
-next-bytes complete held request n open_ = open-some held (item_in held request) (next-here complete held request n) open_
+next-bytes complete held request n open_ = open-some held (item_in held request) (next-here complete held request n)
+    open_
 
 -- what answering it comes to
 abbrev pub one_answered : Request → Answered
 one_answered request = record { requests = 1; size = request.size; closes = request.closes }
 
 -- The request came to a step, and its answer was put, or a part of it.
-pub front-single : (clock : Moment → Type 0) (c : Progress) (complete : Bool) (held : List ℕ) (out : Bool)
+pub front-single : (gives : Given → Type 0) (c : Progress) (complete : Bool) (held : List ℕ) (out : Bool)
     (before now : Option (List ℕ)) (old new : Caller) (request : Request) (step : Step) (r : Response)
-    → IsNextFor complete held request → out ≡ request.interim → IsStep clock c (item_in held request) step
+    → IsNextFor complete held request → out ≡ request.interim → IsStep gives c (item_in held request) step
     → IsAfter c (step ∷ []) old new → response_of step ≡ r → (result : Result Answered ServeFault)
     → ((d : Answered) → result ≡ Ok d → d ≡ one_answered request) → PutSays (request_bytes request r) before now result
-    → FrontSays clock c complete held out before now old new result
-front-single clock c complete held out before now old new request step r n shown is_step after said result same put =
+    → FrontSays gives c complete held out before now old new result
+front-single gives c complete held out before now old new request step r n shown is_step after said result same put =
     let item = item_in held request in
     let b : BatchState = record { asks = []; requests = []; size = request.size; closes = request.closes } in
-    let whole = items-put item [] (request ∷ []) step [] (r ∷ []) (record { interim = refl; withheld = refl; closes = refl }, tt) tt
+    let whole = items-put item [] (request ∷ []) step [] (r ∷ [])
+    (record { interim = refl; withheld = refl; closes = refl }, tt) tt
     (said, tt) in
-    front-says clock c complete held out before now old new (one_answered request) (item ∷ []) (step ∷ []) (request_bytes request r)
-    (omega arith) (front-one complete held request b n (next-bytes complete held request n) refl refl) refl (is_step, tt) after
-    (ap (λ (x : Bool). interim_of x ++ request_bytes request r) shown
+    front-says gives c complete held out before now old new (one_answered request) (item ∷ []) (step ∷ [])
+    (request_bytes request r)
+    (omega arith) (front-one complete held request b n (next-bytes complete held request n) refl refl) refl
+    (is_step, tt) after (ap (λ (x : Bool). interim_of x ++ request_bytes request r) shown
     ∙ ap (λ (l : List ℕ). interim_of request.interim ++ l) (sym (append-nil (request_bytes request r))) ∙ whole)
     result same put
 
@@ -67,7 +72,8 @@ record IsStill (c : Progress) (o : Outcome) (read : List Entry) : Type 0 where
   counts : read ≡ (progress_past c o).totals
 
 still-after : (c : Progress) (step : Step) (pass : Known) (was read : List Entry) → IsStill c step.outcome read
-    → IsWithin c (mark_of pass) → IsAfter c (step ∷ []) (record { pass = pass; read = was }) (record { pass = pass; read = read })
+    → IsWithin c (mark_of pass) → IsAfter c (step ∷ []) (record { pass = pass; reader = was })
+    (record { pass = pass; reader = read })
 still-after c step pass was read s w =
     let low = w.faults in let same = s.faults in record {
       within = record {
@@ -82,23 +88,29 @@ still-after c step pass was read s w =
 
 -- ---- the steps of single requests
 
-module _ (clock : Moment → Type 0) (c : Progress) (complete : Bool) (held : List ℕ) (out : Bool) (before now : Option (List ℕ))
+module _ (gives : Given → Type 0) (c : Progress) (complete : Bool) (held : List ℕ) (out : Bool)
+    (before now : Option (List ℕ))
     (pass : Known) (request : Request) (next : IsNextFor complete held request) (shown : out ≡ request.interim)
     (within : IsWithin c (mark_of pass)) where
   -- a step after which the pass is as before
-  single-says : (read : List Entry) (step : Step) (r : Response) → IsStep clock c (item_in held request) step → IsStill c step.outcome read
+  single-says : (read : List Entry) (step : Step) (r : Response) → IsStep gives c (item_in held request) step
+      → IsStill c step.outcome read
       → response_of step ≡ r → (result : Result Answered ServeFault)
-      → ((d : Answered) → result ≡ Ok d → d ≡ one_answered request) → PutSays (request_bytes request r) before now result
-      → FrontSays clock c complete held out before now (record { pass = pass; read = c.totals }) (record { pass = pass; read = read }) result
+      → ((d : Answered) → result ≡ Ok d → d ≡ one_answered request)
+      → PutSays (request_bytes request r) before now result
+      → FrontSays gives c complete held out before now (record { pass = pass; reader = c.totals })
+      (record { pass = pass; reader = read }) result
   single-says read step r is_step still said result same put =
-      front-single clock c complete held out before now (record { pass = pass; read = c.totals }) (record { pass = pass; read = read })
+      front-single gives c complete held out before now (record { pass = pass; reader = c.totals })
+      (record { pass = pass; reader = read })
       request step r next shown is_step (still-after c step pass c.totals read still within) said result same put
 
   -- a fault
   pub faulted-says : (f : Fault) → request.asks ≡ Err f → (result : Result Answered ServeFault)
       → ((d : Answered) → result ≡ Ok d → d ≡ one_answered request)
       → PutSays (request_bytes request (response_to (faulted f))) before now result
-      → FrontSays clock c complete held out before now (record { pass = pass; read = c.totals }) (record { pass = pass; read = c.totals }) result
+      → FrontSays gives c complete held out before now (record { pass = pass; reader = c.totals })
+      (record { pass = pass; reader = c.totals }) result
   faulted-says f asks result same put =
       single-says c.totals (record { outcome = faulted f; written = true }) (response_to (faulted f))
       (ap (λ (a : Result Endpoint Fault). kind_by a (item_in held request).body) asks, refl)
@@ -108,9 +120,11 @@ module _ (clock : Moment → Type 0) (c : Progress) (complete : Bool) (held : Li
   pub counted-says : (H : List Entry) (w : Bool) → request.asks ≡ Ok endpoint.Totals → IsPrefix c.totals H → IsLegal H
       → (result : Result Answered ServeFault) → ((d : Answered) → result ≡ Ok d → d ≡ one_answered request)
       → PutSays (request_bytes request (response_of (record { outcome = counted H; written = w }))) before now result
-      → FrontSays clock c complete held out before now (record { pass = pass; read = c.totals }) (record { pass = pass; read = H }) result
+      → FrontSays gives c complete held out before now (record { pass = pass; reader = c.totals })
+      (record { pass = pass; reader = H }) result
   counted-says H w asks begins legal result same put =
-      single-says H (record { outcome = counted H; written = w }) (response_of (record { outcome = counted H; written = w })) (
+      single-says H (record { outcome = counted H; written = w })
+      (response_of (record { outcome = counted H; written = w })) (
         record {
           asked = ap (λ (a : Result Endpoint Fault). kind_by a (item_in held request).body) asks;
           begins = begins;
@@ -129,16 +143,20 @@ module _ (clock : Moment → Type 0) (c : Progress) (complete : Bool) (held : Li
       → body_reading route (item_in held request).body ≡ Err f → (result : Result Answered ServeFault)
       → ((d : Answered) → result ≡ Ok d → d ≡ one_answered request)
       → PutSays (request_bytes request (response_of (record { outcome = misread f; written = w }))) before now result
-      → FrontSays clock c complete held out before now (record { pass = pass; read = c.totals }) (record { pass = pass; read = c.totals }) result
+      → FrontSays gives c complete held out before now (record { pass = pass; reader = c.totals })
+      (record { pass = pass; reader = c.totals }) result
   misread-says route f w asks is result same put =
-      single-says c.totals (record { outcome = misread f; written = w }) (response_of (record { outcome = misread f; written = w }))
+      single-says c.totals (record { outcome = misread f; written = w })
+      (response_of (record { outcome = misread f; written = w }))
       (command-kind route asks ∙ ap (λ (x : Result Command WireFault). commands x) is, tt)
       (record { seen = refl; faults = refl; none = refl; counts = refl }) refl result same put
 
   -- memory ran out before its command was known
   pub unread-says : (route : Route) → request.asks ≡ Ok (endpoint.Command route) → (result : Result Answered ServeFault)
-      → ((d : Answered) → result ≡ Ok d → d ≡ one_answered request) → PutSays (request_bytes request no_memory) before now result
-      → FrontSays clock c complete held out before now (record { pass = pass; read = c.totals }) (record { pass = pass; read = c.totals }) result
+      → ((d : Answered) → result ≡ Ok d → d ≡ one_answered request)
+      → PutSays (request_bytes request no_memory) before now result
+      → FrontSays gives c complete held out before now (record { pass = pass; reader = c.totals })
+      (record { pass = pass; reader = c.totals }) result
   unread-says route asks result same put =
       single-says c.totals (record { outcome = unread; written = true }) no_memory
       (record { reading = body_reading route (item_in held request).body; asked = command-kind route asks }, tt)
@@ -146,12 +164,16 @@ module _ (clock : Moment → Type 0) (c : Progress) (complete : Bool) (held : Li
 
   -- the body of a command was not read: it is no command, or memory ran out for it
   pub unasked-says : (route : Route) (f : WireFault) → request.asks ≡ Ok (endpoint.Command route)
-      → (f ≢ wire.Memory → body_reading route (item_in held request).body ≡ Err f) → (result : Result Answered ServeFault)
+      → (f ≢ wire.Memory → body_reading route (item_in held request).body ≡ Err f)
+      → (result : Result Answered ServeFault)
       → ((d : Answered) → result ≡ Ok d → d ≡ one_answered request)
-      → (f ≢ wire.Memory → (w : Bool) × PutSays (request_bytes request (response_of (record { outcome = misread f; written = w }))) before now result)
+      → (f ≢ wire.Memory → (w : Bool) × PutSays (request_bytes request
+      (response_of (record { outcome = misread f; written = w }))) before now result)
       → (f ≡ wire.Memory → PutSays (request_bytes request no_memory) before now result)
-      → FrontSays clock c complete held out before now (record { pass = pass; read = c.totals }) (record { pass = pass; read = c.totals }) result
-  unasked-says route wire.Memory asks is result same misread_put unread_put = unread-says route asks result same (unread_put refl)
+      → FrontSays gives c complete held out before now (record { pass = pass; reader = c.totals })
+      (record { pass = pass; reader = c.totals }) result
+  unasked-says route wire.Memory asks is result same misread_put unread_put = unread-says route asks result same
+      (unread_put refl)
   unasked-says route wire.TooLong asks is result same misread_put unread_put =
       let p = misread_put (λ e. cc) in misread-says route wire.TooLong p.0 asks (is (λ e. cc)) result same p.1
   unasked-says route wire.BadJson asks is result same misread_put unread_put =
@@ -163,7 +185,8 @@ module _ (clock : Moment → Type 0) (c : Progress) (complete : Bool) (held : Li
 
 -- a fault, after which a part was put
 pub put-as_err : (bytes : List ℕ) (before now : Option (List ℕ)) (result : Result Answered ServeFault) (f : ServeFault)
-    → result ≡ Err f → (part : List ℕ) × IsPrefix part bytes × (now ≡ append_known before part) → PutSays bytes before now result
+    → result ≡ Err f → (part : List ℕ) × IsPrefix part bytes × (now ≡ append_known before part)
+    → PutSays bytes before now result
 put-as_err bytes before now result f is put =
     subst (λ (r : Result Answered ServeFault). PutSays bytes before now r) (sym is) put
 
@@ -172,11 +195,13 @@ pub no-answer : (done : Answered) (result : Result Answered ServeFault) (f : Ser
 no-answer done result f is d was = let bad : ⊥ = cc in absurd bad
 
 -- an answer
-pub ok-answer : (done e : Answered) → e ≡ done → (d : Answered) → ◌≡◌ {A = Result Answered ServeFault} (Ok e) (Ok d) → d ≡ done
+pub ok-answer : (done e : Answered) → e ≡ done → (d : Answered) → ◌≡◌ {A = Result Answered ServeFault} (Ok e) (Ok d)
+    → d ≡ done
 ok-answer done e is d was = let first : d ≡ e = cc in first ∙ is
 
 -- what one request's answer comes to
-pub answered-one : (d : Answered) (request : Request) → d.requests ≡ 1 → d.size ≡ request.size → d.closes ≡ request.closes
+pub answered-one : (d : Answered) (request : Request) → d.requests ≡ 1 → d.size ≡ request.size
+    → d.closes ≡ request.closes
     → d ≡ one_answered request
 answered-one d request a b e = λ i. record { requests = a i; size = b i; closes = e i }
 
@@ -185,25 +210,20 @@ pub answered-all : (d : Answered) (b : BatchState) → d.requests ≡ length b.a
 answered-all d b n s e = λ i. record { requests = n i; size = s i; closes = e i }
 
 -- the first item of a batch is the request at the front
-pub batch-shown : (clock : Moment → Type 0) (complete : Bool) (held : List ℕ) (b : BatchState) (request : Request)
-    (is : IsBatch clock complete held b) → IsNextFor complete held request → request.interim ≡ is.first.interim
-batch-shown clock complete held b request is n =
+pub batch-shown : (gives : Given → Type 0) (complete : Bool) (held : List ℕ) (b : BatchState) (request : Request)
+    (is : IsBatch gives complete held b) → IsNextFor complete held request → request.interim ≡ is.first.interim
+batch-shown gives complete held b request is n =
     ap (λ (i : Item). i.interim)
     (next-unique held (item_in held request) is.first (next-here complete held request n)
     (front-stands complete held (is.first ∷ is.others) (all_answered b) is.front).0)
 
--- what the reader had seen is what is carried
-pub read-same : (clock : Moment → Type 0) (c : Progress) (complete : Bool) (held : List ℕ) (out : Bool) (before now : Option (List ℕ))
-    (old : Known) (new : Caller) (was : List Entry) (result : Result Answered ServeFault) → was ≡ c.totals
-    → FrontSays clock c complete held out before now (record { pass = old; read = c.totals }) new result
-    → FrontSays clock c complete held out before now (record { pass = old; read = was }) new result
-read-same clock c complete held out before now old new was result same f =
-    subst (λ (H : List Entry). FrontSays clock c complete held out before now (record { pass = old; read = H }) new result) (sym same) f
-
-pub read-both : (clock : Moment → Type 0) (c : Progress) (complete : Bool) (held : List ℕ) (out : Bool) (before now : Option (List ℕ))
+pub read-both : (gives : Given → Type 0) (c : Progress) (complete : Bool) (held : List ℕ) (out : Bool)
+    (before now : Option (List ℕ))
     (old new : Known) (was : List Entry) (result : Result Answered ServeFault) → was ≡ c.totals
-    → FrontSays clock c complete held out before now (record { pass = old; read = c.totals }) (record { pass = new; read = c.totals }) result
-    → FrontSays clock c complete held out before now (record { pass = old; read = was }) (record { pass = new; read = was }) result
-read-both clock c complete held out before now old new was result same f =
-    subst (λ (H : List Entry). FrontSays clock c complete held out before now (record { pass = old; read = H }) (record { pass = new; read = H }) result)
-    (sym same) f
+    → FrontSays gives c complete held out before now (record { pass = old; reader = c.totals })
+    (record { pass = new; reader = c.totals }) result
+    → FrontSays gives c complete held out before now (record { pass = old; reader = was })
+    (record { pass = new; reader = was }) result
+read-both gives c complete held out before now old new was result same f =
+    subst (λ (H : List Entry). FrontSays gives c complete held out before now (record { pass = old; reader = H })
+    (record { pass = new; reader = H }) result) (sym same) f

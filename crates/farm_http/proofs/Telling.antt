@@ -27,7 +27,8 @@ part-put n all before now puts = (take n all, (drop n all, sym (take-append-drop
 -- the bytes of an answer that was put where there were none
 pub told-made : (request : Request) (totals : Totals) (room bytes all text : List ℕ) (r : Response)
     → Some bytes ≡ append_known (Some room) all → room ≡ [] → all ≡ request_bytes request r → r ≡ plain status.Ok text
-    → text ≡ compact_text (totals_data (codes "totals") totals) → bytes ≡ told_bytes request.closes request.withheld totals
+    → text ≡ compact_text (totals_data (codes "totals") totals)
+    → bytes ≡ told_bytes request.closes request.withheld totals
 told-made request totals room bytes all text r put none is says text_is =
     same_Some bytes (room ++ all) put ∙ ap (λ (l : List ℕ). l ++ all) none ∙ is
     ∙ ap (λ (x : Response). request_bytes request x) (says ∙ ap (λ (l : List ℕ). plain status.Ok l) text_is)
@@ -38,5 +39,6 @@ pub told-same : (request : Request) (closes withheld : Bool) (totals now : Total
     → bytes ≡ told_bytes closes withheld totals → closes ≡ request.closes → withheld ≡ request.withheld → totals ≡ now
     → bytes ≡ request_bytes request (totals_response now)
 told-same request closes withheld totals now bytes is shut kept same =
-    is ∙ ap (λ (b : Bool). told_bytes b withheld totals) shut ∙ ap (λ (b : Bool). told_bytes request.closes b totals) kept
+    is ∙ ap (λ (b : Bool). told_bytes b withheld totals) shut
+    ∙ ap (λ (b : Bool). told_bytes request.closes b totals) kept
     ∙ ap (λ (t : Totals). told_bytes request.closes request.withheld t) same ∙ sym (request-told request now)

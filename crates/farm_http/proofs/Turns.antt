@@ -3,7 +3,7 @@ use Rattle.std.proofs.Common.{ℕ, ◌≡◌, ◌≤◌, ◌+◌, ◌-◌, inl, 
 use Rattle.farm_entry.specs.declared.entry.Entry.{Entry}
 use Rattle.farm_store.specs.Answering.{AreAnswers, history_after}
 use Rattle.farm_store.specs.State.{StoreState, IsRepaired}
-use Rattle.farm_store.specs.declared.asking.Answer.{Answer}
+use Rattle.farm_entry.specs.declared.answer.Answer.{Answer}
 use Rattle.farm_store.specs.declared.asking.Ask.{Ask}
 use Rattle.farm_store.specs.declared.asking.CallFault.{CallFault}
 use Rattle.farm_store.specs.declared.asking.CallFault.TheVariants as fault
@@ -45,18 +45,21 @@ none_kept : (history : List Entry) (recorded : ℕ) (mine : List ℕ) → record
 none_kept history recorded mine none =
     ap (λ (n : ℕ). mine ++ range_with_len (length history - n) n) none ∙ append-nil mine
 
-places_from : (H L : List Entry) (recorded : ℕ) (mine : List ℕ) (asks : List Ask) (answers : List Answer) (steps : List Step)
+places_from : (H L : List Entry) (recorded : ℕ) (mine : List ℕ) (asks : List Ask) (answers : List Answer)
+    (steps : List Step)
     → L ≡ history_after H asks → length L ≡ length H + recorded → AreAnsweredBy H asks answers steps
     → mine ++ range_with_len (length L - recorded) recorded ≡ mine ++ recorded_places steps
 places_from H L recorded mine asks answers steps left len s =
-    let all : length (history_after H asks) ≡ length H + recorded = ap (λ (l : List Entry). length l) (sym left) ∙ len in
+    let all : length (history_after H asks) ≡ length H + recorded = ap (λ (l : List Entry). length l) (sym left)
+    ∙ len in
     let start : length L - recorded ≡ length H = omega arith in
     ap (λ (k : ℕ). mine ++ range_with_len k recorded) start
     ∙ ap (λ (l : List ℕ). mine ++ l) (sym (answered-places H asks answers steps recorded s all))
 
 module _ {D : Type 0} where
   pub repaired-longer : (old : StoreState D) (H : List Entry) → IsRepaired old H → IsPrefix old.history H
-  repaired-longer old H (inl same) = subst (λ (l : List Entry). IsPrefix old.history l) (sym same) (IsPrefix-refl old.history)
+  repaired-longer old H (inl same) = subst (λ (l : List Entry). IsPrefix old.history l) (sym same)
+      (IsPrefix-refl old.history)
   repaired-longer old H (inr same) =
       subst (λ (l : List Entry). IsPrefix old.history l) (sym same) (IsPrefix-append old.history old.pending)
 
@@ -73,10 +76,12 @@ module _ {D : Type 0} where
         answered = says.answers;
         seen = t.seen ∙ says.history;
         places = λ steps s.
-            t.mine ∙ places_from says.repaired t.left.history t.left.recorded old.mine asks answers steps says.history says.recorded s;
+            t.mine ∙ places_from says.repaired t.left.history t.left.recorded old.mine asks answers steps says.history
+            says.recorded s;
       }
 
-  unanswered : (count : D → ℕ) (c : Progress) (asks : List Ask) (result : Result (List Answer) CallFault) (old new : Known)
+  unanswered : (count : D → ℕ) (c : Progress) (asks : List Ask) (result : Result (List Answer) CallFault)
+      (old new : Known)
       → IsWithin c (mark_of old) → (t : IsTurn count asks result old new) → IsPrefix t.found.history t.left.history
       → t.left.recorded ≡ 0 → IsUnansweredTurn c old new
   unanswered count c asks result old new w t longer none = record {
@@ -95,17 +100,23 @@ module _ {D : Type 0} where
       let begun = cause.0 in
       let both : IsPrefix t.found.history t.left.history × (t.left.recorded ≡ 0) =
       elim t.says as (λ _. IsPrefix t.found.history t.left.history × (t.left.recorded ≡ 0)) [
-        | inl u ↦ (subst (λ (l : List Entry). IsPrefix t.found.history l) (sym u.history) (IsPrefix-refl t.found.history), u.none)
+        | inl u ↦ (
+          subst (λ (l : List Entry). IsPrefix t.found.history l) (sym u.history)
+              (IsPrefix-refl t.found.history),
+          u.none,
+        )
         | inr u ↦ (repaired-longer t.found t.left.history u.undecided.found, u.undecided.none)
       ] in
       record {
         unanswered = unanswered count c asks (Err (fault.StoreFault before after)) old new w t both.0 both.1;
         first = omega arith;
-        rose = subst (λ (a : ℕ). Rose a after) (sym cause.0) (subst (λ (b : ℕ). Rose (count t.found.disk) b) (sym cause.1) cause.2);
+        rose = subst (λ (a : ℕ). Rose a after) (sym cause.0)
+            (subst (λ (b : ℕ). Rose (count t.found.disk) b) (sym cause.1) cause.2);
         last = t.faults_seen ∙ sym cause.1;
       }
 
   pub turn-uncalled : (count : D → ℕ) (c : Progress) (asks : List Ask) (old new : Known)
       → IsWithin c (mark_of old) → IsTurn count asks (Err fault.Memory) old new → IsUnansweredTurn c old new
   turn-uncalled count c asks old new w t =
-      unanswered count c asks (Err fault.Memory) old new w t (repaired-longer t.found t.left.history t.says.found) t.says.none
+      unanswered count c asks (Err fault.Memory) old new w t (repaired-longer t.found t.left.history t.says.found)
+      t.says.none

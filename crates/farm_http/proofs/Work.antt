@@ -4,11 +4,11 @@ use Rattle.std.proofs.lemmas.Bool.Decides.{nat_tests}
 use Rattle.connection_laws.specs.Progress.{Progress}
 use Rattle.connection_laws.specs.declared.served.Why.{Why}
 use Rattle.connection_laws.specs.declared.served.Why.TheVariants as whys
-use Rattle.farm_types.specs.declared.moment.Moment.{Moment}
+use Rattle.connection_laws.specs.Moments.{Given}
 use Rattle.http_requests.specs.Items.{Item, Items, End, closed}
 use Rattle.http_requests.proofs.ItemLaws.{open-append, open-some}
 use Rattle.link_io.specs.declared.source.TheConstants.{INPUT_LIMIT}
-use Rattle.farm_http.specs.Callers.{Caller}
+use Rattle.farm_http.specs.declared.caller.Caller.{Caller}
 use Rattle.farm_http.specs.Connection.{work_left}
 use Rattle.farm_http.specs.Fronts.{AreAnswered, AreClosing, AreOpen}
 use Rattle.farm_http.specs.Received.{IsTaken, ReceivedState, is_complete}
@@ -23,17 +23,20 @@ items-count bytes (item ∷ items) end (p, inr x) =
     let rest = items-count (drop item.size bytes) items end x.1 in
     omega (arith, some, within, rest, length-drop item.size bytes)
 
-closes-count : (b complete : Bool) (held : List ℕ) (items : List Item) (size : ℕ) → (b ≡ true → AreClosing complete held items)
+closes-count : (b complete : Bool) (held : List ℕ) (items : List Item) (size : ℕ)
+    → (b ≡ true → AreClosing complete held items)
     → (b ≡ false → AreOpen held items size) → length items ≤ length held + 1
 closes-count true complete held items size one other =
-    items-count held items closed (subst (λ (l : List ℕ). Items l items closed) (append-nil held) (one refl [] (λ e. refl)))
+    items-count held items closed (subst (λ (l : List ℕ). Items l items closed) (append-nil held)
+    (one refl [] (λ e. refl)))
 closes-count false complete held items size one other =
     let o = other refl in let few = o.few in let within = o.within in omega arith
 
 -- what was answered at once is not more than what is held, but for one
-pub answered-count : (clock : Moment → Type 0) (c : Progress) (complete : Bool) (held : List ℕ) (out : Bool) (put : List ℕ)
-    (old new : Caller) (done : Answered) → AreAnswered clock c complete held out put old new done → done.requests ≤ length held + 1
-answered-count clock c complete held out put old new done a =
+pub answered-count : (gives : Given → Type 0) (c : Progress) (complete : Bool) (held : List ℕ) (out : Bool)
+    (put : List ℕ) (old new : Caller) (done : Answered) → AreAnswered gives c complete held out put old new done
+    → done.requests ≤ length held + 1
+answered-count gives c complete held out put old new done a =
     let all = closes-count done.closes complete held a.items done.size a.front.0 a.front.1 in
     let same = a.requests in omega arith
 
@@ -43,13 +46,15 @@ fewer-taken limit t u h k n true more most longer some = omega arith
 fewer-taken limit t u h k n false more most longer some = let one = some refl in omega arith
 
 -- a take leaves less to do, and so does an answer
-pub work-takes : (r s : ReceivedState) (before now : Option (List ℕ)) (over : Bool) → IsTaken r s before now over → r.ended ≡ false
+pub work-takes : (r s : ReceivedState) (before now : Option (List ℕ)) (over : Bool) → IsTaken r s before now over
+    → r.ended ≡ false
     → work_left s < work_left r
 work-takes r s before now over t open_ =
     let longer : length s.held ≡ length r.held + length t.piece =
     ap (λ (l : List ℕ). length l) t.held ∙ length-append r.held t.piece in
     subst (λ (b : Bool). work_left s < 2 * (INPUT_LIMIT - r.taken) + length r.held + (if b then 0 else 1)) (sym open_)
-    (fewer-taken INPUT_LIMIT r.taken s.taken (length r.held) (length s.held) (length t.piece) s.ended t.size t.most longer t.some)
+    (fewer-taken INPUT_LIMIT r.taken s.taken (length r.held) (length s.held) (length t.piece) s.ended t.size t.most
+    longer t.some)
 
 less-by : (a b h k size : ℕ) → 0 < size → size ≤ h → k ≡ h - size → a + k + b < a + h + b
 less-by a b h k size some within same = omega arith
@@ -58,7 +63,8 @@ pub work-answers : (r s : ReceivedState) (size : ℕ) → 0 < size → size ≤ 
     → s ≡ record r { held = drop size r.held; interim = false } → work_left s < work_left r
 work-answers r s size some within same =
     subst (λ (x : ReceivedState). work_left x < work_left r) (sym same)
-    (less-by (2 * (INPUT_LIMIT - r.taken)) (if r.ended then 0 else 1) (length r.held) (length (drop size r.held)) size some within
+    (less-by (2 * (INPUT_LIMIT - r.taken)) (if r.ended then 0 else 1) (length r.held) (length (drop size r.held)) size
+    some within
     (length-drop size r.held))
 
 first_by : (a b : Bool) → (a || b) ≡ false → a ≡ false
@@ -74,7 +80,8 @@ why_at : (b : Bool) (n limit : ℕ) (why : Why) → (n == limit) ≡ b → n ≤
 why_at true n limit why is most one other = one (grind (arith, nat_tests))
 why_at false n limit why is most one other = other (grind (arith, nat_tests))
 
-pub why_by : (n m limit : ℕ) (why : Why) → n ≡ m → n ≤ limit → (n ≡ limit → why ≡ whys.Limit) → (n < limit → why ≡ whys.End)
+pub why_by : (n m limit : ℕ) (why : Why) → n ≡ m → n ≤ limit → (n ≡ limit → why ≡ whys.Limit)
+    → (n < limit → why ≡ whys.End)
     → why ≡ (if m == limit then whys.Limit else whys.End)
 why_by n m limit why same most one other =
     subst (λ (k : ℕ). why ≡ (if k == limit then whys.Limit else whys.End)) same

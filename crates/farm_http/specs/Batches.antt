@@ -3,7 +3,7 @@ use Rattle.std.specs.Prelude.{ℕ, ◌≡◌, ◌≤◌, Bool, List, [], ◌∷�
 use Rattle.connection_laws.specs.Batches.{AreAsked, AreAtOnce}
 use Rattle.farm_store.specs.declared.asking.Ask.{Ask}
 use Rattle.farm_store.specs.declared.asking.TheConstants.{MAX_BATCH}
-use Rattle.farm_types.specs.declared.moment.Moment.{Moment}
+use Rattle.connection_laws.specs.Moments.{Given}
 use Rattle.http_requests.specs.Items.{Item}
 use Rattle.http_requests.specs.declared.request.Request.{Request}
 use Rattle.farm_http.specs.Fronts.{AreFront}
@@ -33,11 +33,11 @@ all_answered b = record { requests = length b.asks; size = b.size; closes = b.cl
 
 -- The batch has the commands of the items at the front, asked at moments that the clock may give. None of them but the
 -- first has an interim answer, and none but the last closes.
-pub record IsBatch (clock : Moment → Type 0) (complete : Bool) (held : List ℕ) (b : BatchState) : Type 0 where
+pub record IsBatch (gives : Given → Type 0) (complete : Bool) (held : List ℕ) (b : BatchState) : Type 0 where
   pub first : Item
   pub others : List Item
   pub front : AreFront complete held (first ∷ others) (all_answered b)
-  pub asked : AreAsked clock (first ∷ others) b.asks
+  pub asked : AreAsked gives (first ∷ others) b.asks
   pub put_as : ArePutAs (first ∷ others) b.requests
   pub at_once : AreAtOnce others
   pub few : length b.asks ≤ MAX_BATCH

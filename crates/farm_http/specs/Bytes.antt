@@ -3,9 +3,9 @@ use Rattle.std.specs.Prelude.{ℕ, Bool, ◌≡◌, List, [], ◌∷◌, ◌++�
 use Rattle.std.specs.Io.KnownBytes.{append_known}
 use Rattle.connection_laws.specs.Answers.{Response, no_memory, plain}
 use Rattle.connection_laws.specs.declared.served.ServeFault.{ServeFault}
-use Rattle.farm_answers.specs.Statuses.{answer_status}
-use Rattle.farm_answers.specs.Texts.{answer_text}
-use Rattle.farm_store.specs.declared.asking.Answer.{Answer}
+use Rattle.http_answers.specs.Statuses.{answer_status}
+use Rattle.farm_wire.specs.Answers.{answer_text}
+use Rattle.farm_entry.specs.declared.answer.Answer.{Answer}
 use Rattle.http_answers.specs.Answers.{allow_line, body_put, close_line, status_line}
 use Rattle.http_answers.specs.Pieces.{parts_joined}
 use Rattle.http_requests.specs.declared.request.Request.{Request}
@@ -19,7 +19,8 @@ said says = record { status = says.status; allow = says.allow; body = says.body.
 -- the bytes of the answer to a request
 unfoldable pub request_bytes : Request → Response → List ℕ
 request_bytes request r =
-    parts_joined (status_line r.status) (decimal (length r.body)) (allow_line r.allow) (close_line request.closes) (body_put request.withheld r.body)
+    parts_joined (status_line r.status) (decimal (length r.body)) (allow_line r.allow) (close_line request.closes)
+    (body_put request.withheld r.body)
 
 -- the same for requests, one after the other
 abbrev pub requests_bytes : List Request → List Response → List ℕ

@@ -3,16 +3,8 @@ use Rattle.std.specs.Prelude.{◌≡◌, ◌++◌, List}
 use Rattle.connection_laws.specs.Marks.{Mark}
 use Rattle.connection_laws.specs.Outcomes.{Step}
 use Rattle.connection_laws.specs.Progress.{Progress, IsWithin, progress_after, recorded_places}
-use Rattle.farm_entry.specs.declared.entry.Entry.{Entry}
 use Rattle.turn_lock.specs.Known.{Known}
-
--- what a pass and a reader know
-pub record Caller : Type 0 where
-  pub pass : Known
-  pub read : List Entry
-
-abbrev pub caller : Known → List Entry → Caller
-caller pass read = record { pass = pass; read = read }
+use Rattle.farm_http.specs.declared.caller.Caller.{Caller}
 
 -- what is seen of a farm by a pass
 abbrev pub mark_of : Known → Mark
@@ -23,4 +15,4 @@ mark_of pass = record { seen = pass.seen; faults = pass.faults }
 pub record IsAfter (c : Progress) (steps : List Step) (old new : Caller) : Type 0 where
   pub within : IsWithin (progress_after c steps) (mark_of new.pass)
   pub places : new.pass.mine ≡ old.pass.mine ++ recorded_places steps
-  pub counted : new.read ≡ (progress_after c steps).totals
+  pub counted : new.reader ≡ (progress_after c steps).totals

@@ -11,22 +11,23 @@ use Rattle.connection_laws.specs.declared.served.Served.{Served}
 use Rattle.connection_laws.specs.declared.served.ServeFault.{ServeFault}
 use Rattle.connection_laws.specs.declared.served.Why.{Why}
 use Rattle.farm_entry.specs.declared.entry.Entry.{Entry}
-use Rattle.farm_types.specs.declared.moment.Moment.{Moment}
+use Rattle.connection_laws.specs.Moments.{Given}
 use Rattle.http_requests.specs.Items.{Item, Items, End}
 use Rattle.link_io.specs.Links.{LinkState}
 use Rattle.link_io.specs.declared.source.TheConstants.{INPUT_LIMIT}
-use Rattle.farm_http.specs.Callers.{Caller, IsAfter, mark_of}
+use Rattle.farm_http.specs.Callers.{IsAfter, mark_of}
+use Rattle.farm_http.specs.declared.caller.Caller.{Caller}
 use Rattle.farm_http.specs.Received.{ReceivedState, AsksInterim}
 
 -- Of what was taken, the items so far were answered whole, none of them closes, and what is behind them is held. An
 -- interim answer may be out for the one at the front.
-pub record IsServing (start : Progress) (clock : Moment → Type 0) (old new : Caller) (before now : LinkState) (r : ReceivedState)
-    (requests : ℕ) : Type 0 where
+pub record IsServing (start : Progress) (gives : Given → Type 0) (old new : Caller) (before now : LinkState)
+    (r : ReceivedState) (requests : ℕ) : Type 0 where
   pub taken : List ℕ
   pub put : List ℕ
   pub items : List Item
   pub steps : List Step
-  pub so_far : IsSoFar start clock taken put items steps
+  pub so_far : IsSoFar start gives taken put items steps
   pub passed : HasPassed before now taken (put ++ interim_of r.interim)
   pub held : r.held ≡ behind taken items
   pub size : r.taken ≡ length taken
@@ -39,11 +40,13 @@ pub record IsServing (start : Progress) (clock : Moment → Type 0) (old new : C
 
 -- What the serving came to, by its answer and by the bytes that are held in the end: after a fault it takes the list
 -- of the items of these.
-abbrev pub HasServed : Result Served ServeFault → (held : List ℕ) → Progress → Mark → (Moment → Type 0) → (old new : LinkState)
+abbrev pub HasServed : Result Served ServeFault → (held : List ℕ) → Progress → Mark → (Given → Type 0)
+    → (old new : LinkState)
     → (mine kept : List ℕ) → List Entry → Type 0
-HasServed (Ok served) held start final clock old new mine kept read = IsServed served start final clock old new mine kept read
-HasServed (Err fault) held start final clock old new mine kept read =
-    (items : List Item) (end : End) → Items held items end → IsStopped start final clock old new mine kept read
+HasServed (Ok served) held start final gives old new mine kept read = IsServed served start final gives old new mine
+    kept read
+HasServed (Err fault) held start final gives old new mine kept read =
+    (items : List Item) (end : End) → Items held items end → IsStopped fault start final gives old new mine kept read
 
 -- how much may still be done, which falls with each turn of the loop
 abbrev pub work_left : ReceivedState → ℕ
@@ -51,12 +54,13 @@ work_left r = 2 * (INPUT_LIMIT - r.taken) + length r.held + (if r.ended then 0 e
 
 -- What a turn of the loop came to: it goes on, and less is left to do than there was; or it has ended; or a fault
 -- stopped it.
-abbrev pub GoesOn : Progress → (Moment → Type 0) → (old : Caller) → (before : LinkState) → (work : ℕ) → Result (Option Why) ServeFault
+abbrev pub GoesOn : Progress → (Given → Type 0) → (old : Caller) → (before : LinkState) → (work : ℕ)
+    → Result (Option Why) ServeFault
     → (new : Caller) → (now : LinkState) → ReceivedState → (requests : ℕ) → Type 0
-GoesOn start clock old before work (Ok None) new now r requests =
-    IsServing start clock old new before now r requests × (work_left r < work)
-GoesOn start clock old before work (Ok (Some why)) new now r requests =
-    HasServed (Ok (record { requests = requests; why = why })) r.held start (mark_of new.pass) clock before now old.pass.mine
-    new.pass.mine new.read
-GoesOn start clock old before work (Err fault) new now r requests =
-    HasServed (Err fault) r.held start (mark_of new.pass) clock before now old.pass.mine new.pass.mine new.read
+GoesOn start gives old before work (Ok None) new now r requests =
+    IsServing start gives old new before now r requests × (work_left r < work)
+GoesOn start gives old before work (Ok (Some why)) new now r requests =
+    HasServed (Ok (record { requests = requests; why = why })) r.held start (mark_of new.pass) gives before now
+    old.pass.mine new.pass.mine new.reader
+GoesOn start gives old before work (Err fault) new now r requests =
+    HasServed (Err fault) r.held start (mark_of new.pass) gives before now old.pass.mine new.pass.mine new.reader

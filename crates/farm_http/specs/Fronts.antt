@@ -7,11 +7,12 @@ use Rattle.connection_laws.specs.Outcomes.{Step}
 use Rattle.connection_laws.specs.Progress.{Progress}
 use Rattle.connection_laws.specs.Steps.{AreSteps}
 use Rattle.connection_laws.specs.declared.served.ServeFault.{ServeFault}
-use Rattle.farm_types.specs.declared.moment.Moment.{Moment}
+use Rattle.connection_laws.specs.Moments.{Given}
 use Rattle.http_requests.specs.Items.{Item, Items, closed}
 use Rattle.http_requests.specs.Next.{MayFollow}
 use Rattle.list_prefix.specs.Prefix.{IsPrefix}
-use Rattle.farm_http.specs.Callers.{Caller, IsAfter}
+use Rattle.farm_http.specs.Callers.{IsAfter}
+use Rattle.farm_http.specs.declared.caller.Caller.{Caller}
 use Rattle.farm_http.specs.declared.front.Answered.{Answered}
 
 -- These items stand at the front of the bytes, and none of them closes: they take so many bytes, at least one each.
@@ -31,35 +32,37 @@ AreFront complete held items done =
     (done.closes ≡ true → AreClosing complete held items) × (done.closes ≡ false → AreOpen held items done.size)
 
 -- Items at the front were answered whole.
-pub record AreAnswered (clock : Moment → Type 0) (c : Progress) (complete : Bool) (held : List ℕ) (out : Bool) (put : List ℕ)
-    (old new : Caller) (done : Answered) : Type 0 where
+pub record AreAnswered (gives : Given → Type 0) (c : Progress) (complete : Bool) (held : List ℕ) (out : Bool)
+    (put : List ℕ) (old new : Caller) (done : Answered) : Type 0 where
   pub items : List Item
   pub steps : List Step
   pub some : 1 ≤ length items
   pub front : AreFront complete held items done
-  pub are_steps : AreSteps clock c items steps
+  pub are_steps : AreSteps gives c items steps
   pub after : IsAfter c steps old new
   pub put_is : interim_of out ++ put ≡ transcript items steps
   pub requests : done.requests ≡ length items
 
 -- A part of the answers to items at the front was put.
-pub record ArePartly (clock : Moment → Type 0) (c : Progress) (held : List ℕ) (out : Bool) (put : List ℕ) (old new : Caller) : Type 0 where
+pub record ArePartly (gives : Given → Type 0) (c : Progress) (held : List ℕ) (out : Bool) (put : List ℕ)
+    (old new : Caller) : Type 0 where
   pub items : List Item
   pub steps : List Step
   pub front : Fronts held items
-  pub are_steps : AreSteps clock c items steps
+  pub are_steps : AreSteps gives c items steps
   pub after : IsAfter c steps old new
   pub begins : IsPrefix (interim_of out ++ put) (transcript items steps)
 
-abbrev pub FrontBy : (Moment → Type 0) → Progress → (complete : Bool) → List ℕ → (out : Bool) → List ℕ → (old new : Caller)
+abbrev pub FrontBy : (Given → Type 0) → Progress → (complete : Bool) → List ℕ → (out : Bool) → List ℕ
+    → (old new : Caller)
     → Result Answered ServeFault → Type 0
-FrontBy clock c complete held out put old new (Ok done) = AreAnswered clock c complete held out put old new done
-FrontBy clock c complete held out put old new (Err fault) = ArePartly clock c held out put old new
+FrontBy gives c complete held out put old new (Ok done) = AreAnswered gives c complete held out put old new done
+FrontBy gives c complete held out put old new (Err fault) = ArePartly gives c held out put old new
 
 -- What answering the items at the front came to, from what is carried to them: the bytes that were put, and the steps
 -- that the items came to.
-pub record FrontSays (clock : Moment → Type 0) (c : Progress) (complete : Bool) (held : List ℕ) (out : Bool)
+pub record FrontSays (gives : Given → Type 0) (c : Progress) (complete : Bool) (held : List ℕ) (out : Bool)
     (before now : Option (List ℕ)) (old new : Caller) (result : Result Answered ServeFault) : Type 0 where
   pub put : List ℕ
   pub puts : now ≡ append_known before put
-  pub says : FrontBy clock c complete held out put old new result
+  pub says : FrontBy gives c complete held out put old new result

@@ -16,7 +16,8 @@ totals_response totals = plain status.Ok (compact_text (totals_data (codes "tota
 unfoldable pub told_bytes : (closes withheld : Bool) → Totals → List ℕ
 told_bytes closes withheld totals =
     let r = totals_response totals in
-    parts_joined (status_line r.status) (decimal (length r.body)) (allow_line r.allow) (close_line closes) (body_put withheld r.body)
+    parts_joined (status_line r.status) (decimal (length r.body)) (allow_line r.allow) (close_line closes)
+    (body_put withheld r.body)
 
 -- all counts are the same
 abbrev pub same_totals : Totals → Totals → Bool

@@ -2,22 +2,22 @@
 ghost use Rattle.std.specs.Prelude.{◌≡◌, ◌≤◌, ◌<◌, ◌+◌, ◌^◌, ◌++◌, ◌∷◌, [], IfSome, true, false, length, Ok};
 ghost use Rattle.http_requests.specs.Next.{IsNextFor, item_in};
 ghost use Rattle.connection_laws.specs.Kinds.{commands, kind_of};
-ghost use Rattle.connection_laws.specs.Moments.{MayGive};
+ghost use Rattle.connection_laws.specs.Moments.{GivenBy};
 ghost use Rattle.farm_store.specs.declared.asking.TheConstants.{MAX_BATCH};
 ghost use Rattle.farm_http.specs.Batches.{IsBatch};
 ghost use Rattle.farm_entry.specs.Legal.{IsLegal};
 ghost use Rattle.shared_farm.specs.Turns.{IsTurn};
 ghost use Rattle.turn_lock.specs.Known.{IsReady};
 
+use crate::service::Service;
 use farm_disk::Disk;
 use farm_entry::Command;
 use farm_store::{Answers, Ask, CallFault, MAX_BATCH};
 use farm_wire::command_of;
 use http_requests::{LastHead, Next, Reading, Request, next_of};
-use http_routes::Pages;
 use http_words::{Endpoint, Fault};
 use link_io::Clock;
-use shared_farm::{Beginning, SharedFarm};
+use shared_farm::Beginning;
 use std::alloc::Global;
 use std::marker::Model;
 use std::sync::Wait;
@@ -98,22 +98,22 @@ impl Batch {
     }
 
     /// Asks the farm for the commands, of which there are some, at one turn of the pass.
-    pub fn ask<R: Wait, D: Disk, B: Beginning>(
+    pub fn ask<R: Wait, D: Disk, B: Beginning, C: Clock>(
         &mut self,
-        rt: &R,
-        alloc: Global,
-        shared: &SharedFarm<D, B>,
+        service: &Service<R, D, B, C>,
         pass: &mut Pass,
     ) -> Result<Answers, CallFault>
-        requires ready { IsReady shared.now pass.old }
+        requires ready { IsReady service.now.farm.now pass.old }
         requires some { 1 ≤ length self.old.asks }
         ensures same { self.new ≡ self.old }
-        ensures ready { IsReady shared.now pass.new }
+        ensures ready { IsReady service.now.farm.now pass.new }
         ensures turn { IsTurn D.count self.old.asks result pass.old pass.new }
         ensures legal { IsLegal pass.new.seen }
         ensures faults { pass.old.faults ≤ pass.new.faults }
     {
-        shared.call_batch(rt, alloc, pass, &mut self.asks)
+        service
+            .farm
+            .call_batch(service.rt, service.alloc, pass, &mut self.asks)
     }
 
     /// The commands, with their moments.
@@ -179,26 +179,24 @@ impl Batch {
     /// Adds the command that stands whole in the bytes held behind those of the batch, and says whether there is one: a
     /// request whose interim answer has to be put is none, nor is a body that is no command or for which memory runs
     /// out. It is asked at a moment that the clock gives now.
-    fn add_next<C: Clock>(
+    fn add_next<R, D: Disk, B: Beginning, C: Clock>(
         &mut self,
-        alloc: Global,
-        pages: &Pages,
+        service: &Service<R, D, B, C>,
         last: &mut LastHead,
-        clock: &C,
         held: &[u8],
         complete: bool,
     ) -> bool
-        requires batch { IsBatch (MayGive C.Clock clock.now) complete held.now self.old }
+        requires batch { IsBatch (GivenBy C.Clock service.now.clock.now D.count) complete held.now self.old }
         requires room { length self.old.asks + 1 ≤ MAX_BATCH }
         requires open { self.old.closes ≡ false }
-        ensures batch { IsBatch (MayGive C.Clock clock.now) complete held.now self.new }
+        ensures batch { IsBatch (GivenBy C.Clock service.now.clock.now D.count) complete held.now self.new }
         ensures more { result ≡ true → length self.new.asks ≡ length self.old.asks + 1 }
     {
         let rest = &held[self.size..];
         if rest.is_empty() {
             return false;
         }
-        let next = next_of(pages, &mut Reading::new(), last, rest, complete);
+        let next = next_of(service.pages, &mut Reading::new(), last, rest, complete);
         let Next::Request(request) = &next else {
             return false;
         };
@@ -208,9 +206,9 @@ impl Batch {
         let Ok(Endpoint::Command(route)) = &request.asks else {
             return false;
         };
-        match command_of(alloc, route, &rest[request.body..request.size]) {
+        match command_of(service.alloc, route, &rest[request.body..request.size]) {
             Ok(command) => {
-                let at = clock.now();
+                let at = service.clock.now();
                 self.add(request, Ask { command, at })
             }
             Err(_) => false,
@@ -221,20 +219,18 @@ impl Batch {
     /// ends before a request that is none, or whose interim answer has to be put, before a body that is no command or
     /// for which memory runs out, and after a request that closes the connection. Each is asked at a moment that the
     /// clock gives now.
-    pub fn gather<C: Clock>(
+    pub fn gather<R, D: Disk, B: Beginning, C: Clock>(
         &mut self,
-        alloc: Global,
-        pages: &Pages,
+        service: &Service<R, D, B, C>,
         last: &mut LastHead,
-        clock: &C,
         held: &[u8],
         complete: bool,
     )
-        requires { IsBatch (MayGive C.Clock clock.now) complete held.now self.old }
-        ensures { IsBatch (MayGive C.Clock clock.now) complete held.now self.new }
+        requires { IsBatch (GivenBy C.Clock service.now.clock.now D.count) complete held.now self.old }
+        ensures { IsBatch (GivenBy C.Clock service.now.clock.now D.count) complete held.now self.new }
     {
         while self.is_open() {
-            if !self.add_next(alloc, pages, last, clock, held, complete) {
+            if !self.add_next(service, last, held, complete) {
                 return;
             }
         }

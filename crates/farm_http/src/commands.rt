@@ -4,33 +4,33 @@ ghost use Rattle.fault_types.specs.Counts.{Rose};
 ghost use Rattle.turn_lock.specs.Known.{IsReady};
 ghost use Rattle.http_requests.specs.Next.{IsNextFor};
 ghost use Rattle.connection_laws.specs.Answers.{no_memory, response_of};
-ghost use Rattle.connection_laws.specs.Moments.{MayGive};
+ghost use Rattle.connection_laws.specs.Moments.{GivenBy};
 ghost use Rattle.connection_laws.specs.Outcomes.{misread};
 ghost use Rattle.connection_laws.specs.Progress.{Progress, IsWithin};
-ghost use Rattle.farm_answers.specs.Texts.{AnswerHasDates};
+ghost use Rattle.farm_wire.specs.Answers.{AnswerHasDates};
 ghost use Rattle.farm_http.specs.Bytes.{OutSays, PutSays, farm_response, farm_responses, request_bytes, requests_bytes, said};
 ghost use Rattle.farm_http.specs.Callers.{mark_of};
-ghost use Rattle.farm_http.specs.Faults.{OnLinkFault};
+ghost use Rattle.farm_http.specs.Faults.{OnPutFault};
 ghost use Rattle.farm_http.specs.Fronts.{FrontSays};
 ghost use Rattle.farm_http.specs.Received.{is_complete};
 ghost use Rattle.farm_http.specs.Turns.{IsBatchPut};
 
-use crate::batch::Batch;
 use crate::front::Answered;
+use crate::kept::Kept;
 use crate::received::Received;
 use crate::responses::{Says, put_behind, put_out, put_response};
+use crate::service::Service;
 use connection_laws::ServeFault;
-use farm_answers::{answer_status, answer_text_in};
 use farm_disk::Disk;
-use farm_store::{Answer, Ask, CallFault};
-use farm_wire::{WireFault, command_of, fault_text};
+use farm_entry::Answer;
+use farm_store::{Ask, CallFault};
+use farm_wire::{WireFault, answer_text_in, command_of, fault_text};
 use gathered_sink::Gathered;
-use http_answers::store_fault_text;
-use http_requests::{LastHead, Request};
-use http_routes::Pages;
+use http_answers::{answer_status, store_fault_text};
+use http_requests::Request;
 use http_words::{Endpoint, Route, StatusCode};
 use link_io::{Clock, Link, Sink};
-use shared_farm::{Beginning, Pass, SharedFarm};
+use shared_farm::{Beginning, Pass};
 use std::alloc::Global;
 use std::mem;
 use std::sync::Wait;
@@ -38,62 +38,99 @@ use std::sync::Wait;
 /// The most bytes of room for texts that a connection keeps.
 const MOST_ROOM: usize = 65_536;
 
-/// Answers the command at the front, and with it those behind it that may share its turn. Their texts are written in the
-/// room.
-pub(crate) fn answer_commands<R: Wait, L: Link, D: Disk, B: Beginning, C: Clock>(
-    rt: &R,
-    alloc: Global,
-    pages: &Pages,
-    shared: &SharedFarm<D, B>,
-    pass: &mut Pass,
-    last: &mut LastHead,
-    batch: &mut Batch,
-    room: &mut String,
-    out: &mut Gathered,
-    link: &mut L,
-    clock: &C,
-    received: &Received,
-    first: &Request,
-    route: Route,
-) -> Result<Answered, ServeFault>
-    requires ready { IsReady shared.now pass.old }
-    requires next { IsNextFor (is_complete received.now) received.now.held first.now }
-    requires asks { first.now.asks ≡ Ok (Endpoint.Command route) }
-    requires interim { received.now.interim ≡ first.now.interim }
-    requires empty { out.old ≡ [] }
-    ensures ready { IsReady shared.now pass.new }
-    ensures empty { OnOk result (out.new ≡ []) }
-    ensures says { (c : Progress) → IsWithin c (mark_of pass.old)
-        → FrontSays (MayGive C.Clock clock.now) c (is_complete received.now) received.now.held received.now.interim
-        (L.Sink.written link.old) (L.Sink.written link.new) (record { pass = pass.old; read = c.totals })
-        (record { pass = pass.new; read = c.totals }) result }
-    ensures aside { L.Sink.aside link.new ≡ L.Sink.aside link.old }
-    ensures cause { OnLinkFault result (Rose (L.Sink.count link.old) (L.Sink.count link.new)) }
-    ensures never_falls { L.Sink.count link.old ≤ L.Sink.count link.new }
-{
-    let held = received.held();
-    let command = match command_of(alloc, &route, &held[first.body..first.size]) {
-        Ok(command) => command,
-        Err(fault) => {
-            answer_misread(alloc, out, link, first, &fault)?;
+impl Kept {
+    /// Answers the command at the front, and with it those behind it that may share its turn.
+    pub fn answer_commands<R: Wait, L: Link, D: Disk, B: Beginning, C: Clock>(
+        &mut self,
+        service: &Service<R, D, B, C>,
+        pass: &mut Pass,
+        link: &mut L,
+        received: &Received,
+        first: &Request,
+        route: Route,
+    ) -> Result<Answered, ServeFault>
+        requires ready { IsReady service.now.farm.now pass.old }
+        requires next { IsNextFor (is_complete received.now) received.now.held first.now }
+        requires asks { first.now.asks ≡ Ok (Endpoint.Command route) }
+        requires interim { received.now.interim ≡ first.now.interim }
+        requires empty { self.old.out ≡ [] }
+        ensures ready { IsReady service.now.farm.now pass.new }
+        ensures empty { OnOk result (self.new.out ≡ []) }
+        ensures says { (c : Progress) → IsWithin c (mark_of pass.old)
+            → FrontSays (GivenBy C.Clock service.now.clock.now D.count) c (is_complete received.now) received.now.held
+            received.now.interim (L.Sink.written link.old) (L.Sink.written link.new)
+            (record { pass = pass.old; reader = c.totals }) (record { pass = pass.new; reader = c.totals }) result }
+        ensures aside { L.Sink.aside link.new ≡ L.Sink.aside link.old }
+        ensures cause { OnPutFault result (Rose (L.Sink.count link.old) (L.Sink.count link.new)) }
+        ensures never_falls { L.Sink.count link.old ≤ L.Sink.count link.new }
+    {
+        let held = received.held();
+        let command = match command_of(service.alloc, &route, &held[first.body..first.size]) {
+            Ok(command) => command,
+            Err(fault) => {
+                answer_misread(service.alloc, &mut self.out, link, first, &fault)?;
+                return Ok(Answered::one(first));
+            }
+        };
+        let at = service.clock.now();
+        if !self.batch.begin(first, Ask { command, at }) {
+            put_response(&mut self.out, link, first, &Says::no_memory())?;
             return Ok(Answered::one(first));
         }
-    };
-    let at = clock.now();
-    if !batch.begin(first, Ask { command, at }) {
-        put_response(out, link, first, &Says::no_memory())?;
-        return Ok(Answered::one(first));
+        self.batch
+            .gather(service, &mut self.last, held, received.is_complete());
+        self.answer_batch(service, pass, link)?;
+        bound_room(service.alloc, &mut self.text);
+        let done = Answered {
+            requests: self.batch.asks().len() as u64,
+            size: self.batch.size(),
+            closes: self.batch.closes(),
+        };
+        self.batch.clear();
+        Ok(done)
     }
-    batch.gather(alloc, pages, last, clock, held, received.is_complete());
-    answer_batch(rt, alloc, shared, pass, room, out, link, batch)?;
-    bound_room(alloc, room);
-    let done = Answered {
-        requests: batch.asks().len() as u64,
-        size: batch.size(),
-        closes: batch.closes(),
-    };
-    batch.clear();
-    Ok(done)
+
+    /// Asks the farm for the batch at one turn, and puts its answers.
+    fn answer_batch<R: Wait, L: Link, D: Disk, B: Beginning, C: Clock>(
+        &mut self,
+        service: &Service<R, D, B, C>,
+        pass: &mut Pass,
+        link: &mut L,
+    ) -> Result<(), ServeFault>
+        requires ready { IsReady service.now.farm.now pass.old }
+        requires some { 1 ≤ length self.old.batch.asks }
+        requires empty { self.old.out ≡ [] }
+        ensures same { self.new.batch ≡ self.old.batch }
+        ensures ready { IsReady service.now.farm.now pass.new }
+        ensures empty { OnOk result (self.new.out ≡ []) }
+        ensures faults { pass.old.faults ≤ pass.new.faults }
+        ensures says { IsBatchPut D.count self.old.batch.asks self.old.batch.requests pass.old pass.new
+            (L.Sink.written link.old) (L.Sink.written link.new) result }
+        ensures aside { L.Sink.aside link.new ≡ L.Sink.aside link.old }
+        ensures cause { OnPutFault result (Rose (L.Sink.count link.old) (L.Sink.count link.new)) }
+        ensures never_falls { L.Sink.count link.old ≤ L.Sink.count link.new }
+    {
+        match self.batch.ask(service, pass) {
+            Ok(answers) => put_answers(
+                service.alloc,
+                &mut self.text,
+                &mut self.out,
+                link,
+                self.batch.requests(),
+                answers.as_slice(),
+            ),
+            Err(CallFault::StoreFault { .. }) => {
+                let says = Says::plain(StatusCode::Unavailable, store_fault_text());
+                put_each(&mut self.out, link, self.batch.requests(), &says)
+            }
+            Err(_) => put_each(
+                &mut self.out,
+                link,
+                self.batch.requests(),
+                &Says::no_memory(),
+            ),
+        }
+    }
 }
 
 /// Lets room go that is larger than is kept from one batch to the next.
@@ -119,7 +156,7 @@ fn answer_misread<K: Sink>(
     ensures unread { fault.now ≡ WireFault.Memory
         → PutSays (request_bytes request.now no_memory) (K.written link.old) (K.written link.new) result }
     ensures aside { K.aside link.new ≡ K.aside link.old }
-    ensures cause { OnLinkFault result (Rose (K.count link.old) (K.count link.new)) }
+    ensures cause { OnPutFault result (Rose (K.count link.old) (K.count link.new)) }
     ensures never_falls { K.count link.old ≤ K.count link.new }
 {
     if *fault == WireFault::Memory {
@@ -131,40 +168,6 @@ fn answer_misread<K: Sink>(
             put_response(out, link, request, &says)
         }
         Err(_) => put_response(out, link, request, &Says::no_memory()),
-    }
-}
-
-/// Asks the farm for a batch at one turn, and puts its answers.
-fn answer_batch<R: Wait, L: Link, D: Disk, B: Beginning>(
-    rt: &R,
-    alloc: Global,
-    shared: &SharedFarm<D, B>,
-    pass: &mut Pass,
-    room: &mut String,
-    out: &mut Gathered,
-    link: &mut L,
-    batch: &mut Batch,
-) -> Result<(), ServeFault>
-    requires ready { IsReady shared.now pass.old }
-    requires some { 1 ≤ length batch.old.asks }
-    requires empty { out.old ≡ [] }
-    ensures same { batch.new ≡ batch.old }
-    ensures ready { IsReady shared.now pass.new }
-    ensures empty { OnOk result (out.new ≡ []) }
-    ensures faults { pass.old.faults ≤ pass.new.faults }
-    ensures says { IsBatchPut D.count batch.old.asks batch.old.requests pass.old pass.new (L.Sink.written link.old)
-        (L.Sink.written link.new) result }
-    ensures aside { L.Sink.aside link.new ≡ L.Sink.aside link.old }
-    ensures cause { OnLinkFault result (Rose (L.Sink.count link.old) (L.Sink.count link.new)) }
-    ensures never_falls { L.Sink.count link.old ≤ L.Sink.count link.new }
-{
-    match batch.ask(rt, alloc, shared, pass) {
-        Ok(answers) => put_answers(alloc, room, out, link, batch.requests(), answers.as_slice()),
-        Err(CallFault::StoreFault { .. }) => {
-            let says = Says::plain(StatusCode::Unavailable, store_fault_text());
-            put_each(out, link, batch.requests(), &says)
-        }
-        Err(_) => put_each(out, link, batch.requests(), &Says::no_memory()),
     }
 }
 
@@ -185,7 +188,7 @@ fn put_answers<K: Sink>(
         × PutSays (requests_bytes requests.now (farm_responses answers.now written)) (K.written link.old)
         (K.written link.new) result }
     ensures aside { K.aside link.new ≡ K.aside link.old }
-    ensures cause { OnLinkFault result (Rose (K.count link.old) (K.count link.new)) }
+    ensures cause { OnPutFault result (Rose (K.count link.old) (K.count link.new)) }
     ensures never_falls { K.count link.old ≤ K.count link.new }
 {
     let mut place = 0;
@@ -210,7 +213,7 @@ fn put_farm_answer<K: Sink>(
         (record { sent = K.written link.old; held = out.old })
         (record { sent = K.written link.new; held = out.new }) result }
     ensures aside { K.aside link.new ≡ K.aside link.old }
-    ensures cause { OnLinkFault result (Rose (K.count link.old) (K.count link.new)) }
+    ensures cause { OnPutFault result (Rose (K.count link.old) (K.count link.new)) }
     ensures never_falls { K.count link.old ≤ K.count link.new }
 {
     match answer_text_in(alloc, mem::replace(room, String::new(alloc)), answer) {
@@ -235,7 +238,7 @@ fn put_each<K: Sink>(
     ensures says { PutSays (requests_bytes requests.now (map (λ _. said says.now) requests.now))
         (K.written link.old) (K.written link.new) result }
     ensures aside { K.aside link.new ≡ K.aside link.old }
-    ensures cause { OnLinkFault result (Rose (K.count link.old) (K.count link.new)) }
+    ensures cause { OnPutFault result (Rose (K.count link.old) (K.count link.new)) }
     ensures never_falls { K.count link.old ≤ K.count link.new }
 {
     let mut place = 0;

@@ -3,7 +3,7 @@ ghost use Rattle.std.specs.Prelude.{◌≡◌, ◌≤◌, [], Bool, OnOk, true};
 ghost use Rattle.fault_types.specs.Counts.{Rose};
 ghost use Rattle.turn_lock.specs.Known.{IsReady};
 ghost use Rattle.http_requests.specs.Next.{IsNextFor};
-ghost use Rattle.connection_laws.specs.Moments.{MayGive};
+ghost use Rattle.connection_laws.specs.Moments.{GivenBy};
 ghost use Rattle.connection_laws.specs.Progress.{Progress, IsWithin};
 ghost use Rattle.farm_entry.specs.Legal.{IsLegal};
 ghost use Rattle.list_prefix.specs.Prefix.{IsPrefix};
@@ -11,25 +11,25 @@ ghost use Rattle.connection_laws.specs.Answers.{response_of, response_to};
 ghost use Rattle.connection_laws.specs.Outcomes.{counted, faulted};
 ghost use Rattle.farm_http.specs.Bytes.{PutSays, request_bytes};
 ghost use Rattle.farm_http.specs.Callers.{mark_of};
-ghost use Rattle.farm_http.specs.Faults.{OnLinkFault};
+ghost use Rattle.farm_http.specs.Faults.{OnPutFault};
 ghost use Rattle.farm_http.specs.Fronts.{FrontSays};
 ghost use Rattle.farm_http.specs.Received.{is_complete};
 
-use crate::commands::answer_commands;
+use crate::caller::Caller;
 use crate::kept::Kept;
 use crate::log_page::answer_log;
 use crate::received::Received;
 use crate::responses::{Says, put_bytes, put_response};
-use crate::told::{ToldTotals, tell};
+use crate::service::Service;
+use crate::told::tell;
 use connection_laws::ServeFault;
 use farm_disk::Disk;
 use gathered_sink::Gathered;
 use http_answers::{fault_allow, fault_status, fault_text};
 use http_requests::Request;
-use http_routes::Pages;
 use http_words::{Endpoint, Fault};
 use link_io::{Clock, Link, Sink};
-use shared_farm::{Beginning, Pass, SharedFarm, TotalsReader};
+use shared_farm::{Beginning, TotalsReader};
 use std::alloc::Global;
 use std::sync::Wait;
 
@@ -59,63 +59,72 @@ impl Answered {
     }
 }
 
-/// Answers the request at the front, and with it the commands behind it that may share its turn.
-pub(crate) fn answer_front<R: Wait, L: Link, D: Disk, B: Beginning, C: Clock>(
-    rt: &R,
-    alloc: Global,
-    pages: &Pages,
-    shared: &SharedFarm<D, B>,
-    pass: &mut Pass,
-    reader: &mut TotalsReader,
-    kept: &mut Kept,
-    out: &mut Gathered,
-    link: &mut L,
-    clock: &C,
-    received: &Received,
-    first: &Request,
-) -> Result<Answered, ServeFault>
-    requires ready { IsReady shared.now pass.old }
-    requires empty { out.old ≡ [] }
-    requires next { IsNextFor (is_complete received.now) received.now.held first.now }
-    requires interim { received.now.interim ≡ first.now.interim }
-    ensures ready { IsReady shared.now pass.new }
-    ensures empty { OnOk result (out.new ≡ []) }
-    ensures says { (c : Progress) → IsWithin c (mark_of pass.old) → reader.old ≡ c.totals
-        → FrontSays (MayGive C.Clock clock.now) c (is_complete received.now) received.now.held received.now.interim
-        (L.Sink.written link.old) (L.Sink.written link.new) (record { pass = pass.old; read = reader.old })
-        (record { pass = pass.new; read = reader.new }) result }
-    ensures aside { L.Sink.aside link.new ≡ L.Sink.aside link.old }
-    ensures cause { OnLinkFault result (Rose (L.Sink.count link.old) (L.Sink.count link.new)) }
-    ensures never_falls { L.Sink.count link.old ≤ L.Sink.count link.new }
-{
-    match first.asks {
-        Ok(Endpoint::Command(route)) => answer_commands(
-            rt,
-            alloc,
-            pages,
-            shared,
-            pass,
-            &mut kept.last,
-            &mut kept.batch,
-            &mut kept.text,
-            out,
-            link,
-            clock,
-            received,
-            first,
-            route,
-        ),
-        Ok(Endpoint::Totals) => {
-            answer_totals(alloc, reader, &mut kept.told, out, link, first)?;
-            Ok(Answered::one(first))
+impl Kept {
+    /// Answers the request at the front, and with it the commands behind it that may share its turn.
+    pub fn answer_front<R: Wait, L: Link, D: Disk, B: Beginning, C: Clock>(
+        &mut self,
+        service: &Service<R, D, B, C>,
+        caller: &mut Caller,
+        link: &mut L,
+        received: &Received,
+        first: &Request,
+    ) -> Result<Answered, ServeFault>
+        requires ready { IsReady service.now.farm.now caller.old.pass }
+        requires empty { self.old.out ≡ [] }
+        requires next { IsNextFor (is_complete received.now) received.now.held first.now }
+        requires interim { received.now.interim ≡ first.now.interim }
+        ensures ready { IsReady service.now.farm.now caller.new.pass }
+        ensures empty { OnOk result (self.new.out ≡ []) }
+        ensures says { (c : Progress) → IsWithin c (mark_of caller.old.pass) → caller.old.reader ≡ c.totals
+            → FrontSays (GivenBy C.Clock service.now.clock.now D.count) c (is_complete received.now) received.now.held
+            received.now.interim (L.Sink.written link.old) (L.Sink.written link.new) caller.old caller.new result }
+        ensures aside { L.Sink.aside link.new ≡ L.Sink.aside link.old }
+        ensures cause { OnPutFault result (Rose (L.Sink.count link.old) (L.Sink.count link.new)) }
+        ensures never_falls { L.Sink.count link.old ≤ L.Sink.count link.new }
+    {
+        match first.asks {
+            Ok(Endpoint::Command(route)) => {
+                self.answer_commands(service, &mut caller.pass, link, received, first, route)
+            }
+            Ok(Endpoint::Totals) => {
+                self.answer_totals(service.alloc, &mut caller.reader, link, first)?;
+                Ok(Answered::one(first))
+            }
+            Ok(Endpoint::Log(from)) => {
+                answer_log(service, &mut caller.pass, &mut self.out, link, first, from)?;
+                Ok(Answered::one(first))
+            }
+            Err(fault) => {
+                answer_fault(&mut self.out, link, first, fault)?;
+                Ok(Answered::one(first))
+            }
         }
-        Ok(Endpoint::Log(from)) => {
-            answer_log(rt, alloc, shared, pass, out, link, first, from)?;
-            Ok(Answered::one(first))
-        }
-        Err(fault) => {
-            answer_fault(out, link, first, fault)?;
-            Ok(Answered::one(first))
+    }
+
+    /// Answers a request for the totals that were posted last.
+    fn answer_totals<K: Sink>(
+        &mut self,
+        alloc: Global,
+        reader: &mut TotalsReader,
+        link: &mut K,
+        request: &Request,
+    ) -> Result<(), ServeFault>
+        requires empty { self.old.out ≡ [] }
+        ensures empty { OnOk result (self.new.out ≡ []) }
+        ensures longer { IsPrefix reader.old reader.new }
+        ensures legal { IsLegal reader.new }
+        ensures says { (written : Bool) × PutSays
+            (request_bytes request.now (response_of (record { outcome = counted reader.new; written = written })))
+            (K.written link.old) (K.written link.new) result }
+        ensures aside { K.aside link.new ≡ K.aside link.old }
+        ensures cause { OnPutFault result (Rose (K.count link.old) (K.count link.new)) }
+        ensures never_falls { K.count link.old ≤ K.count link.new }
+    {
+        let totals = reader.totals();
+        tell(alloc, &mut self.told, &totals, request);
+        match &self.told {
+            Some(last) => put_bytes(link, last.bytes()),
+            None => put_response(&mut self.out, link, request, &Says::no_memory()),
         }
     }
 }
@@ -132,7 +141,7 @@ fn answer_fault<K: Sink>(
     ensures says { PutSays (request_bytes request.now (response_to (faulted fault))) (K.written link.old)
         (K.written link.new) result }
     ensures aside { K.aside link.new ≡ K.aside link.old }
-    ensures cause { OnLinkFault result (Rose (K.count link.old) (K.count link.new)) }
+    ensures cause { OnPutFault result (Rose (K.count link.old) (K.count link.new)) }
     ensures never_falls { K.count link.old ≤ K.count link.new }
 {
     let says = Says {
@@ -141,32 +150,4 @@ fn answer_fault<K: Sink>(
         body: fault_text(fault),
     };
     put_response(out, link, request, &says)
-}
-
-/// Answers a request for the totals that were posted last.
-fn answer_totals<K: Sink>(
-    alloc: Global,
-    reader: &mut TotalsReader,
-    told: &mut Option<ToldTotals>,
-    out: &mut Gathered,
-    link: &mut K,
-    request: &Request,
-) -> Result<(), ServeFault>
-    requires empty { out.old ≡ [] }
-    ensures empty { OnOk result (out.new ≡ []) }
-    ensures longer { IsPrefix reader.old reader.new }
-    ensures legal { IsLegal reader.new }
-    ensures says { (written : Bool) × PutSays
-        (request_bytes request.now (response_of (record { outcome = counted reader.new; written = written })))
-        (K.written link.old) (K.written link.new) result }
-    ensures aside { K.aside link.new ≡ K.aside link.old }
-    ensures cause { OnLinkFault result (Rose (K.count link.old) (K.count link.new)) }
-    ensures never_falls { K.count link.old ≤ K.count link.new }
-{
-    let totals = reader.totals();
-    tell(alloc, told, &totals, request);
-    match told {
-        Some(last) => put_bytes(link, last.bytes()),
-        None => put_response(out, link, request, &Says::no_memory()),
-    }
 }

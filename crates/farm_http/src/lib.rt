@@ -4,13 +4,16 @@
 //! order of the requests. Commands that stand whole in the bytes held go to the farm together, as one batch at one
 //! turn. What it came to is one clause, `Serves` of `connection_laws`.
 //!
-//! The crate stands on `http_requests` for what comes next of the bytes held, on `farm_wire` for commands in bodies, on
-//! `shared_farm` for turns and totals, on `farm_answers` and `http_answers` for answers, on `link_io` for links and
-//! clocks, and on `connection_laws` for what is held of a connection. The layers above may use every name below.
+//! The crate stands on `http_requests` for what comes next of the bytes held, on `farm_wire` for commands in bodies and
+//! the texts of answers, on `shared_farm` for turns and totals, on `http_answers` for statuses and bytes, on `link_io`
+//! for links and clocks, and on `connection_laws` for what is held of a connection. The layers above may use every name
+//! below.
 #![tactic(auto)]
 
 mod batch;
+mod caller;
 mod commands;
+mod connection;
 mod fault_answers;
 mod front;
 mod kept;
@@ -19,8 +22,11 @@ mod log_page;
 mod received;
 mod responses;
 mod serve;
+mod service;
 mod told;
 
+pub use caller::Caller;
 pub use connection_laws::{ServeFault, Served, Why};
 pub use http_routes::Pages;
 pub use serve::serve_link;
+pub use service::Service;

@@ -6,7 +6,7 @@ ghost use Rattle.link_io.specs.declared.source.TheConstants.{INPUT_LIMIT, PIECE}
 ghost use Rattle.connection_laws.specs.Answers.{interim_of};
 ghost use Rattle.http_requests.specs.Next.{AwaitsHead, Says};
 ghost use Rattle.farm_http.specs.Bytes.{PutSays};
-ghost use Rattle.farm_http.specs.Faults.{OnLinkFault};
+ghost use Rattle.farm_http.specs.Faults.{OnLinkFault, OnPutFault};
 ghost use Rattle.farm_http.specs.Received.{IsAdded, IsTaken, is_complete, nothing_received};
 
 use crate::fault_answers::unput;
@@ -46,7 +46,12 @@ impl Model for Received {
 
     ghost Value = { ReceivedState };
 
-    ghost view = { λ r. record { held = drop r.from r.bytes.items; taken = r.taken; ended = r.ended; interim = r.interim } };
+    ghost view = { λ r. record {
+      held = drop r.from r.bytes.items;
+      taken = r.taken;
+      ended = r.ended;
+      interim = r.interim;
+    } };
 
     ghost invariant = { λ r. (r.from ≤ vec_len r.bytes) × (r.taken ≤ INPUT_LIMIT)
         × IsReading r.reading (drop r.from r.bytes.items) };
@@ -168,7 +173,8 @@ impl Received {
     /// Takes a piece more, which is held then. Where the link fails or memory runs out, nothing was taken.
     fn take_piece<S: Source>(&mut self, link: &mut S) -> Result<(), ServeFault>
         requires open_ { is_complete self.old ≡ false }
-        ensures taken { OnOk result (IsTaken self.old self.new (S.taken link.old) (S.taken link.new) (S.ended link.new)) }
+        ensures taken { OnOk result
+            (IsTaken self.old self.new (S.taken link.old) (S.taken link.new) (S.ended link.new)) }
         ensures failed { OnErr result (self.new ≡ self.old) }
         ensures untaken { OnErr result (S.taken link.new ≡ S.taken link.old) }
         ensures aside { S.aside link.new ≡ S.aside link.old }
@@ -186,11 +192,12 @@ impl Received {
 
     /// Puts the interim answer of the request at the front, where it is asked for, unless it is out.
     pub fn put_interim<K: Sink>(&mut self, asked: bool, link: &mut K) -> Result<(), ServeFault>
-        ensures says { PutSays (interim_of (asked && not self.old.interim)) (K.written link.old) (K.written link.new) result }
+        ensures says { PutSays (interim_of (asked && not self.old.interim)) (K.written link.old) (K.written link.new)
+            result }
         ensures out { OnOk result (self.new ≡ record self.old { interim = self.old.interim || asked }) }
         ensures kept { OnErr result (self.new ≡ self.old) }
         ensures aside { K.aside link.new ≡ K.aside link.old }
-        ensures cause { OnLinkFault result (Rose (K.count link.old) (K.count link.new)) }
+        ensures cause { OnPutFault result (Rose (K.count link.old) (K.count link.new)) }
         ensures never_falls { K.count link.old ≤ K.count link.new }
     {
         if !asked {
@@ -229,7 +236,8 @@ fn take_behind<S: Source>(
 ) -> Result<usize, ServeFault>
     requires some { 0 < room }
     requires few { room ≤ PIECE }
-    ensures taken { IfOk result (λ count. IsAdded count room held.old.items held.new.items (S.taken link.old) (S.taken link.new)) }
+    ensures taken { IfOk result (λ count. IsAdded count room held.old.items held.new.items (S.taken link.old)
+        (S.taken link.new)) }
     ensures ended { IfOk result (λ count. S.ended link.new ≡ (count == 0)) }
     ensures failed { OnErr result (held.new.items ≡ held.old.items) }
     ensures untaken { OnErr result (S.taken link.new ≡ S.taken link.old) }

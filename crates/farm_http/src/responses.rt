@@ -4,7 +4,7 @@ ghost use Rattle.std.specs.Io.KnownBytes.{append_known};
 ghost use Rattle.fault_types.specs.Counts.{Rose};
 ghost use Rattle.connection_laws.specs.Answers.{no_memory, plain};
 ghost use Rattle.farm_http.specs.Bytes.{OutSays, PutSays, request_bytes, said};
-ghost use Rattle.farm_http.specs.Faults.{OnLinkFault};
+ghost use Rattle.farm_http.specs.Faults.{OnPutFault};
 
 use crate::fault_answers::unput;
 use connection_laws::ServeFault;
@@ -90,7 +90,7 @@ pub(crate) fn put_out<K: Sink>(out: &mut Gathered, link: &mut K) -> Result<(), S
         (record { sent = K.written link.new; held = out.new }) result }
     ensures empty { OnOk result (out.new ≡ []) }
     ensures aside { K.aside link.new ≡ K.aside link.old }
-    ensures cause { OnLinkFault result (Rose (K.count link.old) (K.count link.new)) }
+    ensures cause { OnPutFault result (Rose (K.count link.old) (K.count link.new)) }
     ensures never_falls { K.count link.old ≤ K.count link.new }
 {
     match out.put_on(link) {
@@ -112,7 +112,7 @@ pub(crate) fn put_behind<K: Sink>(
         (record { sent = K.written link.old; held = out.old })
         (record { sent = K.written link.new; held = out.new }) result }
     ensures aside { K.aside link.new ≡ K.aside link.old }
-    ensures cause { OnLinkFault result (Rose (K.count link.old) (K.count link.new)) }
+    ensures cause { OnPutFault result (Rose (K.count link.old) (K.count link.new)) }
     ensures never_falls { K.count link.old ≤ K.count link.new }
 {
     if gather(out, request, says) {
@@ -132,7 +132,7 @@ pub(crate) fn put_behind<K: Sink>(
 pub(crate) fn put_bytes<K: Sink>(link: &mut K, bytes: &[u8]) -> Result<(), ServeFault>
     ensures says { PutSays bytes.now (K.written link.old) (K.written link.new) result }
     ensures aside { K.aside link.new ≡ K.aside link.old }
-    ensures cause { OnLinkFault result (Rose (K.count link.old) (K.count link.new)) }
+    ensures cause { OnPutFault result (Rose (K.count link.old) (K.count link.new)) }
     ensures never_falls { K.count link.old ≤ K.count link.new }
 {
     match put_all(link, bytes) {
@@ -150,9 +150,10 @@ pub(crate) fn put_response<K: Sink>(
 ) -> Result<(), ServeFault>
     requires empty { out.old ≡ [] }
     ensures empty { OnOk result (out.new ≡ []) }
-    ensures says { PutSays (request_bytes request.now (said says.now)) (K.written link.old) (K.written link.new) result }
+    ensures says { PutSays (request_bytes request.now (said says.now)) (K.written link.old)
+        (K.written link.new) result }
     ensures aside { K.aside link.new ≡ K.aside link.old }
-    ensures cause { OnLinkFault result (Rose (K.count link.old) (K.count link.new)) }
+    ensures cause { OnPutFault result (Rose (K.count link.old) (K.count link.new)) }
     ensures never_falls { K.count link.old ≤ K.count link.new }
 {
     put_behind(out, link, request, says)?;

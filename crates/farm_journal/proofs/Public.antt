@@ -62,11 +62,6 @@ waits-public known ps g p disk waits = record {
   images = λ c image. either-public known ps g p c (waits.images c image);
 }
 
--- the closed gate is within the file
-pub rests-within : (known : ℕ) (ps : List (List ℕ)) (g : ℕ) (disk : DiskState) → Rests known ps g disk
-    → g < length disk.bytes
-rests-within known ps g disk rests = holds-within rests.stands.version ps g disk.bytes rests.stands.held
-
 pub waits-within : (known : ℕ) (ps : List (List ℕ)) (g : ℕ) (p : List ℕ) (disk : DiskState) → Waits known ps g p disk
     → g < length disk.bytes
 waits-within known ps g p disk waits = ⊎_elim

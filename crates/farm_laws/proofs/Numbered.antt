@@ -110,9 +110,6 @@ orders-numbered =
 
 -- a number finds its part
 
-range-at-least : (a n i d : ℕ) → i < n → a ≤ get_or (range_with_len a n) i d
-range-at-least a n i d below = omega (arith, get_or-range_with_len a n i d below)
-
 -- in a list that is numbered from a on, the number of the item at place i is a + i
 pub number-at : {X : Type 0} (number : X → ℕ) (a : ℕ) (xs : List X) → map number xs ≡ range_with_len a (length xs) →
     (i : ℕ) (d : X) → i < length xs → number (get_or xs i d) ≡ a + i

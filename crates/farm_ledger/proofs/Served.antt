@@ -187,25 +187,6 @@ pub served-some : (H : List Entry) (low : ℕ) (x : Option Candidate) → IsLega
 served-some H low None legal s is some = absurd (true≢false (sym some))
 served-some H low (Some c) legal s is some = served-first H low c legal s is
 
--- one more is passed
-pub served-next : (H : List Entry) (low : ℕ) → IsServed H low → low < length (openings H) → waiting_numbered H (low + 1) ≡ None →
-    IsServed H (low + 1)
-served-next H low s more none = record {
-  within = omega (arith, more);
-  none = λ number small.
-      ⊎_elim
-      (λ (here : number ≡ low + 1). ap (waiting_numbered H) here ∙ none)
-      (λ (other : number ≡ low + 1 → ⊥). s.none number (omega (arith, other, small)))
-      (cases_eq number (low + 1));
-}
-
--- none is passed
-pub served-none : (H : List Entry) → IsLegal H → IsServed H 0
-served-none H legal = record {
-  within = omega arith;
-  none = λ number small. waiting-unopened H number legal (inl (omega (arith, small)));
-}
-
 -- One entry more.
 
 -- what has an order keeps it

@@ -1,7 +1,7 @@
 -- What is left of a plan once runs strike entries of it.
-use Rattle.std.proofs.Common.{◌≡◌, ℕ, ◌+◌, ◌-◌, ◌==◌, ◌<◌, ◌≤◌, List, [], ◌∷◌, ◌++◌, length, true, false, cond, refl, sym, ◌∙◌, ap, arith, eq-eqb, ne_eqb, ⊎_elim, IsPermutation}
+use Rattle.std.proofs.Common.{◌≡◌, ℕ, ◌+◌, ◌-◌, ◌==◌, ◌<◌, ◌≤◌, List, [], ◌∷◌, length, true, false, cond, refl, sym, ◌∙◌, ap, arith, eq-eqb, ne_eqb, ⊎_elim, IsPermutation}
 use Rattle.std.proofs.lemmas.Bool.{cases_eq, cases_lt}
-use Rattle.std.proofs.lemmas.List.Sums.{sum_by-cons, sum_by-append}
+use Rattle.std.proofs.lemmas.List.Sums.{sum_by-cons}
 use Rattle.std.proofs.lemmas.List.Sorted.{length_permutation, sum_by-IsPermutation}
 use Rattle.std.specs.Prelude.{None, if◌then◌else◌, nat_lt}
 use Rattle.farm_rules.specs.Due.{strike, struck, first_entry, times_at, due_search, due_verify}
@@ -13,14 +13,6 @@ one_at position entry = cond (entry == position) 1 0
 pub times_at-cons : (position entry : ℕ) (positions : List ℕ) →
     times_at position (entry ∷ positions) ≡ one_at position entry + times_at position positions
 times_at-cons position entry positions = sum_by-cons (one_at position) entry positions
-
-pub times_at-snoc : (position entry : ℕ) (positions : List ℕ) →
-    times_at position (positions ++ entry ∷ []) ≡ times_at position positions + one_at position entry
-times_at-snoc position entry positions =
-    let joined : times_at position (positions ++ entry ∷ []) ≡ times_at position positions + times_at position (entry ∷ []) =
-    sum_by-append (one_at position) positions (entry ∷ []) in
-    let last : times_at position (entry ∷ []) ≡ one_at position entry + 0 = times_at-cons position entry [] in
-    omega (arith, joined, last)
 
 pub one_at-same : (position entry : ℕ) → entry ≡ position → one_at position entry ≡ 1
 one_at-same position entry same = let test : (entry == position) ≡ true = eq-eqb entry position same in rw test
@@ -78,12 +70,6 @@ times_at-strike p position (entry ∷ positions) some =
     let kept = times_at-cons p entry (strike position positions) in
     rw test (omega (arith, split_p, rest, kept)))
     (cases_eq entry position)
-
--- a strike of one position more
-pub struck-snoc : (plan outstanding : List ℕ) (position : ℕ) →
-    struck plan (outstanding ++ position ∷ []) ≡ strike position (struck plan outstanding)
-struck-snoc plan [] position = refl
-struck-snoc plan (p ∷ outstanding) position = struck-snoc (strike p plan) outstanding position
 
 -- a strike takes one entry at most
 length-strike : (position : ℕ) (plan : List ℕ) → length plan ≤ length (strike position plan) + 1

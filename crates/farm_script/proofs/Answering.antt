@@ -1,19 +1,23 @@
 -- Lines that were answered, and where answering stopped.
-use Rattle.std.proofs.Common.{◌≡◌, ℕ, List, [], ◌∷◌, ◌++◌, Option, refl, sym, ap, ◌∙◌, subst, inl, inr, append_assoc, arith}
+use Rattle.std.proofs.Common.{◌≡◌, ℕ, List, [], ◌∷◌, ◌++◌, Option, refl, sym, ap, ◌∙◌, subst, inl, inr, append_assoc}
+use Rattle.std.proofs.Common.{arith}
 use Rattle.std.proofs.lemmas.List.{append-nil, length-append}
 use Rattle.std.specs.Io.KnownBytes.{append_known}
 use Rattle.std.specs.Prelude.{Result, Ok, Err, IsErrOf}
 use Rattle.std.specs.Result.{IsErrAnd}
 use Rattle.link_io.proofs.Told.{append_known-nil, append_known-append}
-use Rattle.farm_script.specs.Script.{Rule, reply_line, next_history, text_of, history_of, Answered, FailsIn, IsPendingOf, StopPoint, StopsIn, IsUnshown}
+use Rattle.farm_script.specs.Script.{Rule, reply_line, next_history, text_of, history_of, Answered, FailsIn}
+use Rattle.farm_script.specs.Script.{IsPendingOf, StopPoint, StopsIn, IsUnshown}
 
 pub text_of-append : {E : Type 0} (rule : Rule E) (history : List E) (some more : List (List ℕ))
-    → text_of rule history (some ++ more) ≡ text_of rule history some ++ text_of rule (history_of rule history some) more
+    → text_of rule history (some ++ more)
+    ≡ text_of rule history some ++ text_of rule (history_of rule history some) more
 text_of-append rule history [] more = refl
 text_of-append rule history (line ∷ some) more =
     let next = next_history rule history line in
     ap (λ t. reply_line rule history line ++ t) (text_of-append rule next some more)
-    ∙ sym (append_assoc (reply_line rule history line) (text_of rule next some) (text_of rule (history_of rule next some) more))
+    ∙ sym (append_assoc (reply_line rule history line) (text_of rule next some)
+    (text_of rule (history_of rule next some) more))
 
 pub history_of-append : {E : Type 0} (rule : Rule E) (history : List E) (some more : List (List ℕ))
     → history_of rule history (some ++ more) ≡ history_of rule (history_of rule history some) more
@@ -74,7 +78,8 @@ point-more {E} rule now w more [] first w0 s =
 point-more rule now w more (line ∷ some) first w0 (inl s) = inl s
 point-more rule now w more (line ∷ some) first w0 (inr (inl s)) = inr (inl s)
 point-more rule now w more (line ∷ some) first w0 (inr (inr s)) =
-    inr (inr (point-more rule now w more some (next_history rule first line) (append_known w0 (reply_line rule first line)) s))
+    inr (inr (point-more rule now w more some (next_history rule first line)
+    (append_known w0 (reply_line rule first line)) s))
 
 -- answering stopped before the first of some lines
 pub stops-before : {E : Type 0} (rule : Rule E) (first : List E) (w : Option (List ℕ)) (all : List (List ℕ))
@@ -95,13 +100,15 @@ pub ruleset unshown = (stops-unshown)
 pub stops-append : {E : Type 0} {rule : Rule E} {first mid now : List E} {w0 w1 w : Option
     (List ℕ)} {some more : List (List ℕ)}
     → Answered rule first w0 some mid w1 → StopsIn rule mid w1 more now w → StopsIn rule first w0 (some ++ more) now w
-stops-append {E} {rule} {first} {mid} {now} {w0} {w1} {w} {some} {more} a s = record { point = point-append rule mid now w1 w more some first w0 a s.point }
+stops-append {E} {rule} {first} {mid} {now} {w0} {w1} {w} {some} {more} a s =
+    record { point = point-append rule mid now w1 w more some first w0 a s.point }
 
 -- answering stopped among the first of some lines
 pub stops-more : {E : Type 0} {rule : Rule E} {first now : List E} {w0 w : Option
     (List ℕ)} {some : List (List ℕ)} (more : List (List ℕ))
     → StopsIn rule first w0 some now w → StopsIn rule first w0 (some ++ more) now w
-stops-more {E} {rule} {first} {now} {w0} {w} {some} more s = record { point = point-more rule now w more some first w0 s.point }
+stops-more {E} {rule} {first} {now} {w0} {w} {some} more s =
+    record { point = point-more rule now w more some first w0 s.point }
 
 -- the store failed at one line, before which none was answered
 pub fails-first : {E : Type 0} (rule : Rule E) (first now pending : List E) (w : Option (List ℕ)) (line : List ℕ)
@@ -175,7 +182,8 @@ reached-step {E} {rule} {first} {mid} {now} {w0} {w1} {w} {all} {left} {others} 
 pub reached-end : {E : Type 0} {rule : Rule E} {first now : List E} {w0 w : Option (List ℕ)} {all left : List (List ℕ)}
     → left ≡ [] → Reached rule first w0 all now w left → Answered rule first w0 all now w
 reached-end {E} {rule} {first} {now} {w0} {w} {all} {left} none r =
-    subst (λ l. Answered rule first w0 l now w) (sym (r.parts ∙ ap (λ l. r.done ++ l) none ∙ append-nil r.done)) r.answered
+    subst (λ l. Answered rule first w0 l now w)
+    (sym (r.parts ∙ ap (λ l. r.done ++ l) none ∙ append-nil r.done)) r.answered
 
 -- answering stopped among the lines that were left
 pub reached-stop : {E : Type 0} {rule : Rule E} {first mid now : List E} {w0 w1 w : Option

@@ -7,7 +7,8 @@ use Rattle.link_io.specs.Streams.{Streams}
 use Rattle.farm_script.specs.FoundedRun.{FoundedRunCompletes}
 use Rattle.farm_script.specs.RunEnds.{RunCompletes, RunEnds, Seen}
 use Rattle.farm_script.specs.declared.run_end.RunEnd.{RunEnd}
-use Rattle.farm_script.specs.declared.run_end.RunEnd.TheVariants.{Done, ReadFault, WriteFault, StoreFault, Memory, InputLimit}
+use Rattle.farm_script.specs.declared.run_end.RunEnd.TheVariants.{Done, ReadFault, WriteFault, StoreFault, Memory}
+use Rattle.farm_script.specs.declared.run_end.RunEnd.TheVariants.{InputLimit}
 use Rattle.link_io.specs.declared.source.TheConstants.{INPUT_LIMIT}
 
 pub completes-from_ends : {E : Type 0} (rule : Rule E) (end : RunEnd) (before after : Seen E)

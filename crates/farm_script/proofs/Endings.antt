@@ -1,5 +1,6 @@
 -- How a run ends that a fault stopped.
-use Rattle.std.proofs.Common.{◌≡◌, ◌<◌, ◌≤◌, ℕ, Bool, true, false, List, [], Option, Some, refl, sym, ap, ◌∙◌, ◌-◌, ◌^◌, subst, inl, inr, ⊎_elim, arith}
+use Rattle.std.proofs.Common.{◌≡◌, ◌<◌, ◌≤◌, ℕ, Bool, true, false, List, [], Option, Some, refl, sym, ap, ◌∙◌, ◌-◌, ◌^◌}
+use Rattle.std.proofs.Common.{subst, inl, inr, ⊎_elim, arith}
 use Rattle.std.proofs.Math.Nat.{eq-or-lt_of_le}
 use Rattle.std.proofs.lemmas.Bool.{false≢true}
 use Rattle.std.specs.Prelude.{Err, ◌↔◌}
@@ -10,12 +11,12 @@ use Rattle.link_io.specs.Streams.{Streams}
 use Rattle.farm_script.specs.Lines.{as_line, counted_lines}
 use Rattle.farm_script.specs.Script.{Answered, IsByHeld, Rule}
 use Rattle.farm_script.specs.LineFaults.{HasCause}
-use Rattle.farm_script.specs.RunEnds.{Seen, Stopped, StoppedByStore, RunEnds, end_of}
-use Rattle.farm_script.specs.declared.answer_line.LineFault.{LineFault}
-use Rattle.farm_script.specs.declared.answer_line.LineFault.TheVariants as fault
+use Rattle.farm_script.specs.RunEnds.{Seen, Stopped, StoppedByStore, RunEnds}
+use Rattle.farm_script.specs.declared.run_end.RunEnd.{RunEnd}
 use Rattle.farm_script.proofs.Answering.{stops-before}
 use Rattle.farm_script.proofs.SomeLines.{some-from_stops}
-use Rattle.farm_script.specs.declared.run_end.RunEnd.TheVariants.{Done, StoreFault}
+use Rattle.farm_script.specs.declared.run_end.RunEnd.TheVariants.{Done, ReadFault, WriteFault, StoreFault, Memory}
+use Rattle.farm_script.specs.declared.run_end.RunEnd.TheVariants.{InputLimit}
 use Rattle.farm_script.proofs.SoFar.{FailedAt, SoFar, StoppedAt, prepend_known-nil, so_far-end}
 use Rattle.link_io.specs.declared.source.TheConstants.{INPUT_LIMIT}
 
@@ -37,7 +38,8 @@ ended-from piece before after none taken ends rest is =
 
 -- where answering stopped is where the run stopped
 stopped-at : {E : Type 0} (rule : Rule E) (before after : Seen E) (at_end : Bool) (count : ℕ)
-    → StoppedAt rule before.streams.left before.history before.streams.written after.streams.left after.history after.streams.written (counted_lines at_end) count
+    → StoppedAt rule before.streams.left before.history before.streams.written after.streams.left after.history
+    after.streams.written (counted_lines at_end) count
     → count ≤ INPUT_LIMIT → (at_end ≡ true → ForSome after.streams.left (λ rest. rest ≡ [])) → Stopped rule before after
 stopped-at rule before after at_end count s few ended = (
   s.bytes,
@@ -48,8 +50,10 @@ stopped-at rule before after at_end count s few ended = (
 
 -- where the store failed is where it stopped the run
 failed-at : {E : Type 0} (rule : Rule E) (before after : Seen E) (at_end : Bool) (count : ℕ)
-    → FailedAt rule before.streams.left before.history before.streams.written after.streams.left after.history after.pending after.streams.written (counted_lines at_end) count
-    → count ≤ INPUT_LIMIT → (at_end ≡ true → ForSome after.streams.left (λ rest. rest ≡ [])) → StoppedByStore rule before after
+    → FailedAt rule before.streams.left before.history before.streams.written after.streams.left after.history
+    after.pending after.streams.written (counted_lines at_end) count
+    → count ≤ INPUT_LIMIT → (at_end ≡ true → ForSome after.streams.left (λ rest. rest ≡ []))
+    → StoppedByStore rule before after
 failed-at rule before after at_end count f few ended = (
   f.bytes,
   at_end,
@@ -59,7 +63,8 @@ failed-at rule before after at_end count f few ended = (
 
 -- where all lines of an input that ended were answered, the run is done
 pub done-ends : {E : Type 0} {mid : List E} {w1 : Option
-    (List ℕ)} {line : List ℕ} {count : ℕ} (rule : Rule E) → IsByHeld rule → (before after : Streams) (first last : List E)
+    (List ℕ)} {line : List ℕ} {count : ℕ} (rule : Rule E) → IsByHeld rule
+    → (before after : Streams) (first last : List E)
     → SoFar rule before.left first before.written after.left mid w1 line count → count < INPUT_LIMIT
     → ForSome after.left (λ rest. rest ≡ []) → Answered rule mid w1 (as_line line) last after.written
     → RunEnds rule Done (record { streams = before; history = first; pending = [] })
@@ -73,35 +78,33 @@ done-ends rule alike before after first last s few ended a = (
 
 -- the end says which fault it was
 stopped-ends :
-    {E : Type 0} {writes stores stores_now : ℕ} {pending : List E} (rule : Rule E) (stop : LineFault) (before after : Seen E)
+    {E : Type 0} {writes stores stores_now : ℕ} {pending : List E} (rule : Rule E) (stop : RunEnd)
+    (before after : Seen E)
     → before.streams.write_faults ≤ writes
     → HasCause (Err stop) writes after.streams.write_faults stores stores_now pending → Stopped rule before after
-    → (stop ≡ fault.StoreFault → StoppedByStore rule before after) → RunEnds rule (end_of stop) before after
-stopped-ends rule fault.WriteFault before after low cause stopped failed =
+    → (stop ≡ StoreFault → StoppedByStore rule before after) → RunEnds rule stop before after
+stopped-ends rule Done before after low cause stopped failed = absurd cause.stop
+stopped-ends rule ReadFault before after low cause stopped failed = absurd cause.stop
+stopped-ends rule InputLimit before after low cause stopped failed = absurd cause.stop
+stopped-ends rule WriteFault before after low cause stopped failed =
     (rose-later _ _ _ low (cause.write_fault refl), stopped)
-stopped-ends rule fault.StoreFault before after low cause stopped failed = failed refl
-stopped-ends rule fault.Memory before after low cause stopped failed = stopped
+stopped-ends rule StoreFault before after low cause stopped failed = failed refl
+stopped-ends rule Memory before after low cause stopped failed = stopped
 
 -- a fault stopped the run where it had taken so many bytes
-pub stopped-run : {E : Type 0} {writes stores stores_now : ℕ} {pending : List E} (rule : Rule E) (stop : LineFault)
+pub stopped-run : {E : Type 0} {writes stores stores_now : ℕ} {pending : List E} (rule : Rule E) (stop : RunEnd)
     (before after : Seen E) (at_end : Bool) (count : ℕ) → before.streams.write_faults ≤ writes
     → HasCause (Err stop) writes after.streams.write_faults stores stores_now pending
-    → StoppedAt rule before.streams.left before.history before.streams.written after.streams.left after.history after.streams.written (counted_lines at_end) count
-    → (stop ≡ fault.StoreFault
-    → FailedAt rule before.streams.left before.history before.streams.written after.streams.left after.history after.pending after.streams.written (counted_lines at_end) count)
+    → StoppedAt rule before.streams.left before.history before.streams.written after.streams.left after.history
+    after.streams.written (counted_lines at_end) count
+    → (stop ≡ StoreFault
+    → FailedAt rule before.streams.left before.history before.streams.written after.streams.left after.history
+    after.pending after.streams.written (counted_lines at_end) count)
     → count ≤ INPUT_LIMIT → (at_end ≡ true → ForSome after.streams.left (λ rest. rest ≡ []))
-    → RunEnds rule (end_of stop) before after
+    → RunEnds rule stop before after
 stopped-run rule stop before after at_end count low cause stops fails few ended =
     stopped-ends rule stop before after low cause (stopped-at rule before after at_end count stops few ended)
     (λ is. failed-at rule before after at_end count (fails is) few ended)
-
--- a run that a fault of the store stopped is one in which the store failed
-pub store-failed : {E : Type 0} {first writes writes_now stores stores_now : ℕ} {pending : List E} (stop : LineFault)
-    → first ≤ stores → HasCause (Err stop) writes writes_now stores stores_now pending → end_of stop ≡ StoreFault
-    → Rose first stores_now
-store-failed fault.WriteFault low cause is = absurd (cc)
-store-failed fault.StoreFault low cause is = rose-later _ _ _ low (cause.store_fault refl)
-store-failed fault.Memory low cause is = absurd (cc)
 
 -- a run that stopped before it took anything
 pub stopped-at_first : {E : Type 0} (rule : Rule E) (seen : Seen E) → Stopped rule seen seen

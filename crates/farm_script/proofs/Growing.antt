@@ -48,7 +48,8 @@ between-first stands first more bytes stood = (
 )
 
 -- and so is the last one
-pub between-last : {E : Type 0} (stands : Standing E) (first more : List E) (bytes : List ℕ) → stands (first ++ more) bytes
+pub between-last : {E : Type 0} (stands : Standing E) (first more : List E) (bytes : List ℕ)
+    → stands (first ++ more) bytes
     → StandsBetween stands first (first ++ more) bytes
 between-last stands first more bytes stood = (
   first ++ more,
@@ -77,7 +78,8 @@ grows-refl tells told stands history pending core = record {
   more = [];
   longer = sym (append-nil (history core));
   rests = λ tell rested. rested;
-  each = λ tell rested. leaves_only-start (told core) (StandsBetween stands (history core) (history core ++ pending core))
+  each = λ tell rested. leaves_only-start (told core)
+      (StandsBetween stands (history core) (history core ++ pending core))
       (λ c image. between-either stands (history core) (pending core) c (rested.images c image));
 }
 
@@ -107,9 +109,11 @@ grows-trans {C} {E} {tells} {told} {stands} {history} {pending} {old} {mid} {new
       longer = b.longer ∙ ap (λ (h : List E). h ++ b.more) a.longer ∙ append_assoc (history old) a.more b.more;
       rests = λ tell rested. b.rests (a.same ∙ tell) (a.rests tell rested);
       each = λ tell rested. leaves_only-trans (told old) (told mid) (told new) end
-          (leaves_only-weaker (told old) (told mid) (StandsBetween stands (history old) (history mid ++ pending mid)) end
+          (leaves_only-weaker (told old) (told mid)
+          (StandsBetween stands (history old) (history mid ++ pending mid)) end
           later (a.each tell rested))
-          (leaves_only-weaker (told mid) (told new) (StandsBetween stands (history mid) (history new ++ pending new)) end
+          (leaves_only-weaker (told mid) (told new)
+          (StandsBetween stands (history mid) (history new ++ pending new)) end
           earlier (b.each (a.same ∙ tell) (a.rests tell rested)));
     }
 

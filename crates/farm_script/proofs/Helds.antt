@@ -1,7 +1,8 @@
 -- What is held of a line.
-use Rattle.std.proofs.Common.{◌≡◌, ◌≤◌, ◌+◌, ◌-◌, ℕ, zero, suc, List, [], ◌∷◌, ◌++◌, length, take, min, refl, sym, ap, ◌∙◌, arith}
+use Rattle.std.proofs.Common.{◌≡◌, ◌≤◌, ◌+◌, ◌-◌, ℕ, zero, suc, List, [], ◌∷◌, ◌++◌, length, take, min, refl, sym, ap}
+use Rattle.std.proofs.Common.{◌∙◌, arith}
 use Rattle.std.proofs.Math.Seq.{take-append-add}
-use Rattle.std.proofs.lemmas.List.{append-nil, take_all, take_min}
+use Rattle.std.proofs.lemmas.List.{append-nil, take_min}
 use Rattle.farm_script.specs.Held.{held}
 use Rattle.farm_wire.specs.declared.limits.TheConstants.{MAX_COMMAND_BYTES}
 
@@ -30,11 +31,6 @@ pub held-cons : (b : ℕ) (bs : List ℕ) → held (b ∷ bs) ≡ b ∷ take MAX
 unfolding held
 held-cons b bs = refl
 
--- a line that is not too long is held whole
-pub held-short : (line : List ℕ) → length line ≤ (MAX_COMMAND_BYTES + 1) → held line ≡ line
-unfolding held
-held-short line short = take_all (MAX_COMMAND_BYTES + 1) line short
-
 -- more is held as far as there is room
 pub held-room : (line more : List ℕ) → length line ≤ (MAX_COMMAND_BYTES + 1)
     → line ++ take (min ((MAX_COMMAND_BYTES + 1) - length line) (length more)) more ≡ held (line ++ more)
@@ -42,7 +38,8 @@ unfolding held
 held-room line more within =
     let room = (MAX_COMMAND_BYTES + 1) - length line in
     let all : length line + room ≡ (MAX_COMMAND_BYTES + 1) = omega arith in
-    ap (λ l. line ++ l) (take_min room more) ∙ (sym (take-append-add line more room) ∙ ap (λ n. take n (line ++ more)) all)
+    ap (λ l. line ++ l) (take_min room more)
+    ∙ (sym (take-append-add line more room) ∙ ap (λ n. take n (line ++ more)) all)
 
 pub held-held : (line : List ℕ) → held (held line) ≡ held line
 held-held line = ap held (sym (append-nil (held line))) ∙ held-append line [] ∙ ap held (append-nil line)

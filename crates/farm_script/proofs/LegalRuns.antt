@@ -18,7 +18,8 @@ use Rattle.farm_script.specs.Lines.{counted_lines, ended_lines, lines}
 use Rattle.farm_script.specs.RunEnds.{RunEnds, Seen}
 use Rattle.farm_script.specs.Script.{history_of, next_history}
 use Rattle.farm_script.specs.declared.run_end.RunEnd.{RunEnd}
-use Rattle.farm_script.specs.declared.run_end.RunEnd.TheVariants.{Done, InputLimit, Memory, ReadFault, StoreFault, WriteFault}
+use Rattle.farm_script.specs.declared.run_end.RunEnd.TheVariants.{Done, InputLimit, Memory, ReadFault, StoreFault}
+use Rattle.farm_script.specs.declared.run_end.RunEnd.TheVariants.{WriteFault}
 
 -- what a decision adds may come next
 after-legal : (H : List Entry) (d : Decision) → IsLegal H → ((e : Entry) → d ≡ New e → IsNext H e) → IsLegal (after H d)
@@ -27,13 +28,15 @@ after-legal H (Repeat place) legal next = legal
 after-legal H (Show page) legal next = legal
 after-legal H (New e) legal next = IsLegal-push H e legal (next e refl)
 
-read-legal : (H : List Entry) (reading : Result (Moment × Command) WireFault) → IsLegal H → IsLegal ((read_rule H reading).1)
+read-legal : (H : List Entry) (reading : Result (Moment × Command) WireFault) → IsLegal H
+    → IsLegal ((read_rule H reading).1)
 read-legal H (Err fault) legal = legal
 read-legal H (Ok asked) legal =
     after-legal H (decide H asked.1 asked.0) legal (λ e is. recorded H asked.1 asked.0 e is)
 
 -- one line
 next-legal : (H : List Entry) (line : List ℕ) → IsLegal H → IsLegal (next_history farm_rule H line)
+unfolding farm_rule
 next-legal H line legal = read-legal H (line_reading line) legal
 
 -- all lines
@@ -45,23 +48,29 @@ history-legal H (line ∷ others) legal = history-legal (next_history farm_rule 
 lines-legal : (first now pending : List Entry) (answered : List (List ℕ)) → now ≡ history_of farm_rule first answered
     → pending ≡ [] → IsLegal first → IsLegal (now ++ pending)
 lines-legal first now pending answered is none legal =
-    subst IsLegal (sym (ap (λ (p : List Entry). now ++ p) none ∙ append-nil now ∙ is)) (history-legal first answered legal)
+    subst IsLegal (sym (ap (λ (p : List Entry). now ++ p) none ∙ append-nil now ∙ is))
+    (history-legal first answered legal)
 
 -- a run leaves a legal history, with what a fault of the store left undecided too
 pub run-legal : (end : RunEnd) (before after : Seen Entry) → RunEnds farm_rule end before after
     → (end ≢ StoreFault → after.pending ≡ []) → IsLegal before.history → IsLegal (after.history ++ after.pending)
 run-legal Done before after ends decided legal =
-    lines-legal before.history after.history after.pending (lines ends.0) ends.3.history (decided (λ is. absurd (cc))) legal
+    lines-legal before.history after.history after.pending (lines ends.0) ends.3.history
+    (decided (λ is. absurd (cc))) legal
 run-legal ReadFault before after ends decided legal =
-    lines-legal before.history after.history after.pending (ended_lines ends.1.0) ends.1.2.history (decided (λ is. absurd (cc))) legal
+    lines-legal before.history after.history after.pending (ended_lines ends.1.0) ends.1.2.history
+    (decided (λ is. absurd (cc))) legal
 run-legal WriteFault before after ends decided legal =
     lines-legal before.history after.history after.pending (take ends.1.3.n (counted_lines ends.1.1 ends.1.0))
     ends.1.3.history (decided (λ is. absurd (cc))) legal
 run-legal StoreFault before after ends decided legal =
     let failed = ends.3 in
-    let so_far : IsLegal after.history = subst IsLegal (sym failed.answered.history) (history-legal before.history failed.done legal) in
+    let so_far : IsLegal after.history =
+    subst IsLegal (sym failed.answered.history) (history-legal before.history failed.done legal) in
     subst IsLegal (sym failed.undecided.all) (next-legal after.history failed.line so_far)
 run-legal Memory before after ends decided legal =
-    lines-legal before.history after.history after.pending (take ends.3.n (counted_lines ends.1 ends.0)) ends.3.history (decided (λ is. absurd (cc))) legal
+    lines-legal before.history after.history after.pending (take ends.3.n (counted_lines ends.1 ends.0)) ends.3.history
+    (decided (λ is. absurd (cc))) legal
 run-legal InputLimit before after ends decided legal =
-    lines-legal before.history after.history after.pending (ended_lines ends.0) ends.3.history (decided (λ is. absurd (cc))) legal
+    lines-legal before.history after.history after.pending (ended_lines ends.0) ends.3.history
+    (decided (λ is. absurd (cc))) legal

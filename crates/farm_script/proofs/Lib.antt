@@ -1,11 +1,14 @@
 pub mod Answering
+pub mod ByHeld
 pub mod Completing
+pub mod Dates
 pub mod Endings
 pub mod Growing
 pub mod Helds
 pub mod LegalRuns
 pub mod LineEnds
 pub mod LineLaws
+pub mod MemoryAnswers
 pub mod SameAnswers
 pub mod ShownLines
 pub mod SoFar

@@ -5,7 +5,8 @@ use Rattle.std.proofs.lemmas.List.{append-nil}
 use Rattle.std.proofs.lemmas.List.Elements.{All-nil, All-cons, All-push}
 use Rattle.std.specs.List.{All}
 use Rattle.farm_script.specs.Lines.{ended_after, rest_after, ended_lines, rest_of, as_line, joined, lines}
-use Rattle.farm_script.proofs.LineEnds.{ended_after-feed, ended_after-other, rest_after-feed, rest_after-other, ended_after-append}
+use Rattle.farm_script.proofs.LineEnds.{ended_after-feed, ended_after-other, rest_after-feed, rest_after-other}
+use Rattle.farm_script.proofs.LineEnds.{ended_after-append}
 
 -- the lines that end in a text and what follows them are what was read before and the text
 pub whole_after : (line bytes : List ℕ) → joined (ended_after line bytes) ++ rest_after line bytes ≡ line ++ bytes
@@ -34,15 +35,18 @@ plain-push line b plain other = All-push (λ c. c ≢ 10) line b plain other
 pub ended_after-plain : (line bytes : List ℕ) → Plain line → All Plain (ended_after line bytes)
 ended_after-plain line [] plain = All-nil Plain
 ended_after-plain line (b ∷ bs) plain = ⊎_elim
-    (λ feed. subst (All Plain) (sym (ended_after-feed line b bs feed)) (All-cons Plain line (ended_after [] bs) plain (ended_after-plain [] bs (All-nil (λ c. c ≢ 10)))))
-    (λ other. subst (All Plain) (sym (ended_after-other line b bs other)) (ended_after-plain (line ++ b ∷ []) bs (plain-push line b plain other)))
+    (λ feed. subst (All Plain) (sym (ended_after-feed line b bs feed))
+    (All-cons Plain line (ended_after [] bs) plain (ended_after-plain [] bs (All-nil (λ c. c ≢ 10)))))
+    (λ other. subst (All Plain) (sym (ended_after-other line b bs other))
+    (ended_after-plain (line ++ b ∷ []) bs (plain-push line b plain other)))
     (cases_eq b 10)
 
 pub rest_after-plain : (line bytes : List ℕ) → Plain line → Plain (rest_after line bytes)
 rest_after-plain line [] plain = plain
 rest_after-plain line (b ∷ bs) plain = ⊎_elim
     (λ feed. subst Plain (sym (rest_after-feed line b bs feed)) (rest_after-plain [] bs (All-nil (λ c. c ≢ 10))))
-    (λ other. subst Plain (sym (rest_after-other line b bs other)) (rest_after-plain (line ++ b ∷ []) bs (plain-push line b plain other)))
+    (λ other. subst Plain (sym (rest_after-other line b bs other))
+    (rest_after-plain (line ++ b ∷ []) bs (plain-push line b plain other)))
     (cases_eq b 10)
 
 -- the lines that end in the front of a text are its first ones
@@ -50,5 +54,8 @@ pub lines-front : (taken further : List ℕ)
     → (others : List (List ℕ)) × (lines (taken ++ further) ≡ ended_lines taken ++ others)
 lines-front taken further =
     let last = as_line (rest_of (taken ++ further)) in
-    let more = ended_after (rest_of taken) further in
-    (more ++ last, ap (λ ls. ls ++ last) (ended_after-append [] taken further) ∙ append_assoc (ended_lines taken) more last)
+    let more = ended_after (rest_of taken) further in (
+      more ++ last,
+      ap (λ ls. ls ++ last) (ended_after-append [] taken further)
+          ∙ append_assoc (ended_lines taken) more last,
+    )

@@ -1,10 +1,12 @@
 -- What is held of a line is enough to answer it.
-use Rattle.std.proofs.Common.{◌≡◌, ◌<◌, ℕ, List, [], ◌∷◌, ◌++◌, map, Option, length, take, refl, sym, ap, ◌∙◌, subst, inl, inr, ⊎_elim}
+use Rattle.std.proofs.Common.{◌≡◌, ◌<◌, ℕ, List, [], ◌∷◌, ◌++◌, map, Option, length, take, refl, sym, ap, ◌∙◌, subst}
+use Rattle.std.proofs.Common.{inl, inr, ⊎_elim}
 use Rattle.std.proofs.lemmas.Bool.{cases_eq}
 use Rattle.std.specs.Io.KnownBytes.{append_known}
 use Rattle.farm_script.specs.Lines.{ended_after, rest_after}
 use Rattle.farm_script.specs.Held.{held}
-use Rattle.farm_script.specs.Script.{IsByHeld, Rule, reply_line, next_history, text_of, history_of, Answered, FailsIn, StopPoint, StopsIn}
+use Rattle.farm_script.specs.Script.{IsByHeld, Rule, reply_line, next_history, text_of, history_of, Answered, FailsIn}
+use Rattle.farm_script.specs.Script.{StopPoint, StopsIn}
 use Rattle.farm_script.proofs.LineEnds.{ended_after-feed, ended_after-other, rest_after-feed, rest_after-other}
 use Rattle.farm_script.proofs.Helds.{held-append-same}
 
@@ -24,7 +26,8 @@ next_history-same : {E : Type 0} (rule : Rule E) → IsByHeld rule → (history 
 next_history-same {E} rule alike history x y same =
     ap (λ (said : List ℕ × List E). said.1) (rule-same rule alike history x y same)
 
-text_of-same : {E : Type 0} (rule : Rule E) → IsByHeld rule → (history : List E) (xs ys : List (List ℕ)) → map held xs ≡ map held ys
+text_of-same : {E : Type 0} (rule : Rule E) → IsByHeld rule → (history : List E) (xs ys : List (List ℕ))
+    → map held xs ≡ map held ys
     → text_of rule history xs ≡ text_of rule history ys
 text_of-same rule alike history [] [] same = refl
 text_of-same rule alike history [] (y ∷ ys) same = absurd (cc)
@@ -36,7 +39,8 @@ text_of-same {E} rule alike history (x ∷ xs) (y ∷ ys) same =
     ∙ ap (λ (h : List E). reply_line rule history y ++ text_of rule h xs) (next_history-same rule alike history x y one)
     ∙ ap (λ t. reply_line rule history y ++ t) (text_of-same rule alike (next_history rule history y) xs ys others)
 
-history_of-same : {E : Type 0} (rule : Rule E) → IsByHeld rule → (history : List E) (xs ys : List (List ℕ)) → map held xs ≡ map held ys
+history_of-same : {E : Type 0} (rule : Rule E) → IsByHeld rule → (history : List E) (xs ys : List (List ℕ))
+    → map held xs ≡ map held ys
     → history_of rule history xs ≡ history_of rule history ys
 history_of-same rule alike history [] [] same = refl
 history_of-same rule alike history [] (y ∷ ys) same = absurd (cc)
@@ -63,20 +67,26 @@ point-same rule alike now w (x ∷ xs) [] first w0 same s = absurd (cc)
 point-same rule alike now w (x ∷ xs) (y ∷ ys) first w0 same (inl s) = inl s
 point-same {E} rule alike now w (x ∷ xs) (y ∷ ys) first w0 same (inr (inl s)) =
     let one : held x ≡ held y = cc in
-    let P : List ℕ → List E → Type 0 = λ r h. (now ≡ h) × ((k : ℕ) × (k < length r) × (w ≡ append_known w0 (take k r))) in
-    let with_reply : P (reply_line rule first y) (next_history rule first x) = subst (λ r. P r (next_history rule first x)) (reply_line-same rule alike first x y one) s in
+    let P : List ℕ → List E → Type 0 =
+    λ r h. (now ≡ h) × ((k : ℕ) × (k < length r) × (w ≡ append_known w0 (take k r))) in
+    let with_reply : P (reply_line rule first y) (next_history rule first x) =
+    subst (λ r. P r (next_history rule first x)) (reply_line-same rule alike first x y one) s in
     inr (inl (subst (λ h. P (reply_line rule first y) h) (next_history-same rule alike first x y one) with_reply))
 point-same {E} rule alike now w (x ∷ xs) (y ∷ ys) first w0 same (inr (inr s)) =
     let one : held x ≡ held y = cc in
     let others : map held xs ≡ map held ys = cc in
-    let s1 : StopPoint rule (next_history rule first x) (append_known w0 (reply_line rule first x)) ys now w = point-same rule alike now w xs ys (next_history rule first x) (append_known w0 (reply_line rule first x)) others s in
+    let s1 : StopPoint rule (next_history rule first x) (append_known w0 (reply_line rule first x)) ys now w =
+    point-same rule alike now w xs ys (next_history rule first x)
+    (append_known w0 (reply_line rule first x)) others s in
     let P : List ℕ → List E → Type 0 = λ r h. StopPoint rule h (append_known w0 r) ys now w in
-    let with_reply : P (reply_line rule first y) (next_history rule first x) = subst (λ r. P r (next_history rule first x)) (reply_line-same rule alike first x y one) s1 in
+    let with_reply : P (reply_line rule first y) (next_history rule first x) =
+    subst (λ r. P r (next_history rule first x)) (reply_line-same rule alike first x y one) s1 in
     inr (inr (subst (λ h. P (reply_line rule first y) h) (next_history-same rule alike first x y one) with_reply))
 
 pub stops-same : {E : Type 0} {rule : Rule E} {first now : List E} {w0 w : Option (List ℕ)} {xs ys : List (List ℕ)}
     → IsByHeld rule → map held xs ≡ map held ys → StopsIn rule first w0 xs now w → StopsIn rule first w0 ys now w
-stops-same {E} {rule} {first} {now} {w0} {w} {xs} {ys} alike same s = record { point = point-same rule alike now w xs ys first w0 same s.point }
+stops-same {E} {rule} {first} {now} {w0} {w} {xs} {ys} alike same s =
+    record { point = point-same rule alike now w xs ys first w0 same s.point }
 
 -- lines that are held alike are parted alike
 record Parted (done : List (List ℕ)) (line : List ℕ) (ys : List (List ℕ)) : Type 0 where
@@ -87,7 +97,8 @@ record Parted (done : List (List ℕ)) (line : List ℕ) (ys : List (List ℕ)) 
   pub same : map held done ≡ map held before
   pub alike : held line ≡ held at
 
-parted : (done : List (List ℕ)) (line : List ℕ) (others ys : List (List ℕ)) → map held (done ++ line ∷ others) ≡ map held ys
+parted : (done : List (List ℕ)) (line : List ℕ) (others ys : List (List ℕ))
+    → map held (done ++ line ∷ others) ≡ map held ys
     → Parted done line ys
 parted [] line others [] same = absurd (cc)
 parted [] line others (y ∷ ys) same = record { before = []; at = y; others = ys; parts = refl; same = refl; alike = cc }
@@ -105,8 +116,10 @@ parted (x ∷ done) line others (y ∷ ys) same =
       alike = p.alike;
     }
 
-pub fails-same : {E : Type 0} {rule : Rule E} {first now pending : List E} {w0 w : Option (List ℕ)} {xs ys : List (List ℕ)}
-    → IsByHeld rule → map held xs ≡ map held ys → FailsIn rule first w0 xs now pending w → FailsIn rule first w0 ys now pending w
+pub fails-same : {E : Type 0} {rule : Rule E} {first now pending : List E} {w0 w : Option (List ℕ)}
+    {xs ys : List (List ℕ)}
+    → IsByHeld rule → map held xs ≡ map held ys → FailsIn rule first w0 xs now pending w
+    → FailsIn rule first w0 ys now pending w
 fails-same {E} {rule} {first} {now} {pending} {w0} {w} {xs} {ys} alike same f =
     let p = parted f.done f.line f.others ys (ap (map held) (sym f.parts) ∙ same) in
     record {

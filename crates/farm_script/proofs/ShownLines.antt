@@ -1,5 +1,6 @@
 -- The lines that a farm shows, a search at a time.
-use Rattle.std.proofs.Common.{◌≡◌, ℕ, zero, suc, ◌+◌, ◌<◌, ◌++◌, ◌∷◌, List, [], length, get_or, take, Contains, Option, Some, refl, sym, ap, ◌∙◌, append_assoc, add-one, arith, take-suc}
+use Rattle.std.proofs.Common.{◌≡◌, ℕ, zero, suc, ◌+◌, ◌<◌, ◌++◌, ◌∷◌, List, [], length, get_or, take, Contains, Option}
+use Rattle.std.proofs.Common.{Some, refl, sym, ap, ◌∙◌, append_assoc, add-one, arith, take-suc}
 use Rattle.std.proofs.lemmas.List.{append-nil}
 use Rattle.farm_entry.specs.History.{opening_numbered, openings}
 use Rattle.farm_entry.specs.Legal.{IsLegal}
@@ -46,6 +47,7 @@ shown-next H k legal below =
     ap (shown_searches H) longer
     ∙ ap (λ (x : Opening). shown_searches H (take k (openings H) ++ x ∷ [])) it.1
     ∙ shown_searches-append H (take k (openings H)) (o ∷ [])
-    ∙ ap (λ (t : List ℕ). shown_searches H (take k (openings H)) ++ t) (append-nil (shown_line (reply.Search (page_of H o))))
+    ∙ ap (λ (t : List ℕ). shown_searches H (take k (openings H)) ++ t)
+    (append-nil (shown_line (reply.Search (page_of H o))))
     ∙ ap (λ (x : Option Opening). shown_searches H (take k (openings H)) ++ shown_opening H x)
     (sym (numbered-next H k o legal below it.1))

@@ -1,5 +1,6 @@
 -- Where answering stopped, as numbers of lines.
-use Rattle.std.proofs.Common.{◌≡◌, ◌-◌, ◌<◌, ℕ, zero, suc, List, [], ◌∷◌, ◌++◌, Option, length, take, drop, refl, sym, ap, ◌∙◌, subst, inl, inr, append_assoc, arith}
+use Rattle.std.proofs.Common.{◌≡◌, ◌-◌, ◌<◌, ℕ, zero, suc, List, [], ◌∷◌, ◌++◌, Option, length, take, drop, refl, sym}
+use Rattle.std.proofs.Common.{ap, ◌∙◌, subst, inl, inr, append_assoc, arith}
 use Rattle.std.proofs.lemmas.List.{append-nil, length-append, length-take-le, take-append-drop}
 use Rattle.std.specs.Prelude.{◌⊎◌}
 use Rattle.std.specs.Io.KnownBytes.{append_known}
@@ -65,13 +66,15 @@ reached-further : {E : Type 0} (rule : Rule E) (first : List E) (line : List ℕ
     (List ℕ)) (put : List ℕ) (shown : ℕ)
     → (shown ≡ 0) ⊎ (length (text_of rule (next_history rule first line) (take (shown - 1) others)) < length put)
     → length (text_of rule first (take shown (line ∷ others))) < length (reply_line rule first line ++ put)
-reached-further rule first line others put zero reached = omega (arith, length-append (reply_line rule first line) put, reply_line-some rule first line)
+reached-further rule first line others put zero reached =
+    omega (arith, length-append (reply_line rule first line) put, reply_line-some rule first line)
 reached-further rule first line others put (suc m) (inl none) = absurd (omega arith)
 reached-further rule first line others put (suc m) (inr reached) =
     let reply = reply_line rule first line in
     let text = text_of rule (next_history rule first line) (take m others) in
     let one_less : suc m - 1 ≡ m = omega arith in
-    let further : length text < length put = subst (λ k. length (text_of rule (next_history rule first line) (take k others)) < length put) one_less reached in
+    let further : length text < length put =
+    subst (λ k. length (text_of rule (next_history rule first line) (take k others)) < length put) one_less reached in
     omega (arith, length-append reply put, length-append reply text)
 
 -- the first line was answered, and some of the others
@@ -83,7 +86,8 @@ some-more rule first now w0 w line others r =
     let reply = reply_line rule first line in
     let one_less : suc r.shown - 1 ≡ r.shown = omega arith in
     let further : length (text_of rule first (take (suc r.shown - 1) (line ∷ others))) < length (reply ++ r.put) =
-    subst (λ k. length (text_of rule first (take k (line ∷ others))) < length (reply ++ r.put)) (sym one_less) (reached-further rule first line others r.put r.shown r.partly.reached) in
+    subst (λ k. length (text_of rule first (take k (line ∷ others))) < length (reply ++ r.put)) (sym one_less)
+    (reached-further rule first line others r.put r.shown r.partly.reached) in
     record {
       n = suc r.n;
       shown = suc r.shown;
@@ -105,9 +109,11 @@ some-from_point : {E : Type 0} (rule : Rule E) (now : List E) (w : Option
     → StopPoint rule first w0 counted now w → SomeAnswered rule first w0 counted now w
 some-from_point rule now w [] first w0 s = some-none rule first now w0 w [] s.0 s.1
 some-from_point rule now w (line ∷ others) first w0 (inl s) = some-none rule first now w0 w (line ∷ others) s.0 s.1
-some-from_point rule now w (line ∷ others) first w0 (inr (inl s)) = some-first rule first now w0 w line others s.1.0 s.0 s.1.1 s.1.2
+some-from_point rule now w (line ∷ others) first w0 (inr (inl s)) =
+    some-first rule first now w0 w line others s.1.0 s.0 s.1.1 s.1.2
 some-from_point rule now w (line ∷ others) first w0 (inr (inr s)) =
-    some-more rule first now w0 w line others (some-from_point rule now w others (next_history rule first line) (append_known w0 (reply_line rule first line)) s)
+    some-more rule first now w0 w line others (some-from_point rule now w others (next_history rule first line)
+    (append_known w0 (reply_line rule first line)) s)
 
 -- where answering stopped, so many lines are in the history, and so many were shown
 pub some-from_stops : {E : Type 0} {rule : Rule E} {first now : List E} {w0 w : Option

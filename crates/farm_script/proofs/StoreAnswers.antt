@@ -1,43 +1,101 @@
--- What a store answers to one command, as the text and the history of a script's rule.
-use Rattle.std.proofs.Common.{◌≡◌, ◌++◌, ◌∷◌, ℕ, true, List, [], sym, ap, ◌∙◌, ⊎_elim, subst, append_assoc, inl, inr}
+-- What a store answers to one command while nothing is pending, and how its history grows.
+use Rattle.std.proofs.Common.{◌≡◌, ◌≢◌, ◌++◌, ◌∷◌, ℕ, true, List, [], Result, Ok, Err, IfOk, OnOk, sym, ap, ◌∙◌}
+use Rattle.std.proofs.Common.{⊎_elim, subst, append_assoc, inl, inr}
 use Rattle.std.proofs.lemmas.List.{append-nil}
 use Rattle.farm_types.specs.declared.moment.Moment.{Moment}
+use Rattle.farm_disk.specs.declared.disk.Disk as disk
+use Rattle.farm_disk.proofs.Moments.{leaves_only-weaker}
+use Rattle.fault_types.specs.Counts.{Rose}
+use Rattle.farm_journal.specs.Faults.{HasCause, OnMemory, OnStoreFault}
+use Rattle.farm_journal.specs.declared.fault.JournalFault.{JournalFault}
+use Rattle.farm_journal.specs.declared.fault.JournalFault.TheVariants.{StoreFault, Memory}
+use Rattle.farm_entry.specs.Answer.{IsAnswer}
 use Rattle.farm_entry.specs.Decision.{decide}
+use Rattle.farm_entry.specs.Legal.{IsLegal}
 use Rattle.farm_entry.specs.Playing.{after}
+use Rattle.farm_entry.specs.declared.answer.Answer.{Answer}
 use Rattle.farm_entry.specs.declared.command.Command.{Command}
 use Rattle.farm_entry.specs.declared.entry.Entry.{Entry}
-use Rattle.farm_disk.proofs.Moments.{leaves_only-weaker}
-use Rattle.farm_disk.specs.Images.{LeavesOnly}
-use Rattle.farm_disk.specs.declared.disk.Disk as disk
-use Rattle.farm_store.specs.Answering.{IsAnswer, IsAnswered}
+use Rattle.farm_store.specs.Answering.{AnswerSays, IsAnswered, IsUndecided, IsUnrepaired}
 use Rattle.farm_store.specs.Bytes.{StandsFor}
-use Rattle.farm_store.specs.State.{IsLeft, IsRepaired, IsStored, IsWithOrWithout, StoreState}
-use Rattle.farm_store.specs.declared.asking.Answer.{Answer}
+use Rattle.farm_store.specs.Keeping.{KeepsStore}
+use Rattle.farm_store.specs.State.{IsLeft, IsRepaired, IsWithOrWithout, StoreState}
+use Rattle.farm_script.specs.Images.{Grows, StandsBetween}
 use Rattle.farm_script.proofs.Growing.{between-first, between-last}
-use Rattle.farm_script.specs.Images.{StandsBetween}
-use Rattle.farm_script.specs.StoreFarm.{StoreGrows}
 
 -- where nothing was pending a repair leaves the history as it was
-pub repaired-same : {D : Type 0} (old : StoreState D) (H : List Entry) → old.pending ≡ [] → IsRepaired old H
+repaired-same : {D : Type 0} (old : StoreState D) (H : List Entry) → old.pending ≡ [] → IsRepaired old H
     → H ≡ old.history
 repaired-same old H none (inl same) = same
 repaired-same old H none (inr kept) =
     kept ∙ ap (λ (p : List Entry). old.history ++ p) none ∙ append-nil old.history
 
--- a command was answered at the history, and what it records is in the history now
-pub record OneAnswered {D : Type 0} (q : Command) (m : Moment) (a : Answer) (old new : StoreState D) : Type 0 where
-  pub answer : IsAnswer old.history (decide old.history q m) a
-  pub history : new.history ≡ after old.history (decide old.history q m)
+-- a command was decided at the history, and what it adds is in the history, or pending
+pub record OneAnswered {D : Type 0} (q : Command) (m : Moment) (result : Result Answer JournalFault)
+    (old new : StoreState D) : Type 0 where
+  pub answer : IfOk result (IsAnswer old.history (decide old.history q m))
+  pub history : OnOk result (new.history ≡ after old.history (decide old.history q m))
+  pub legal : OnOk result (IsLegal new.history)
+  pub decided : OnOk result (new.pending ≡ [])
+  pub store_fault : OnStoreFault result ((new.history ≡ old.history) × (new.pending ≢ [])
+      × (old.history ++ new.pending ≡ after old.history (decide old.history q m)))
+  pub memory : OnMemory result ((new.pending ≡ []) × (new.history ≡ old.history))
 
--- a batch of one ask, where nothing was pending
-pub one-answered : {D : Type 0} (q : Command) (m : Moment) (a : Answer) (old new : StoreState D) → old.pending ≡ []
-    → IsAnswered (record { command = q; at = m } ∷ []) (a ∷ []) old new → OneAnswered q m a old new
-one-answered q m a old new none said =
+-- the disk failed as the new entry was stored
+one-undecided : {D : Type 0} (q : Command) (m : Moment) (old new : StoreState D) → old.pending ≡ []
+    → IsUndecided (record { command = q; at = m } ∷ []) old new
+    → (new.history ≡ old.history) × (new.pending ≢ [])
+    × (old.history ++ new.pending ≡ after old.history (decide old.history q m))
+one-undecided q m old new none said =
+    let same : new.history ≡ old.history = repaired-same old new.history none said.found in (
+      same,
+      said.some,
+      ap (λ (H : List Entry). H ++ new.pending) (sym same) ∙ said.all
+          ∙ ap (λ (H : List Entry). after H (decide H q m)) same,
+    )
+
+-- what a store answered to one command, where nothing was pending
+pub one-answered : {D : Type 0} (q : Command) (m : Moment) (result : Result Answer JournalFault)
+    (old new : StoreState D) → old.pending ≡ [] → IsLegal (new.history ++ new.pending)
+    → AnswerSays q m result old new → OneAnswered q m result old new
+one-answered q m (Ok a) old new none legal said =
     let same : said.repaired ≡ old.history = repaired-same old said.repaired none said.found in
+    let all : new.history ++ new.pending ≡ new.history =
+    ap (λ (p : List Entry). new.history ++ p) said.decided ∙ append-nil new.history in
     record {
       answer = subst (λ (H : List Entry). IsAnswer H (decide H q m) a) same said.answers.0;
       history = said.history ∙ ap (λ (H : List Entry). after H (decide H q m)) same;
+      legal = subst (λ (H : List Entry). IsLegal H) all legal;
+      decided = said.decided;
+      store_fault = tt;
+      memory = tt;
     }
+one-answered q m (Err (StoreFault first last)) old new none legal said = record {
+  answer = tt;
+  history = tt;
+  legal = tt;
+  decided = tt;
+  store_fault = ⊎_elim
+      (λ (torn : IsUnrepaired old new). absurd (torn.some none))
+      (λ (torn : IsUndecided (record { command = q; at = m } ∷ []) old new). one-undecided q m old new none torn)
+      said;
+  memory = tt;
+}
+one-answered q m (Err Memory) old new none legal said = record {
+  answer = tt;
+  history = tt;
+  legal = tt;
+  decided = tt;
+  store_fault = tt;
+  memory = (said.decided, repaired-same old new.history none said.found);
+}
+
+-- a fault of the disk that a call answered rose in it
+pub cause-rises : {T : Type 0} (result : Result T JournalFault) (first last : ℕ) → HasCause result first last
+    → OnStoreFault result (Rose first last)
+cause-rises (Ok done) first last cause = tt
+cause-rises (Err (StoreFault before after)) first last cause = cause.2
+cause-rises (Err Memory) first last cause = tt
 
 -- what a call leaves is a history between the two
 left-between : {D : Type 0} (old new : StoreState D) (more : List Entry) → old.pending ≡ []
@@ -63,19 +121,17 @@ left-between old new more none longer c left =
     (subst (λ (l : List Entry). StandsFor l c) on now)))
     left
 
--- so the history grew
-pub store-grows : {D : Type 0} (meant : disk.Ghosts D) (old new : StoreState D) → old.pending ≡ []
-    → meant.tells new.disk ≡ meant.tells old.disk → (more : List Entry) × (new.history ≡ old.history ++ more)
-    → (meant.tells old.disk ≡ true → LeavesOnly (meant.told old.disk) (meant.told new.disk) (IsLeft old new))
-    → (meant.tells old.disk ≡ true → IsStored new.history new.pending (meant.told new.disk)) → StoreGrows meant old new
-store-grows meant old new none same longer leaves stored = record {
-  same = same;
-  more = longer.0;
-  longer = longer.1;
-  rests = λ tell rested. record { reads = (stored tell).reads; images = (stored tell).images };
+-- so the history of a store grew, on a disk of which this is meant
+pub store-grows : {D : Type 0} (meant : disk.Ghosts D) (Answered : Type 0 → Type 0) (old new : StoreState D)
+    → old.pending ≡ [] → KeepsStore meant Answered old new
+    → Grows (λ (s : StoreState D). meant.tells s.disk) (λ (s : StoreState D). meant.told s.disk) StandsFor
+    (λ (s : StoreState D). s.history) (λ (s : StoreState D). s.pending) old new
+store-grows meant Answered old new none keeps = record {
+  same = keeps.same;
+  more = keeps.longer.0;
+  longer = keeps.longer.1;
+  rests = λ tell rested. record { reads = (keeps.stored tell).reads; images = (keeps.stored tell).images };
   each = λ tell rested. leaves_only-weaker (meant.told old.disk) (meant.told new.disk) (IsLeft old new)
       (StandsBetween StandsFor old.history (new.history ++ new.pending))
-      (left-between old new longer.0 none longer.1) (leaves tell);
+      (left-between old new keeps.longer.0 none keeps.longer.1) (keeps.any_moment tell);
 }
-
-pub ruleset storing = (store-grows)

@@ -6,10 +6,10 @@ use Rattle.farm_entry.specs.Decision.{decide}
 use Rattle.farm_entry.specs.Playing.{after}
 use Rattle.farm_entry.specs.declared.command.Command.{Command}
 use Rattle.farm_entry.specs.declared.entry.Entry.{Entry}
+use Rattle.farm_wire.specs.Answers.{decision_text}
 use Rattle.farm_wire.specs.Reading.{line_reading}
 use Rattle.farm_wire.specs.Refusals.{fault_data}
 use Rattle.farm_wire.specs.declared.fault.WireFault.{WireFault}
-use Rattle.farm_answers.specs.Texts.{decision_text}
 use Rattle.farm_script.specs.Script.{Rule, history_of, text_of}
 use Rattle.farm_script.specs.Lines.{lines}
 
@@ -20,7 +20,7 @@ read_rule H (Err fault) = (compact_text (fault_data fault), H)
 read_rule H (Ok asked) = (decision_text H (decide H asked.1 asked.0), after H (decide H asked.1 asked.0))
 
 -- what a farm answers to a line, and its history after it
-abbrev pub farm_rule : Rule Entry
+unfoldable pub farm_rule : Rule Entry
 farm_rule H line = read_rule H (line_reading line)
 
 -- what a script puts out in all, from a history

@@ -1,4 +1,3 @@
-pub mod ByHeld
 pub mod FarmRule
 pub mod FoundedRun
 pub mod Held
@@ -8,4 +7,3 @@ pub mod Lines
 pub mod RunEnds
 pub mod Script
 pub mod Shown
-pub mod StoreFarm

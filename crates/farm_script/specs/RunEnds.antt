@@ -7,16 +7,9 @@ use Rattle.link_io.specs.Streams.{Streams}
 use Rattle.link_io.specs.declared.source.TheConstants.{INPUT_LIMIT}
 use Rattle.farm_script.specs.Lines.{counted_lines, ended_lines, lines}
 use Rattle.farm_script.specs.Script.{Answered, FailsIn, Rule, SomeAnswered}
-use Rattle.farm_script.specs.declared.answer_line.LineFault.{LineFault}
-use Rattle.farm_script.specs.declared.answer_line.LineFault.TheVariants as fault
 use Rattle.farm_script.specs.declared.run_end.RunEnd.{RunEnd}
-use Rattle.farm_script.specs.declared.run_end.RunEnd.TheVariants.{Done, ReadFault, WriteFault, StoreFault, Memory, InputLimit}
-
--- how a run ends that a fault stopped
-abbrev pub end_of : LineFault → RunEnd
-end_of fault.WriteFault = WriteFault
-end_of fault.StoreFault = StoreFault
-end_of fault.Memory = Memory
+use Rattle.farm_script.specs.declared.run_end.RunEnd.TheVariants.{Done, ReadFault, WriteFault, StoreFault, Memory}
+use Rattle.farm_script.specs.declared.run_end.RunEnd.TheVariants.{InputLimit}
 
 -- what contracts see of a run: its input and output, the history, and what a fault of the store left undecided
 pub record Seen (E : Type 0) : Type 0 where

@@ -1,78 +1,29 @@
 //! One line and its reply.
-ghost use Rattle.std.specs.Prelude.{◌≡◌, ◌≢◌, ◌≤◌, ◌++◌, ◌∷◌, ℕ, List, [], IfOk, OnOk, OnErr, IsErrOf, string_bytes};
-ghost use Rattle.farm_script.specs.LineFaults.{HasCause};
-ghost use Rattle.farm_script.specs.Images.{Grows};
-ghost use Rattle.farm_script.specs.Script.{Answered, FailsIn, IsPendingOf, IsUnshown, StopsIn, next_history};
+ghost use Rattle.std.specs.Prelude.{◌≡◌, ◌≢◌, ◌≤◌, ◌⊎◌, ◌++◌, ◌∷◌, ℕ, List, [], IfErr, IfOk, OnOk, OnErr, IsErrOf};
+ghost use Rattle.std.specs.Prelude.{string_bytes};
 ghost use Rattle.fault_types.specs.Counts.{Rose};
+ghost use Rattle.farm_entry.specs.Decision.{decide};
+ghost use Rattle.farm_entry.specs.Playing.{after};
+ghost use Rattle.farm_store.specs.Bytes.{StandsFor};
+ghost use Rattle.farm_wire.specs.Answers.{AnswerHasDates, answer_text, decision_text};
+ghost use Rattle.farm_script.specs.FarmRule.{farm_rule};
+ghost use Rattle.farm_script.specs.Images.{Grows};
+ghost use Rattle.farm_script.specs.LineFaults.{HasCause, IsStop};
+ghost use Rattle.farm_script.specs.Script.{Answered, FailsIn, IsPendingOf, IsUnshown, StopsIn, next_history};
 
-use crate::script_farm::{ReplyFault, ScriptFarm};
-use farm_types::Memory;
-use farm_wire::LineReader;
-use link_io::{PutFault, Sink, put_all};
-use std::alloc::{AllocError, Global};
-
-/// Why a line was not answered, or its reply not put.
-#[derive(Clone, Copy, Debug, PartialEq, Eq)]
-pub enum LineFault {
-    /// The output failed.
-    WriteFault,
-    /// The store failed.
-    StoreFault,
-    /// Running out of memory.
-    Memory,
-}
-
-impl From<AllocError> for LineFault {
-    ghost use Rattle.std.specs.Prelude.{◌≡◌};
-    ghost use Rattle.farm_script.specs.declared.answer_line.LineFault.TheVariants.{Memory};
-
-    ghost from_gives = { λ _ fault. fault ≡ Memory };
-
-    fn from(_error: AllocError) -> LineFault {
-        LineFault::Memory
-    }
-}
-
-impl From<Memory> for LineFault {
-    ghost use Rattle.std.specs.Prelude.{◌≡◌};
-    ghost use Rattle.farm_script.specs.declared.answer_line.LineFault.TheVariants as line;
-
-    ghost from_gives = { λ _ fault. fault ≡ line.Memory };
-
-    fn from(_memory: Memory) -> LineFault {
-        LineFault::Memory
-    }
-}
-
-impl From<ReplyFault> for LineFault {
-    ghost use Rattle.std.specs.Prelude.{◌≡◌};
-    ghost use Rattle.farm_script.specs.LineFaults.{unanswered};
-
-    ghost from_gives = { λ cause fault. fault ≡ unanswered cause };
-
-    fn from(cause: ReplyFault) -> LineFault {
-        match cause {
-            ReplyFault::StoreFault => LineFault::StoreFault,
-            ReplyFault::Memory => LineFault::Memory,
-        }
-    }
-}
-
-impl From<PutFault> for LineFault {
-    ghost use Rattle.std.specs.Prelude.{◌≡◌};
-    ghost use Rattle.farm_script.specs.LineFaults.{unput};
-
-    ghost from_gives = { λ cause fault. fault ≡ unput cause };
-
-    fn from(cause: PutFault) -> LineFault {
-        match cause {
-            PutFault::Failed => LineFault::WriteFault,
-            PutFault::Memory => LineFault::Memory,
-        }
-    }
-}
+use crate::run_end::RunEnd;
+use crate::script_farm::ScriptFarm;
+use farm_entry::{Answer, Command};
+use farm_types::{Memory, Moment};
+use farm_wire::{LineReader, WireFault, answer_text, fault_text};
+use link_io::{Sink, put_all};
+use std::alloc::Global;
 
 /// Answers a line, and puts its reply line.
+///
+/// # Errors
+///
+/// How the run ends by it: the output failed, or the store, or memory ran out.
 #[tactic(auto, using(crate::proofs::Answering::unshown, crate::proofs::Growing::growing))]
 pub fn answer_line<F: ScriptFarm, K: Sink>(
     alloc: Global,
@@ -80,20 +31,20 @@ pub fn answer_line<F: ScriptFarm, K: Sink>(
     output: &mut K,
     reader: &mut LineReader,
     line: &[u8],
-) -> Result<(), LineFault>
+) -> Result<(), RunEnd>
     requires { F.pending farm.old ≡ [] }
     ensures answered { OnOk result
-        (Answered F.rule (F.history farm.old) (K.written output.old) (line.now ∷ [])
+        (Answered farm_rule (F.history farm.old) (K.written output.old) (line.now ∷ [])
         (F.history farm.new) (K.written output.new)) }
     ensures stops { OnErr result
-        (StopsIn F.rule (F.history farm.old) (K.written output.old) (line.now ∷ [])
+        (StopsIn farm_rule (F.history farm.old) (K.written output.old) (line.now ∷ [])
         (F.history farm.new) (K.written output.new)) }
-    ensures fails { IsErrOf result LineFault.StoreFault →
-        FailsIn F.rule (F.history farm.old) (K.written output.old) (line.now ∷ [])
+    ensures fails { IsErrOf result RunEnd.StoreFault →
+        FailsIn farm_rule (F.history farm.old) (K.written output.old) (line.now ∷ [])
         (F.history farm.new) (F.pending farm.new) (K.written output.new) }
     ensures cause { HasCause result (K.count output.old) (K.count output.new)
         (F.count farm.old) (F.count farm.new) (F.pending farm.new) }
-    ensures images { Grows F.tells F.told F.stands_for F.history F.pending farm.old farm.new }
+    ensures images { Grows F.tells F.told StandsFor F.history F.pending farm.old farm.new }
 {
     let mut reply = reply_to(alloc, farm, reader, line)?;
     reply.push('\n')?;
@@ -101,25 +52,68 @@ pub fn answer_line<F: ScriptFarm, K: Sink>(
     Ok(())
 }
 
-/// The reply to a line, without its line feed.
-#[tactic(auto, using(crate::proofs::Growing::growing))]
+/// The reply to a line, without its line feed. The entry that it makes is recorded before its reply is written, and
+/// stays where memory runs out for that. Of a line that is too long, its first bytes are enough.
+#[tactic(auto, using(crate::proofs::Growing::growing), unfolding(crate::specs::FarmRule::farm_rule))]
 fn reply_to<F: ScriptFarm>(
     alloc: Global,
     farm: &mut F,
     reader: &mut LineReader,
     line: &[u8],
-) -> Result<String, LineFault>
+) -> Result<String, RunEnd>
     requires { F.pending farm.old ≡ [] }
-    ensures reply { IfOk result (λ text. string_bytes text ≡ (F.rule (F.history farm.old) line.now).0) }
-    ensures history { OnOk result (F.history farm.new ≡ next_history F.rule (F.history farm.old) line.now) }
-    ensures err { OnErr result (IsUnshown F.rule (F.history farm.old) line.now (F.history farm.new)) }
-    ensures no_write { result ≢ Err LineFault.WriteFault }
-    ensures decided { ¬ IsErrOf result LineFault.StoreFault → F.pending farm.new ≡ [] }
-    ensures undecided { IsErrOf result LineFault.StoreFault → (F.history farm.new ≡ F.history farm.old)
-        × IsPendingOf F.rule (F.history farm.old) line.now (F.pending farm.new) }
-    ensures store_fault { IsErrOf result LineFault.StoreFault → Rose (F.count farm.old) (F.count farm.new) }
+    ensures reply { IfOk result (λ text. string_bytes text ≡ (farm_rule (F.history farm.old) line.now).0) }
+    ensures history { OnOk result (F.history farm.new ≡ next_history farm_rule (F.history farm.old) line.now) }
+    ensures err { OnErr result (IsUnshown farm_rule (F.history farm.old) line.now (F.history farm.new)) }
+    ensures stop { IfErr result IsStop }
+    ensures no_write { result ≢ Err RunEnd.WriteFault }
+    ensures decided { ¬ IsErrOf result RunEnd.StoreFault → F.pending farm.new ≡ [] }
+    ensures undecided { IsErrOf result RunEnd.StoreFault → (F.history farm.new ≡ F.history farm.old)
+        × IsPendingOf farm_rule (F.history farm.old) line.now (F.pending farm.new) }
+    ensures store_fault { IsErrOf result RunEnd.StoreFault → Rose (F.count farm.old) (F.count farm.new) }
     ensures stores { F.count farm.old ≤ F.count farm.new }
-    ensures images { Grows F.tells F.told F.stands_for F.history F.pending farm.old farm.new }
+    ensures images { Grows F.tells F.told StandsFor F.history F.pending farm.old farm.new }
 {
-    Ok(farm.reply(alloc, reader, line)?)
+    match reader.read(line) {
+        Ok((at, command)) => reply_to_command(alloc, farm, &command, at),
+        Err(WireFault::Memory) => Err(RunEnd::Memory),
+        Err(fault) => Ok(fault_text(alloc, &fault)?),
+    }
+}
+
+/// The reply to a command at a moment.
+fn reply_to_command<F: ScriptFarm>(
+    alloc: Global,
+    farm: &mut F,
+    command: &Command,
+    at: Moment,
+) -> Result<String, RunEnd>
+    requires { F.pending farm.old ≡ [] }
+    ensures reply { IfOk result (λ text. string_bytes text
+        ≡ decision_text (F.history farm.old) (decide (F.history farm.old) command.now at)) }
+    ensures history { OnOk result
+        (F.history farm.new ≡ after (F.history farm.old) (decide (F.history farm.old) command.now at)) }
+    ensures err { OnErr result ((F.history farm.new ≡ F.history farm.old)
+        ⊎ (F.history farm.new ≡ after (F.history farm.old) (decide (F.history farm.old) command.now at))) }
+    ensures stop { IfErr result IsStop }
+    ensures no_write { result ≢ Err RunEnd.WriteFault }
+    ensures decided { ¬ IsErrOf result RunEnd.StoreFault → F.pending farm.new ≡ [] }
+    ensures undecided { IsErrOf result RunEnd.StoreFault → (F.history farm.new ≡ F.history farm.old)
+        × (F.pending farm.new ≢ []) × (F.history farm.old ++ F.pending farm.new
+        ≡ after (F.history farm.old) (decide (F.history farm.old) command.now at)) }
+    ensures store_fault { IsErrOf result RunEnd.StoreFault → Rose (F.count farm.old) (F.count farm.new) }
+    ensures stores { F.count farm.old ≤ F.count farm.new }
+    ensures images { Grows F.tells F.told StandsFor F.history F.pending farm.old farm.new }
+{
+    let answer = farm.answer_command(alloc, command, at)?;
+    Ok(text_of(alloc, answer)?)
+}
+
+/// The text of an answer that is done with. It is let go of here alone, since the proof of each way out of a function
+/// that holds one goes through all that it may hold.
+fn text_of(alloc: Global, answer: Answer) -> Result<String, Memory>
+    requires { AnswerHasDates answer }
+    ensures { IfOk result (λ text. string_bytes text ≡ answer_text answer) }
+{
+    answer_text(alloc, &answer)
 }

@@ -1,14 +1,17 @@
 //! The lines that end in a piece.
 ghost use Rattle.std.specs.Prelude.{◌≡◌, ◌<◌, ◌≤◌, ◌++◌, ◌∷◌, ℕ, List, [], length, MatchOption, OnOk, OnErr, IsErrOf};
 ghost use Rattle.fault_types.specs.Counts.{Rose};
+ghost use Rattle.farm_store.specs.Bytes.{StandsFor};
+ghost use Rattle.farm_script.specs.FarmRule.{farm_rule};
 ghost use Rattle.farm_script.specs.LineFaults.{HasCause};
 ghost use Rattle.farm_script.specs.Images.{Grows};
 ghost use Rattle.farm_script.specs.Lines.{ended_after, rest_after};
 ghost use Rattle.farm_script.specs.Held.{held};
 ghost use Rattle.farm_script.specs.Script.{Answered, FailsIn, StopsIn};
 
-use crate::answer_line::{LineFault, answer_line};
+use crate::answer_line::answer_line;
 use crate::held_line::HeldLine;
+use crate::run_end::RunEnd;
 use crate::script_farm::ScriptFarm;
 use farm_wire::LineReader;
 use link_io::Sink;
@@ -24,21 +27,21 @@ pub fn answer_piece<F: ScriptFarm, K: Sink>(
     reader: &mut LineReader,
     line: &mut HeldLine,
     piece: &[u8],
-) -> Result<(), LineFault>
+) -> Result<(), RunEnd>
     requires { F.pending farm.old ≡ [] }
     ensures answered { OnOk result
-        (Answered F.rule (F.history farm.old) (K.written output.old) (ended_after line.old piece.now)
+        (Answered farm_rule (F.history farm.old) (K.written output.old) (ended_after line.old piece.now)
         (F.history farm.new) (K.written output.new)) }
     ensures rest { OnOk result (line.new ≡ held (rest_after line.old piece.now)) }
     ensures stops { OnErr result
-        (StopsIn F.rule (F.history farm.old) (K.written output.old) (ended_after line.old piece.now)
+        (StopsIn farm_rule (F.history farm.old) (K.written output.old) (ended_after line.old piece.now)
         (F.history farm.new) (K.written output.new)) }
-    ensures fails { IsErrOf result LineFault.StoreFault →
-        FailsIn F.rule (F.history farm.old) (K.written output.old) (ended_after line.old piece.now)
+    ensures fails { IsErrOf result RunEnd.StoreFault →
+        FailsIn farm_rule (F.history farm.old) (K.written output.old) (ended_after line.old piece.now)
         (F.history farm.new) (F.pending farm.new) (K.written output.new) }
     ensures cause { HasCause result (K.count output.old) (K.count output.new)
         (F.count farm.old) (F.count farm.new) (F.pending farm.new) }
-    ensures images { Grows F.tells F.told F.stands_for F.history F.pending farm.old farm.new }
+    ensures images { Grows F.tells F.told StandsFor F.history F.pending farm.old farm.new }
 {
     let mut rest = piece;
     while let Some((end, after)) = split_line(rest) {
@@ -58,21 +61,21 @@ fn end_line<F: ScriptFarm, K: Sink>(
     reader: &mut LineReader,
     line: &mut HeldLine,
     end: &[u8],
-) -> Result<(), LineFault>
+) -> Result<(), RunEnd>
     requires { F.pending farm.old ≡ [] }
     ensures answered { OnOk result
-        (Answered F.rule (F.history farm.old) (K.written output.old) ((line.old ++ end.now) ∷ [])
+        (Answered farm_rule (F.history farm.old) (K.written output.old) ((line.old ++ end.now) ∷ [])
         (F.history farm.new) (K.written output.new)) }
     ensures next { OnOk result (line.new ≡ []) }
     ensures stops { OnErr result
-        (StopsIn F.rule (F.history farm.old) (K.written output.old) ((line.old ++ end.now) ∷ [])
+        (StopsIn farm_rule (F.history farm.old) (K.written output.old) ((line.old ++ end.now) ∷ [])
         (F.history farm.new) (K.written output.new)) }
-    ensures fails { IsErrOf result LineFault.StoreFault →
-        FailsIn F.rule (F.history farm.old) (K.written output.old) ((line.old ++ end.now) ∷ [])
+    ensures fails { IsErrOf result RunEnd.StoreFault →
+        FailsIn farm_rule (F.history farm.old) (K.written output.old) ((line.old ++ end.now) ∷ [])
         (F.history farm.new) (F.pending farm.new) (K.written output.new) }
     ensures cause { HasCause result (K.count output.old) (K.count output.new)
         (F.count farm.old) (F.count farm.new) (F.pending farm.new) }
-    ensures images { Grows F.tells F.told F.stands_for F.history F.pending farm.old farm.new }
+    ensures images { Grows F.tells F.told StandsFor F.history F.pending farm.old farm.new }
 {
     line.hold(end)?;
     answer_line(alloc, farm, output, reader, line.bytes())?;

@@ -14,9 +14,9 @@
 //! refused by what is held of it, and the run goes on. A script has fewer than `INPUT_LIMIT` bytes, 2^30.
 //!
 //! It stands on `farm_core` for the farm in memory, on `farm_store` for one whose history stands on a disk, on
-//! `farm_wire` for what a line says, on `farm_answers` for the answer to it and its text, on `link_io` for the input
-//! and the output, on `memchr`, and on the crates of the farm's values and definitions. The layer above may use every
-//! name below.
+//! `farm_wire` for what a line says and the text of the answer to it, on `farm_journal` for a fault of the disk, on
+//! `link_io` for the input and the output, on `memchr`, and on the crates of the farm's values and definitions. The
+//! layer above may use every name below.
 #![tactic(auto)]
 
 mod answer_line;
@@ -30,10 +30,9 @@ mod script_farm;
 mod script_run;
 mod shown;
 mod store_farm;
-mod texts;
 
 pub use founded::run_founded;
 pub use run_end::RunEnd;
-pub use script_farm::{ReplyFault, ScriptFarm};
+pub use script_farm::ScriptFarm;
 pub use script_run::run_script;
 pub use shown::shown_text;

@@ -3,13 +3,15 @@
 ghost use Rattle.std.specs.Prelude.{◌≡◌, ◌≢◌, ◌≤◌, [], OnOk, OnErr, IsErrOf};
 ghost use Rattle.fault_types.specs.Counts.{Rose};
 ghost use Rattle.link_io.specs.Streams.{streams};
+ghost use Rattle.farm_store.specs.Bytes.{StandsFor};
+ghost use Rattle.farm_script.specs.FarmRule.{farm_rule};
 ghost use Rattle.farm_script.specs.Images.{Grows};
 ghost use Rattle.farm_script.specs.LineFaults.{HasCause};
 ghost use Rattle.farm_script.specs.Lines.{as_line};
-ghost use Rattle.farm_script.specs.RunEnds.{RunCompletes, RunEnds, Seen, end_of};
+ghost use Rattle.farm_script.specs.RunEnds.{RunCompletes, RunEnds, Seen};
 ghost use Rattle.farm_script.specs.Script.{Answered, FailsIn, StopsIn};
 
-use crate::answer_line::{LineFault, answer_line};
+use crate::answer_line::answer_line;
 use crate::answer_piece::answer_piece;
 use crate::held_line::HeldLine;
 use crate::run_end::RunEnd;
@@ -33,14 +35,14 @@ pub fn run_script<F: ScriptFarm, S: Source, K: Sink>(
     requires { F.pending farm.old ≡ [] }
     ensures ends { let before = streams S.Source K.Sink input.old output.old in
         let after = streams S.Source K.Sink input.new output.new in
-        RunEnds F.rule result (record { streams = before; history = F.history farm.old; pending = [] })
+        RunEnds farm_rule result (record { streams = before; history = F.history farm.old; pending = [] })
         (record { streams = after; history = F.history farm.new; pending = F.pending farm.new }) }
     ensures completes { RunCompletes result
         (streams S.Source K.Sink input.old output.old) (streams S.Source K.Sink input.new output.new) }
     ensures store_fault { result ≡ RunEnd.StoreFault → Rose (F.count farm.old) (F.count farm.new) }
     ensures never_falls { F.count farm.old ≤ F.count farm.new }
     ensures decided { result ≢ RunEnd.StoreFault → F.pending farm.new ≡ [] }
-    ensures images { Grows F.tells F.told F.stands_for F.history F.pending farm.old farm.new }
+    ensures images { Grows F.tells F.told StandsFor F.history F.pending farm.old farm.new }
 {
     run_lines(alloc, farm, input, output)
 }
@@ -56,12 +58,12 @@ fn run_lines<F: ScriptFarm, S: Source, K: Sink>(
     requires { F.pending farm.old ≡ [] }
     ensures ends { let before = streams S.Source K.Sink input.old output.old in
         let after = streams S.Source K.Sink input.new output.new in
-        RunEnds F.rule result (record { streams = before; history = F.history farm.old; pending = [] })
+        RunEnds farm_rule result (record { streams = before; history = F.history farm.old; pending = [] })
         (record { streams = after; history = F.history farm.new; pending = F.pending farm.new }) }
     ensures store_fault { result ≡ RunEnd.StoreFault → Rose (F.count farm.old) (F.count farm.new) }
     ensures never_falls { F.count farm.old ≤ F.count farm.new }
     ensures decided { result ≢ RunEnd.StoreFault → F.pending farm.new ≡ [] }
-    ensures images { Grows F.tells F.told F.stands_for F.history F.pending farm.old farm.new }
+    ensures images { Grows F.tells F.told StandsFor F.history F.pending farm.old farm.new }
 {
     let mut reader = LineReader::new(alloc);
     let mut line = HeldLine::new(alloc);
@@ -74,14 +76,14 @@ fn run_lines<F: ScriptFarm, S: Source, K: Sink>(
             Err(_) => return RunEnd::ReadFault,
         };
         if piece.is_empty() {
-            if let Err(fault) = answer_rest(alloc, farm, output, &mut reader, &line) {
-                return end_after(fault);
+            if let Err(end) = answer_rest(alloc, farm, output, &mut reader, &line) {
+                return end;
             }
             return RunEnd::Done;
         }
         taken += piece.len();
-        if let Err(fault) = answer_piece(alloc, farm, output, &mut reader, &mut line, piece) {
-            return end_after(fault);
+        if let Err(end) = answer_piece(alloc, farm, output, &mut reader, &mut line, piece) {
+            return end;
         }
     }
     RunEnd::InputLimit
@@ -95,35 +97,24 @@ fn answer_rest<F: ScriptFarm, K: Sink>(
     output: &mut K,
     reader: &mut LineReader,
     line: &HeldLine,
-) -> Result<(), LineFault>
+) -> Result<(), RunEnd>
     requires { F.pending farm.old ≡ [] }
     ensures answered { OnOk result
-        (Answered F.rule (F.history farm.old) (K.written output.old) (as_line line.now)
+        (Answered farm_rule (F.history farm.old) (K.written output.old) (as_line line.now)
         (F.history farm.new) (K.written output.new)) }
     ensures stops { OnErr result
-        (StopsIn F.rule (F.history farm.old) (K.written output.old) (as_line line.now)
+        (StopsIn farm_rule (F.history farm.old) (K.written output.old) (as_line line.now)
         (F.history farm.new) (K.written output.new)) }
-    ensures fails { IsErrOf result LineFault.StoreFault →
-        FailsIn F.rule (F.history farm.old) (K.written output.old) (as_line line.now)
+    ensures fails { IsErrOf result RunEnd.StoreFault →
+        FailsIn farm_rule (F.history farm.old) (K.written output.old) (as_line line.now)
         (F.history farm.new) (F.pending farm.new) (K.written output.new) }
     ensures cause { HasCause result (K.count output.old) (K.count output.new)
         (F.count farm.old) (F.count farm.new) (F.pending farm.new) }
-    ensures images { Grows F.tells F.told F.stands_for F.history F.pending farm.old farm.new }
+    ensures images { Grows F.tells F.told StandsFor F.history F.pending farm.old farm.new }
 {
     let bytes = line.bytes();
     if bytes.is_empty() {
         return Ok(());
     }
     answer_line(alloc, farm, output, reader, bytes)
-}
-
-/// How a run ends that a fault stopped.
-fn end_after(fault: LineFault) -> RunEnd
-    ensures { result ≡ end_of fault }
-{
-    match fault {
-        LineFault::WriteFault => RunEnd::WriteFault,
-        LineFault::StoreFault => RunEnd::StoreFault,
-        LineFault::Memory => RunEnd::Memory,
-    }
 }

@@ -4,7 +4,7 @@ ghost use Rattle.std.specs.Prelude.{◌≡◌, ◌++◌, [], length, IfOk, OnOk,
 ghost use Rattle.farm_entry.specs.History.{opening_numbered, openings};
 ghost use Rattle.farm_entry.specs.Legal.{IsLegal};
 ghost use Rattle.farm_entry.specs.declared.reply.Reply.{Reply};
-ghost use Rattle.farm_wire.specs.Replies.{HasDates};
+ghost use Rattle.farm_laws.specs.Days.{HasDays};
 ghost use Rattle.farm_script.specs.Shown.{shown_line, shown_opening, shown_text};
 
 use farm_disk::Disk;
@@ -63,7 +63,7 @@ fn push_search<D: Disk>(
 
 /// The line of a reply.
 fn shown_line(alloc: Global, reply: &Reply) -> Result<String, Memory>
-    requires { HasDates reply.now }
+    requires { HasDays reply.now }
     ensures { IfOk result (λ line. string_bytes line ≡ shown_line reply.now) }
 {
     let mut line = reply_text(alloc, reply)?;

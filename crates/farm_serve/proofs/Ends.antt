@@ -94,6 +94,7 @@ links_served start final clock links s line before now h = record {
   gained = h.gained;
   is = h.is;
   accepts = λ fine. h.accepts (short_of s.short s.failed line fine);
+  asked = h.asked;
   back = h.back;
   held = AreHeldBack-longer start final final clock clock s.short (is_memory (ending_of s line)) h.gained
       (Follows-refl final) (λ at m. m) (memory_of s.short s.failed line) h.held;
@@ -103,7 +104,8 @@ links_served start final clock links s line before now h = record {
 -- what is known of each crash of a service, from the disk at entry to the one at exit
 pub record AreCrashes (first last pending : List Entry) (old new : DiskSeen) : Type 0 where
   pub decided : old.tells ≡ true → (pending ≡ []) ⊎ Rose old.faults new.faults
-  pub since_sync : old.tells ≡ true → LeavesSinceSync old.told new.told (StandsWithin (mark_at first old) (mark_at last new))
+  pub since_sync : old.tells ≡ true → LeavesSinceSync old.told new.told
+      (StandsWithin (mark_at first old) (mark_at last new))
   pub any_moment : old.tells ≡ true → IsSettled old.told
       → LeavesOnly old.told new.told (StandsWithin (mark_at first old) (mark_at last new))
   pub by_turns : old.tells ≡ true → WentByTurns (mark_at first old) (mark_at last new) pending old.told new.told
@@ -132,9 +134,10 @@ ends first last pending links clock s ending old new held legal legal_after at_e
       text = line_put s.short s.failed says.line (farm_line last) old.output new.output says.says;
       served = IfSome-map old.network.told
           (λ before. AreServed (mark_at first old.disk) (mark_at last new.disk) clock links s before new.network.told)
-          (λ before. LinksServed (mark_at first old.disk) (mark_at last new.disk) clock links (ending_of s says.line) before new.network.told)
-          (λ before h. links_served (mark_at first old.disk) (mark_at last new.disk) clock links s says.line before new.network.told h)
-          comes.served;
+          (λ before. LinksServed (mark_at first old.disk) (mark_at last new.disk) clock links (ending_of s says.line)
+          before new.network.told)
+          (λ before h. links_served (mark_at first old.disk) (mark_at last new.disk) clock links s says.line before
+          new.network.told h) comes.served;
       cause = net_cause s.short s.failed says.line old.network.faults new.network.faults comes.rose;
     })
 
@@ -155,7 +158,8 @@ crashes {D} meant old store given opened came =
     λ tell. turns-reached first came.turns last opened.none (stored tell) (told tell) in
     let holds : meant.tells old ≡ true → StandsWithin before after (meant.told old).bytes =
     λ tell. within-first before after (meant.told old).bytes (reached tell).follows.longer (opened.held tell) in
-    let leaves : meant.tells old ≡ true → LeavesOnly (meant.told store.disk) (meant.told given.disk) (StandsWithin before after) =
+    let leaves : meant.tells old ≡ true → LeavesOnly (meant.told store.disk) (meant.told given.disk)
+    (StandsWithin before after) =
     λ tell. leaves_only-weaker (meant.told store.disk) (meant.told given.disk)
     (StandsWithin (mark_of_rest first) (mark_of_rest last)) (StandsWithin before after)
     (λ c w. within-from store.history (meant.count old) (meant.count store.disk) after c opened.never_falls w)
@@ -183,15 +187,18 @@ crashes {D} meant old store given opened came =
 
 -- The same over a store that was opened on a disk and given back: `back` is the disk that the service gives back.
 pub opened-ends : {D : Type 0} (meant : disk.Ghosts D) (clock : Moment → Type 0) (links : ℕ) (old back : D) (before : ℕ)
-    (store given : StoreState D) (s : Standing) (ending : Ending) (net net_after : NetworkSeen) (out out_after : OutputSeen)
+    (store given : StoreState D) (s : Standing) (ending : Ending) (net net_after : NetworkSeen)
+    (out out_after : OutputSeen)
     → before ≡ meant.count old → WasOpened meant store old
-    → ComesTo (record { seen = store.history; faults = before }) (store_mark meant.count given) clock links s net net_after
+    → ComesTo (record { seen = store.history; faults = before }) (store_mark meant.count given) clock links s net
+    net_after
     → CameBy meant (begun_of meant store) given → EndSays s (farm_line given.history) ending out out_after
     → IsLegal given.history → back ≡ given.disk
     → (meant.tells given.disk ≡ true → IsStored given.history given.pending (meant.told back))
-    → ServeEnds links clock ending (outside net out (disk_seen meant old)) (outside net_after out_after (disk_seen meant back))
-opened-ends {D} meant clock links old back before store given s ending net net_after out out_after counted opened comes came
-    says legal_after is_back stored =
+    → ServeEnds links clock ending (outside net out (disk_seen meant old))
+    (outside net_after out_after (disk_seen meant back))
+opened-ends {D} meant clock links old back before store given s ending net net_after out out_after counted opened comes
+    came says legal_after is_back stored =
     subst (λ (d : D). ServeEnds links clock ending (outside net out (disk_seen meant old))
     (outside net_after out_after (disk_seen meant d))) (sym is_back)
     (ends store.history given.history given.pending links clock s ending (outside net out (disk_seen meant old))
@@ -199,12 +206,13 @@ opened-ends {D} meant clock links old back before store given s ending net net_a
     (λ tell. subst (λ (d : D). IsStored given.history given.pending (meant.told d)) is_back
     (stored (came.same ∙ (opened.same ∙ tell))))
     (crashes meant old store given opened came)
-    (subst (λ (n : ℕ). ComesTo (record { seen = store.history; faults = n }) (store_mark meant.count given) clock links s net
-    net_after) counted comes)
+    (subst (λ (n : ℕ). ComesTo (record { seen = store.history; faults = n }) (store_mark meant.count given) clock links
+    s net net_after) counted comes)
     says)
 
 -- where nothing fails and the journal holds a history, only memory may have run out
-pub completes : (links : ℕ) (clock : Moment → Type 0) (ending : Ending) (old new : Outside) → ServeEnds links clock ending old new
+pub completes : (links : ℕ) (clock : Moment → Type 0) (ending : Ending) (old new : Outside)
+    → ServeEnds links clock ending old new
     → ServeCompletes ending old new
 completes links clock Done old new e net out disk tell history stands = inl refl
 completes links clock NetFault old new e net out disk tell history stands = absurd (net e.cause)

@@ -2,6 +2,7 @@
 use Rattle.std.proofs.Common.{◌≡◌, ◌≤◌, ℕ, List, Result, Ok, Err, sym, subst, arith}
 use Rattle.connection_laws.proofs.Serving.{served-held}
 use Rattle.connection_laws.specs.Marks.{Mark}
+use Rattle.connection_laws.specs.Moments.{given_by, with_counts}
 use Rattle.connection_laws.specs.Progress.{IsBefore, progress_at, progress_from}
 use Rattle.connection_laws.specs.Serving.{IsHeldOf, Serves, is_whole}
 use Rattle.connection_laws.specs.declared.served.ServeFault.{ServeFault}
@@ -14,12 +15,14 @@ use Rattle.fault_types.specs.Counts.{Rose}
 use Rattle.link_io.specs.Links.{LinkState, fresh_link}
 use Rattle.list_prefix.specs.Prefix.{IsPrefix}
 use Rattle.farm_serve.proofs.Counts.{Rose-zero}
-use Rattle.farm_serve.proofs.Marks.{Follows-refl, IsHeldOf-longer}
+use Rattle.farm_serve.proofs.Marks.{Follows-refl, IsHeldOf-more, any_counts}
 use Rattle.farm_serve.specs.Links.{IsServedLink}
 
 -- by the answer of its serving, with what is held of it, where its count was 0
-by_answer : (result : Result Served ServeFault) (start final : Mark) (clock : Moment → Type 0) (new : LinkState) (none : ℕ)
-    → none ≡ 0 → OnLinkFault result (Rose none new.count) → IsHeldOf start final clock new (is_whole result)
+by_answer : (result : Result Served ServeFault) (start final : Mark) (clock : Moment → Type 0) (new : LinkState)
+    (none : ℕ)
+    → none ≡ 0 → OnLinkFault result (Rose none new.count) → IsHeldOf start final (with_counts clock) new
+    (is_whole result)
     → IsServedLink start final clock new result
 by_answer (Ok done) start final clock new none is cause held = held
 by_answer (Err ReadFault) start final clock new none is cause held = (held, Rose-zero none new.count is cause)
@@ -28,18 +31,23 @@ by_answer (Err Memory) start final clock new none is cause held = held
 
 -- from a mark with which its pass and its reader both began, for a clock that may give more, and as it is left at last
 pub served_link : (result : Result Served ServeFault) (start final : Mark) (seen totals read : List Entry) (faults : ℕ)
-    (clock other : Moment → Type 0) (old new last : LinkState) (mine kept : List ℕ)
-    → ((at : Moment) → clock at → other at) → IsPrefix start.seen seen → start.faults ≤ faults → IsPrefix start.seen totals
+    (clock other : Moment → Type 0) (counts : ℕ → Type 0) (old new last : LinkState) (mine kept : List ℕ)
+    → ((at : Moment) → clock at → other at) → IsPrefix start.seen seen → start.faults ≤ faults
+    → IsPrefix start.seen totals
     → old.count ≡ 0 → last ≡ new → OnLinkFault result (Rose old.count new.count)
-    → Serves result (progress_from seen totals faults) final clock old new mine kept read → old ≡ fresh_link
+    → Serves result (progress_from seen totals faults) final (given_by clock counts) old new mine kept read
+    → old ≡ fresh_link
     → IsServedLink start final other last result
-served_link result start final seen totals read faults clock other old new last mine kept more begins count counted none same
-    cause serves fresh =
+served_link result start final seen totals read faults clock other counts old new last mine kept more begins count
+    counted none same cause serves fresh =
     let before : IsBefore (progress_at start) (progress_from seen totals faults) =
     record { seen = begins; totals = counted; faults = count; left = omega arith } in
-    let held : IsHeldOf start final clock new (is_whole result) =
-    served-held result start final final seen totals read faults clock new mine kept before (Follows-refl final)
-    (subst (λ (l : LinkState). Serves result (progress_from seen totals faults) final clock l new mine kept read) fresh serves) in
+    let held : IsHeldOf start final (given_by clock counts) new (is_whole result) =
+    served-held result start final final seen totals read faults (given_by clock counts) new mine kept before
+    (Follows-refl final)
+    (subst (λ (l : LinkState). Serves result (progress_from seen totals faults) final (given_by clock counts) l new mine
+    kept read) fresh serves) in
     subst (λ (l : LinkState). IsServedLink start final other l result) (sym same)
     (by_answer result start final other new old.count none cause
-    (IsHeldOf-longer start final final clock other new (is_whole result) (Follows-refl final) more held))
+    (IsHeldOf-more start final final (given_by clock counts) (with_counts other) new (is_whole result)
+    (Follows-refl final) (any_counts clock other counts more) held))

@@ -25,7 +25,8 @@ closed_by : (s : Standing) → IsClosed s ⊎ (s.short ≡ true) → s.short ≡
 closed_by s (inl closed) fine = closed
 closed_by s (inr want) fine = absurd (cc (want, fine))
 
-served_at : (a : AtEntry) (clock other : Moment → Type 0) (seen final : Mark) (s : Standing) (now : Option (List NetworkEvent))
+served_at : (a : AtEntry) (clock other : Moment → Type 0) (seen final : Mark) (s : Standing)
+    (now : Option (List NetworkEvent))
     → IsClosed s ⊎ (s.short ≡ true) → Follows seen final → ((at : Moment) → clock at → other at)
     → IfSome a.told (λ before. IsGained a clock seen 0 s before now)
     → IfSome a.told (λ before. AreServed a.start final other a.links s before now)
@@ -37,6 +38,7 @@ served_at a clock other seen final s now over follows more =
       is = h.is;
       accepts = λ fine. accepts_made (accepts_of h.gained) s.left a.links (last_ended h.gained) h.accepts
           (elim (closed_by s over fine) [ inl none ↦ inl none | inr ended ↦ inr (h.last ∙ ended) ]);
+      asked = h.asked;
       back = (let e = h.links in omega arith);
       held = AreHeldBack-longer a.start seen final clock other s.short s.short h.gained follows more (λ is. is) h.held;
       faults = h.faults;
@@ -50,8 +52,8 @@ pub comes : (a e : AtEntry) (clock other : Moment → Type 0) (seen final : Mark
     → a.count ≤ count
     → ComesTo e.start final other e.links s (network_seen e.told e.count) (network_seen now count)
 comes a e clock other seen final s now count same over begins follows more gained rose never =
-    subst (λ (x : AtEntry). ComesTo x.start final other x.links s (network_seen x.told x.count) (network_seen now count))
-    same record {
+    subst (λ (x : AtEntry). ComesTo x.start final other x.links s (network_seen x.told x.count)
+    (network_seen now count)) same record {
       follows = Follows-trans a.start seen final begins follows;
       served = served_at a clock other seen final s now over follows more gained;
       rose = rose;
@@ -65,17 +67,19 @@ no_accept start final clock links (Some before) = record {
   gained = [];
   is = refl;
   accepts = λ fine. absurd cc;
+  asked = tt;
   back = refl;
   held = tt;
   faults = refl;
 }
 
 -- no accept was made, as memory ran out
-pub comes_to_none : (start final : Mark) (clock : Moment → Type 0) (links : ℕ) (told : Option (List NetworkEvent)) (count : ℕ)
-    (s : Standing) → s ≡ stands links false false true → Follows start final
+pub comes_to_none : (start final : Mark) (clock : Moment → Type 0) (links : ℕ) (told : Option (List NetworkEvent))
+    (count : ℕ) (s : Standing) → s ≡ stands links false false true → Follows start final
     → ComesTo start final clock links s (network_seen told count) (network_seen told count)
 comes_to_none start final clock links told count s is follows =
-    subst (λ (x : Standing). ComesTo start final clock links x (network_seen told count) (network_seen told count)) (sym is)
+    subst (λ (x : Standing). ComesTo start final clock links x (network_seen told count) (network_seen told count))
+    (sym is)
     record {
       follows = follows;
       served = no_accept start final clock links told;

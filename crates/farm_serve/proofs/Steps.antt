@@ -39,19 +39,21 @@ module _ (a : AtEntry) (clock : Moment → Type 0) (pass : Known) (out : ℕ) (s
     is = told_more accepted k.gained before now new k.is more;
     accepts = (let e = k.accepts in omega arith);
     last = sym not_yet;
+    asked = (k.last ∙ not_yet, k.asked);
     faults = k.faults;
     links = (let e = k.links in omega arith);
     held = k.held;
   }
 
-  gained_end : (before : List NetworkEvent) → new ≡ add_told accept_ended now
+  gained_end : (before : List NetworkEvent) → s.ended ≡ false → new ≡ add_told accept_ended now
       → IsGained a clock (mark_of pass) out s before now
       → IsGained a clock (mark_of pass) out (stands left true s.failed s.short) before new
-  gained_end before more k = record {
+  gained_end before not_yet more k = record {
     gained = accept_ended ∷ k.gained;
     is = told_more accept_ended k.gained before now new k.is more;
     accepts = (let e = k.accepts in omega arith);
     last = refl;
+    asked = (k.last ∙ not_yet, k.asked);
     faults = k.faults;
     links = k.links;
     held = k.held;
@@ -65,6 +67,7 @@ module _ (a : AtEntry) (clock : Moment → Type 0) (pass : Known) (out : ℕ) (s
     is = told_more accept_failed k.gained before now new k.is more;
     accepts = (let e = k.accepts in omega arith);
     last = sym not_yet;
+    asked = (k.last ∙ not_yet, k.asked);
     faults = refl;
     links = k.links;
     held = k.held;
@@ -84,16 +87,16 @@ module _ (a : AtEntry) (clock : Moment → Type 0) (pass : Known) (out : ℕ) (s
   }
 
   -- an accept answered that no more will come
-  pub serving_end : new ≡ add_told accept_ended now
+  pub serving_end : s.ended ≡ false → new ≡ add_told accept_ended now
       → IsServing a clock pass out (stands left true s.failed s.short) new after
-  serving_end more = record {
+  serving_end not_yet more = record {
     ready = h.ready;
     begins = h.begins;
     faults = (let e = h.faults in omega arith);
     rose = λ is. Rose-later a.count count after (h.rose is) never;
     gained = IfSome-map a.told (λ before. IsGained a clock (mark_of pass) out s before now)
         (λ before. IsGained a clock (mark_of pass) out (stands left true s.failed s.short) before new)
-        (λ before k. gained_end before more k) h.gained;
+        (λ before k. gained_end before not_yet more k) h.gained;
   }
 
   -- an accept failed
@@ -146,10 +149,11 @@ serving_longer a clock old held out s now count ready more h = record {
         is = k.is;
         accepts = k.accepts;
         last = k.last;
+        asked = k.asked;
         faults = k.faults;
         links = k.links;
-        held = AreHeldBack-longer a.start (mark_of old) (mark_of held) clock clock s.short s.short k.gained more (λ at m. m)
-            (λ is. is) k.held;
+        held = AreHeldBack-longer a.start (mark_of old) (mark_of held) clock clock s.short s.short k.gained more
+            (λ at m. m) (λ is. is) k.held;
       }) h.gained;
 }
 
@@ -177,6 +181,7 @@ serving_short a clock pass out s now count h = record {
         is = k.is;
         accepts = k.accepts;
         last = k.last;
+        asked = k.asked;
         faults = k.faults;
         links = k.links;
         held = AreHeldBack-longer a.start (mark_of pass) (mark_of pass) clock clock s.short true k.gained
@@ -185,7 +190,8 @@ serving_short a clock pass out s now count h = record {
 }
 
 -- what is held of a link that was served is what is held of one taken back
-held_back : (served : Result Served ServeFault) (start final later : Mark) (clock : Moment → Type 0) (s : Standing) (link : LinkState)
+held_back : (served : Result Served ServeFault) (start final later : Mark) (clock : Moment → Type 0) (s : Standing)
+    (link : LinkState)
     → Follows final later → IsServedLink start final clock link served
     → IsHeldBack start later clock (noted served s).short link
 held_back (Ok done) start final later clock s link more h =
@@ -215,7 +221,8 @@ same_accepts (Err ReadFault) s = record { left = refl; ended = refl; failed = re
 same_accepts (Err WriteFault) s = record { left = refl; ended = refl; failed = refl }
 same_accepts (Err Memory) s = record { left = refl; ended = refl; failed = refl }
 
-module _ (a : AtEntry) (clock : Moment → Type 0) (served : Result Served ServeFault) (s : Standing) (old mine held : Known)
+module _ (a : AtEntry) (clock : Moment → Type 0) (served : Result Served ServeFault) (s : Standing)
+    (old mine held : Known)
     (out left_out : ℕ) (now new : Option (List NetworkEvent)) (count after : ℕ) (link : LinkState)
     (never : count ≤ after) (less : left_out + 1 ≡ out)
     (first : Follows (mark_of old) (mark_of held)) (second : Follows (mark_of mine) (mark_of held))
@@ -230,11 +237,13 @@ module _ (a : AtEntry) (clock : Moment → Type 0) (served : Result Served Serve
         is = told_more (returned link) h.gained before now new h.is told;
         accepts = (let e = h.accepts in let l = same.left in omega arith);
         last = h.last ∙ sym same.ended;
+        asked = h.asked;
         faults = h.faults ∙ sym same.failed;
         links = (let e = h.links in omega arith);
         held = (
           held_back served a.start (mark_of mine) (mark_of held) clock s link second by,
-          AreHeldBack-longer a.start (mark_of old) (mark_of held) clock clock s.short (noted served s).short h.gained first
+          AreHeldBack-longer a.start (mark_of old) (mark_of held) clock clock s.short (noted served s).short h.gained
+              first
               (λ at m. m) (stays_short served s) h.held,
         );
       }

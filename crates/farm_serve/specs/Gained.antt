@@ -1,5 +1,5 @@
 -- What is said of the events that a network gained, the newest first.
-use Rattle.std.specs.Prelude.{◌+◌, ℕ, List, [], ◌∷◌, Bool, true, false, ⊤}
+use Rattle.std.specs.Prelude.{◌≡◌, ◌+◌, ℕ, List, [], ◌∷◌, Bool, true, false, ⊤}
 use Rattle.connection_laws.specs.Marks.{Mark}
 use Rattle.farm_types.specs.declared.moment.Moment.{Moment}
 use Rattle.net_io.specs.Events.{NetworkEvent, accepted, accept_ended, accept_failed, connected, connect_failed, returned}
@@ -54,6 +54,17 @@ has_failed (accept_failed ∷ events) = true
 has_failed (connected ∷ events) = has_failed events
 has_failed (connect_failed ∷ events) = has_failed events
 has_failed (returned link ∷ events) = has_failed events
+
+-- The network was asked for links by accepts alone: it made no connect, and no accept stands behind one that answered
+-- that no more will come.
+abbrev pub AreAccepts : List NetworkEvent → Type 0
+AreAccepts [] = ⊤
+AreAccepts (accepted ∷ events) = (last_ended events ≡ false) × AreAccepts events
+AreAccepts (accept_ended ∷ events) = (last_ended events ≡ false) × AreAccepts events
+AreAccepts (accept_failed ∷ events) = (last_ended events ≡ false) × AreAccepts events
+AreAccepts (connected ∷ events) = ⊥
+AreAccepts (connect_failed ∷ events) = ⊥
+AreAccepts (returned link ∷ events) = AreAccepts events
 
 -- what is held of each link that was taken back
 abbrev pub AreHeldBack : Mark → Mark → (Moment → Type 0) → (short : Bool) → List NetworkEvent → Type 0

@@ -16,7 +16,7 @@ use Rattle.fault_types.specs.Counts.{Rose}
 use Rattle.net_io.specs.Events.{NetworkEvent}
 use Rattle.farm_serve.specs.Crashes.{StandsWithin, WentByTurns}
 use Rattle.farm_serve.specs.Ending.{HasNetCause, TellsFailure, is_memory}
-use Rattle.farm_serve.specs.Gained.{AreHeldBack, accepts_of, has_failed, last_ended, links_of, returns_of}
+use Rattle.farm_serve.specs.Gained.{AreAccepts, AreHeldBack, accepts_of, has_failed, last_ended, links_of, returns_of}
 use Rattle.farm_serve.specs.LastLine.{LinePut, farm_line}
 use Rattle.farm_serve.specs.Outside.{DiskSeen, Outside}
 use Rattle.farm_serve.specs.declared.ending.Ending.{Ending}
@@ -27,16 +27,17 @@ abbrev pub mark_at : List Entry → DiskSeen → Mark
 mark_at history disk = record { seen = history; faults = disk.faults }
 
 -- Of the events that the network gained, the newest first. Unless memory ran out they hold so many accepts, or fewer of
--- which the last one answered that no more will come. As many links were taken back as were given. Each of them was
--- read and answered whole; or a part is held of what was put to it, and then it failed, or memory ran out: from the
--- mark at entry to the one at exit, with the moments that the clock may give. And whether an accept failed is as the
--- ending says.
+-- which the last one answered that no more will come; no connect was made, and no accept behind such an answer. As
+-- many links were taken back as were given. Each of them was read and answered whole; or a part is held of what was put
+-- to it, and then it failed, or memory ran out: from the mark at entry to the one at exit, with the moments that the
+-- clock may give. And whether an accept failed is as the ending says.
 pub record LinksServed (start final : Mark) (clock : Moment → Type 0) (links : ℕ) (ending : Ending)
     (before : List NetworkEvent) (now : Option (List NetworkEvent)) : Type 0 where
   pub gained : List NetworkEvent
   pub is : now ≡ Some (gained ++ before)
   pub accepts : is_memory ending ≡ false
       → (accepts_of gained ≡ links) ⊎ ((accepts_of gained < links) × (last_ended gained ≡ true))
+  pub asked : AreAccepts gained
   pub back : links_of gained ≡ returns_of gained
   pub held : AreHeldBack start final clock (is_memory ending) gained
   pub fault : TellsFailure ending (has_failed gained)
@@ -75,8 +76,8 @@ pub record FarmServed (links : ℕ) (clock : Moment → Type 0) (ending : Ending
   pub by_turns : old.disk.tells ≡ true
       → WentByTurns (mark_at first old.disk) (mark_at last new.disk) pending old.disk.told new.disk.told
   pub text : LinePut (farm_line last) ending old.output new.output
-  pub served : IfSome old.network.told (λ before. LinksServed (mark_at first old.disk) (mark_at last new.disk) clock links
-      ending before new.network.told)
+  pub served : IfSome old.network.told (λ before. LinksServed (mark_at first old.disk) (mark_at last new.disk) clock
+      links ending before new.network.told)
   pub cause : HasNetCause ending old.network.faults new.network.faults
 
 -- what a service came to, by how it ended: so many accepts were to be made, and the clock may give these moments

@@ -18,7 +18,7 @@ use crate::link::serve_one;
 use crate::naming::Naming;
 use crate::standing::{Next, Standing};
 use farm_disk::Disk;
-use farm_http::{Pages, ServeFault, Served};
+use farm_http::{Caller, Pages, ServeFault, Served, Service};
 use farm_types::Memory;
 use link_io::Clock;
 use net_io::{Accepted, Network};
@@ -224,6 +224,13 @@ impl<N: Network + Drop, J: Naming> Gate<N, J> {
         let Ok(pages) = self.pages(alloc) else {
             return;
         };
+        let service = Service {
+            rt,
+            alloc,
+            pages: &pages,
+            farm,
+            clock,
+        };
         let Ok(mut reader) = self.reader(rt, farm) else {
             return;
         };
@@ -233,17 +240,10 @@ impl<N: Network + Drop, J: Naming> Gate<N, J> {
                 Next::Nothing => {}
                 Next::Link(link, pass) => {
                     let mut link = link;
-                    let mut pass = pass;
-                    let served = serve_one::<D, B, N, C, J, R>(
-                        rt,
-                        alloc,
-                        &pages,
-                        farm,
-                        &mut pass,
-                        &mut reader,
-                        &mut link,
-                        clock,
-                    );
+                    let mut caller = Caller { pass, reader };
+                    let served = serve_one::<D, B, N, C, J, R>(&service, &mut caller, &mut link);
+                    let Caller { pass, reader: back } = caller;
+                    reader = back;
                     self.back(farm, link, pass, served, mine);
                 }
             }

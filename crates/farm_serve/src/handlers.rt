@@ -8,6 +8,7 @@ use crate::link::serve_one;
 use crate::naming::Naming;
 use crate::standing::Next;
 use farm_disk::Disk;
+use farm_http::{Caller, Service};
 use link_io::Clock;
 use net_io::Network;
 use shared_farm::{Beginning, SharedFarm};
@@ -141,6 +142,13 @@ fn handle<D: Disk, B: Beginning, N: Network + Drop, C: Clock, J: Naming, R: Wait
     let Ok(pages) = gate.lock(rt).pages(alloc) else {
         return share;
     };
+    let service = Service {
+        rt,
+        alloc,
+        pages: &pages,
+        farm,
+        clock,
+    };
     for _ in rt.forever() {
         let next = gate.lock(rt).next(farm, &mut share);
         match next {
@@ -148,17 +156,10 @@ fn handle<D: Disk, B: Beginning, N: Network + Drop, C: Clock, J: Naming, R: Wait
             Next::Nothing => {}
             Next::Link(link, pass) => {
                 let mut link = link;
-                let mut pass = pass;
-                let served = serve_one::<D, B, N, C, J, R>(
-                    rt,
-                    alloc,
-                    &pages,
-                    farm,
-                    &mut pass,
-                    &mut reader,
-                    &mut link,
-                    clock,
-                );
+                let mut caller = Caller { pass, reader };
+                let served = serve_one::<D, B, N, C, J, R>(&service, &mut caller, &mut link);
+                let Caller { pass, reader: back } = caller;
+                reader = back;
                 gate.lock(rt).back(farm, link, pass, served, &mut share);
             }
         }

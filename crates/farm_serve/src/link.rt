@@ -9,35 +9,29 @@ ghost use Rattle.farm_serve.specs.Nexts.{IsFresh, IsPassOf, IsReaderOf};
 
 use crate::naming::Naming;
 use farm_disk::Disk;
-use farm_http::{Pages, ServeFault, Served, serve_link};
+use farm_http::{Caller, ServeFault, Served, Service, serve_link};
 use link_io::Clock;
 use net_io::Network;
-use shared_farm::{Beginning, Pass, SharedFarm, TotalsReader};
-use std::alloc::Global;
+use shared_farm::Beginning;
 use std::sync::Wait;
 
 /// Serves a link that has done nothing yet, and tells its other end that nothing more will come. No lock is held.
 pub fn serve_one<D: Disk, B: Beginning, N: Network, C: Clock, J: Naming, R: Wait>(
-    rt: &R,
-    alloc: Global,
-    pages: &Pages,
-    farm: &SharedFarm<D, B>,
-    pass: &mut Pass,
-    reader: &mut TotalsReader,
+    service: &Service<R, D, B, C>,
+    caller: &mut Caller,
     link: &mut N::End,
-    clock: &C,
 ) -> Result<Served, ServeFault>
-    requires farm { farm.now ≡ J.entry.lock }
-    requires gives { (at : Moment) → MayGive C.Clock clock.now at → J.gives at }
-    requires pass { IsPassOf J.entry pass.old }
-    requires reader { IsReaderOf J.entry reader.old }
+    requires farm { service.now.farm.now ≡ J.entry.lock }
+    requires gives { (at : Moment) → MayGive C.Clock service.now.clock.now at → J.gives at }
+    requires pass { IsPassOf J.entry caller.old.pass }
+    requires reader { IsReaderOf J.entry caller.old.reader }
     requires fresh { IsFresh J.entry (link_state N.End.Source N.End.Sink link.old) }
-    ensures pass { IsPassOf J.entry pass.new }
-    ensures reader { IsReaderOf J.entry reader.new }
-    ensures served { IfSome J.entry.told (λ _. IsServedLink J.entry.start (mark_of pass.new) J.gives
+    ensures pass { IsPassOf J.entry caller.new.pass }
+    ensures reader { IsReaderOf J.entry caller.new.reader }
+    ensures served { IfSome J.entry.told (λ _. IsServedLink J.entry.start (mark_of caller.new.pass) J.gives
         (link_state N.End.Source N.End.Sink link.new) result) }
 {
-    let served = serve_link(rt, alloc, pages, farm, pass, reader, link, clock);
+    let served = serve_link(service, caller, link);
     N::finish(link);
     served
 }

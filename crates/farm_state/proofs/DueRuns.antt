@@ -1,5 +1,5 @@
 -- The run that is due in a search, by its state and its open leases.
-use Rattle.std.proofs.Common.{◌≡◌, ◌≢◌, ℕ, ◌≤◌, List, length, Option, Some, None, refl, sym, ap, subst, ◌∙◌, arith}
+use Rattle.std.proofs.Common.{◌≡◌, ℕ, ◌≤◌, List, length, Option, Some, None, refl, sym, ap, subst, ◌∙◌, arith}
 use Rattle.std.specs.Option.{option_and_then, option_map}
 use Rattle.std.proofs.lemmas.List.{length-map}
 use Rattle.std.proofs.lemmas.Option.{none-some}
@@ -15,7 +15,7 @@ use Rattle.farm_entry.specs.declared.lease.DueRun.{DueRun}
 use Rattle.farm_entry.specs.declared.lease.LeasedRun.{LeasedRun}
 use Rattle.farm_entry.specs.declared.opening.Opening.{Opening}
 use Rattle.farm_entry.specs.declared.standing.Standing.{Standing}
-use Rattle.farm_entry.specs.declared.standing.Standing.TheVariants.{Searching, Verifying, Confirmed, Vindicated, NoCulprit, Inconclusive, Cancelled}
+use Rattle.farm_entry.specs.declared.standing.Standing.TheVariants.{Searching, Verifying}
 use Rattle.farm_laws.specs.Laws.{IsNotBefore}
 use Rattle.farm_laws.proofs.Numbered.{opening-there}
 use Rattle.farm_laws.proofs.OpenLimits.{open_within}
@@ -91,21 +91,3 @@ due-verifying H n moment c s h stands =
     ∙ ap (λ (x : SearchView). due_standing (Verifying c) x (open_positions H n Verify moment)) it.state
     ∙ ap (λ (k : ℕ). due_standing (Verifying c) (seen H o) (open_positions H k Verify moment)) it.number
     ∙ sym (due-one H n moment o (Verifying c) it.found here)
-
-ended-by : (st : Standing) (H : List Entry) (o : Opening) (moment : ℕ) → st ≢ Searching → ((c : ℕ) → st ≢ Verifying c) →
-    due_at st H o moment ≡ None
-ended-by Searching H o moment searching verifying = absurd (searching refl)
-ended-by (Verifying c) H o moment searching verifying = absurd (verifying c refl)
-ended-by (Confirmed c) H o moment searching verifying = refl
-ended-by (Vindicated c) H o moment searching verifying = refl
-ended-by NoCulprit H o moment searching verifying = refl
-ended-by Inconclusive H o moment searching verifying = refl
-ended-by Cancelled H o moment searching verifying = refl
-
-pub due-ended : (H : List Entry) (n moment : ℕ) (s : SearchView) → option_map (seen H) (opening_numbered H n) ≡ Some s →
-    standing_in s ≢ Searching → ((c : ℕ) → standing_in s ≢ Verifying c) → due_of H n moment ≡ None
-due-ended H n moment s h searching verifying =
-    let it = state-of H n s (opening_numbered H n) refl h in
-    let o : Opening = it.opening in
-    let here : standing H o ≡ standing_in s = ap standing_in (sym it.state) in
-    due-one H n moment o (standing_in s) it.found here ∙ ended-by (standing_in s) H o moment searching verifying

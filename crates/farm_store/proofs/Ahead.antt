@@ -15,14 +15,13 @@ use Rattle.farm_entry.specs.Legal.{IsLegal}
 use Rattle.farm_entry.specs.declared.entry.Entry.{Entry}
 use Rattle.farm_entry.specs.declared.opening.Opening.{Opening}
 use Rattle.farm_journal.specs.Layout.{holds, opens}
+use Rattle.farm_journal.specs.declared.fault.JournalFault.{JournalFault}
+use Rattle.farm_journal.specs.declared.fault.JournalFault.TheVariants as fault
 use Rattle.farm_journal.specs.State.{JournalState, IsBeforeOrAfter, IsHeld, IsPending}
 use Rattle.farm_laws.proofs.OpenLimits.{open_within}
 use Rattle.farm_store.specs.Bytes.{StandsFor}
-use Rattle.farm_store.specs.Faults.{IsOfStore}
 use Rattle.farm_store.specs.Recorded.{IsOpen, IsTorn, IsUntouched, IsUnwritten, IsWritten, LeavesNew, Wrote}
 use Rattle.farm_store.specs.StoreInside.{IsAhead, IsStore, IsUndecidedAs, Keeps}
-use Rattle.farm_store.specs.declared.asking.CallFault.{CallFault}
-use Rattle.farm_store.specs.declared.asking.CallFault.TheVariants as fault
 use Rattle.farm_store.proofs.Spellings.{keeps-push, keeps-room}
 use Rattle.farm_store.proofs.Standing.{stands-either, stands-kept}
 
@@ -62,13 +61,6 @@ module _ {D : Type 0} (tells : D → Bool) (told : D → DiskState) where
         leaves_only-start (told journal.disk) (λ c. opens c ≡ holds journal.payloads)
         (λ c image. ap opens (held.settled c image) ∙ held.reads);
   }
-
-  -- a fault of a write is none of the farm's
-  pub wrote-of_store : (entries : List Entry) (old new : JournalState D) (f : CallFault)
-      → Wrote tells told entries (Err f) old new → IsOfStore f
-  wrote-of_store entries old new (fault.Refused cause) wrote = wrote
-  wrote-of_store entries old new (fault.StoreFault before after) wrote = tt
-  wrote-of_store entries old new fault.Memory wrote = tt
 
 module _ {D : Type 0} (tells : D → Bool) (told : D → DiskState) (start : ℕ) (farm : FarmView)
     (journal : JournalState D) (ahead : IsAhead tells told start farm journal) where
@@ -186,11 +178,10 @@ module _ {D : Type 0} (tells : D → Bool) (told : D → DiskState) (start : ℕ
     waits = λ p waits t. absurd (none-some p (sym unwritten.idle ∙ waits));
   }
 
-  pub kept-missed : (farm' : FarmView) (journal' : JournalState D) (f : CallFault)
+  pub kept-missed : (farm' : FarmView) (journal' : JournalState D) (f : JournalFault)
       → farm'.history ≡ take start farm.history → farm'.ready ≡ drop start farm.history
       → tells journal'.disk ≡ tells journal.disk
       → Wrote tells told (drop start farm.history) (Err f) journal journal' → IsStore tells told farm' journal'
-  kept-missed farm' journal' (fault.Refused cause) same ready telling wrote = absurd wrote
   kept-missed farm' journal' (fault.StoreFault before after) same ready telling wrote =
       kept-torn farm' journal' same ready telling wrote
   kept-missed farm' journal' fault.Memory same ready telling wrote = kept-unwritten farm' journal' same telling wrote
@@ -235,11 +226,10 @@ module _ {D : Type 0} (tells : D → Bool) (told : D → DiskState) (start : ℕ
       leaves-either journal' written.some written.spelled (written.images t))
       wrote
 
-  pub leaves-missed : (journal' : JournalState D) (f : CallFault)
+  pub leaves-missed : (journal' : JournalState D) (f : JournalFault)
       → Wrote tells told (drop start farm.history) (Err f) journal journal' → tells journal.disk ≡ true
       → LeavesOnly (told journal.disk) (told journal'.disk)
       (LeavesNew (take start farm.history) (drop start farm.history) (Err f))
-  leaves-missed journal' (fault.Refused cause) wrote t = absurd wrote
   leaves-missed journal' (fault.StoreFault before after) wrote t =
       leaves-either journal' wrote.some wrote.spelled (wrote.images t)
   leaves-missed journal' fault.Memory wrote t =

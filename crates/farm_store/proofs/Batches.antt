@@ -1,11 +1,12 @@
 -- A list of asks that is answered one after the other.
-use Rattle.std.proofs.Common.{◌≡◌, ℕ, ◌+◌, ◌≤◌, ◌<◌, List, [], ◌∷◌, ◌++◌, length, take, get_or, refl, sym, ◌∙◌, ap, subst, arith}
-use Rattle.std.proofs.lemmas.List.{length-take-le, take_more}
+use Rattle.std.proofs.Common.{◌≡◌, ℕ, ◌+◌, ◌<◌, List, [], ◌∷◌, ◌++◌, length, take, get_or, refl, sym, ◌∙◌, ap, subst}
+use Rattle.std.proofs.lemmas.List.{take_more}
 use Rattle.farm_entry.specs.Decision.{decide}
 use Rattle.farm_entry.specs.Playing.{after}
 use Rattle.farm_entry.specs.declared.entry.Entry.{Entry}
-use Rattle.farm_store.specs.Answering.{AreAnswers, IsAnswer, history_after}
-use Rattle.farm_store.specs.declared.asking.Answer.{Answer}
+use Rattle.farm_entry.specs.Answer.{IsAnswer}
+use Rattle.farm_store.specs.Answering.{AreAnswers, history_after}
+use Rattle.farm_entry.specs.declared.answer.Answer.{Answer}
 use Rattle.farm_store.specs.declared.asking.Ask.{Ask}
 use Rattle.farm_store.proofs.Calls.{history_after-grows}
 
@@ -31,9 +32,6 @@ answers-push H (first ∷ asks) (b ∷ answers) ask a before now = (
   answers-push (after H (decide H first.command first.at)) asks answers ask a before.1 now,
 )
 
-pub first-none : (H : List Entry) (asks : List Ask) → AreFirst H asks 0 [] H
-first-none H asks = record { answered = tt; history = refl }
-
 pub first-more : (H : List Entry) (asks : List Ask) (n : ℕ) (answers : List Answer) (now next : List Entry) (ask : Ask)
     (a : Answer) → AreFirst H asks n answers now → n < length asks → ask ≡ get_or asks n ask
     → IsAnswer now (decide now ask.command ask.at) a → next ≡ after now (decide now ask.command ask.at)
@@ -54,10 +52,7 @@ first-more H asks n answers now next ask a before within is answer then =
     }
 
 pub first-adds : (H : List Entry) (asks : List Ask) (n : ℕ) (answers : List Answer) (now : List Entry)
-    → AreFirst H asks n answers now → n ≤ length asks
-    → (more : List Entry) × (now ≡ H ++ more) × (length more ≤ length asks)
-first-adds H asks n answers now first within =
+    → AreFirst H asks n answers now → (more : List Entry) × (now ≡ H ++ more)
+first-adds H asks n answers now first =
     let grows = history_after-grows H (take n asks) in
-    let some = grows.few in
-    let long : length (take n asks) ≡ n = length-take-le n asks within in
-    (grows.more, first.history ∙ grows.longer, omega (arith, some, long, within))
+    (grows.more, first.history ∙ grows.longer)

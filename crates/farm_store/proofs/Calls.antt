@@ -14,14 +14,13 @@ use Rattle.farm_entry.specs.declared.decision.Decision.TheVariants as decision
 use Rattle.farm_entry.specs.declared.entry.Entry.{Entry}
 use Rattle.farm_journal.specs.Layout.{version_of}
 use Rattle.farm_journal.specs.State.{JournalState}
-use Rattle.farm_store.specs.Answering.{BatchSays, IsUndecided, IsUnrepaired, IsUnrepairedBy, history_after}
+use Rattle.farm_journal.specs.declared.fault.JournalFault.{JournalFault}
+use Rattle.farm_journal.specs.declared.fault.JournalFault.TheVariants as fault
+use Rattle.farm_store.specs.Answering.{IsUndecided, IsUnrepaired, Settles, history_after}
 use Rattle.farm_store.specs.Bytes.{StandsFor}
 use Rattle.farm_store.specs.State.{StoreState, IsLeft, IsRepaired, IsStored, IsWithOrWithout}
 use Rattle.farm_store.specs.StoreInside.{IsStore, store_view, undecided}
-use Rattle.farm_store.specs.declared.asking.Answer.{Answer}
 use Rattle.farm_store.specs.declared.asking.Ask.{Ask}
-use Rattle.farm_store.specs.declared.asking.CallFault.{CallFault}
-use Rattle.farm_store.specs.declared.asking.CallFault.TheVariants as fault
 use Rattle.farm_store.proofs.Spellings.{keeps-push}
 use Rattle.farm_store.proofs.Standing.{stored-held, stored-pending}
 
@@ -76,21 +75,21 @@ longer-repaired old H found = ⊎_elim
     (λ (more : H ≡ old.history ++ old.pending). (old.pending, more))
     found
 
-pub says-longer : {D : Type 0} (asks : List Ask) (result : Result (List Answer) CallFault) (old new : StoreState D)
-    → BatchSays asks result old new → (more : List Entry) × (new.history ≡ old.history ++ more)
-says-longer asks (Ok answers) old new says =
+pub says-longer : {D T : Type 0} (asks : List Ask) (Given : T → List Entry → Type 0) (result : Result T JournalFault)
+    (old new : StoreState D) → Settles asks Given result old new
+    → (more : List Entry) × (new.history ≡ old.history ++ more)
+says-longer asks Given (Ok given) old new says =
     let first = longer-repaired old says.repaired says.found in
     let then = history_after-grows says.repaired asks in (
       first.0 ++ then.more,
       says.history ∙ then.longer ∙ ap (λ (l : List Entry). l ++ then.more) first.1
           ∙ append_assoc old.history first.0 then.more,
     )
-says-longer asks (Err (fault.Refused cause)) old new says = absurd says
-says-longer asks (Err (fault.StoreFault before after)) old new says = ⊎_elim
+says-longer asks Given (Err (fault.StoreFault before after)) old new says = ⊎_elim
     (λ (failed : IsUnrepaired old new). ([], failed.history ∙ sym (append-nil old.history)))
     (λ (torn : IsUndecided asks old new). longer-repaired old new.history torn.found)
     says
-says-longer asks (Err fault.Memory) old new says = longer-repaired old new.history says.found
+says-longer asks Given (Err fault.Memory) old new says = longer-repaired old new.history says.found
 
 -- what an answer comes to
 on_ok-weaker : {T E : Type 0} (r : Result T E) (P Q : Type 0) → (P → Q) → OnOk r P → OnOk r Q
@@ -107,68 +106,82 @@ module _ {D : Type 0} (old mid new : StoreState D) (none : mid.pending ≡ [])
   pub repaired-on : (H : List Entry) → IsRepaired mid H → IsRepaired old H
   repaired-on H found = subst (λ (l : List Entry). IsRepaired old l) (sym (repaired-idle mid H none found)) repaired
 
-  -- what was decided after a repair
-  pub says-on : (asks : List Ask) (result : Result (List Answer) CallFault) → BatchSays asks result mid new
-      → BatchSays asks result old new
-  says-on asks (Ok answers) says = record {
-    repaired = says.repaired;
-    found = repaired-on says.repaired says.found;
-    answers = says.answers;
-    history = says.history;
-    recorded = says.recorded;
-    decided = says.decided;
-  }
-  says-on asks (Err (fault.Refused cause)) says = says
-  says-on asks (Err (fault.StoreFault before after)) says = ⊎_elim
-      (λ (failed : IsUnrepaired mid new). absurd (failed.some none))
-      (λ (torn : IsUndecided asks mid new). inr (record {
-        found = repaired-on new.history torn.found;
-        some = torn.some;
-        all = torn.all;
-        none = torn.none;
-      }))
-      says
-  says-on asks (Err fault.Memory) says = record {
-    found = repaired-on new.history says.found;
-    decided = says.decided;
-    none = says.none;
-  }
+  module _ {T : Type 0} (asks : List Ask) (Given : T → List Entry → Type 0) (result : Result T JournalFault) where
+    -- what was decided after a repair
+    pub says-on : Settles asks Given result mid new → Settles asks Given result old new
+    says-on = by result
+      where
+        by : (r : Result T JournalFault) → Settles asks Given r mid new → Settles asks Given r old new
+        by (Ok given) says = record {
+          repaired = says.repaired;
+          found = repaired-on says.repaired says.found;
+          answers = says.answers;
+          history = says.history;
+          recorded = says.recorded;
+          decided = says.decided;
+        }
+        by (Err (fault.StoreFault before after)) says = ⊎_elim
+            (λ (failed : IsUnrepaired mid new). absurd (failed.some none))
+            (λ (torn : IsUndecided asks mid new). inr (record {
+              found = repaired-on new.history torn.found;
+              some = torn.some;
+              all = torn.all;
+              none = torn.none;
+            }))
+            says
+        by (Err fault.Memory) says = record {
+          found = repaired-on new.history says.found;
+          decided = says.decided;
+          none = says.none;
+        }
 
-  -- a call that recorded nothing leaves the disk as its repair left it
-  pub disk-repaired : (asks : List Ask) (result : Result (List Answer) CallFault) → BatchSays asks result mid new
-      → (new.history ≡ mid.history → OnOk result (new.disk ≡ mid.disk)) → (P : D → Type 0) → P mid.disk
-      → new.recorded ≡ 0 → OnOk result (P new.disk)
-  disk-repaired asks (Ok answers) says untouched P held zero =
-      let H : says.repaired ≡ mid.history = repaired-idle mid says.repaired none says.found in
-      let grows = history_after-grows says.repaired asks in
-      let whole : new.history ≡ mid.history ++ grows.more =
-      says.history ∙ grows.longer ∙ ap (λ (l : List Entry). l ++ grows.more) H in
-      let counted = says.recorded in
-      let few : length (mid.history ++ grows.more) ≤ length mid.history =
-      omega (arith, ap length (sym whole), ap length H, counted, zero) in
-      subst P (sym (untouched (whole ∙ more-none mid.history grows.more few))) held
-  disk-repaired asks (Err (fault.Refused cause)) says untouched P held zero = tt
-  disk-repaired asks (Err (fault.StoreFault before after)) says untouched P held zero = tt
-  disk-repaired asks (Err fault.Memory) says untouched P held zero = tt
+    -- a call that recorded nothing leaves the disk as its repair left it
+    pub disk-repaired : Settles asks Given result mid new
+        → (new.history ≡ mid.history → OnOk result (new.disk ≡ mid.disk))
+        → (P : D → Type 0) → P mid.disk → new.recorded ≡ 0 → OnOk result (P new.disk)
+    disk-repaired = by result
+      where
+        by : (r : Result T JournalFault) → Settles asks Given r mid new
+            → (new.history ≡ mid.history → OnOk r (new.disk ≡ mid.disk)) → (P : D → Type 0) → P mid.disk
+            → new.recorded ≡ 0 → OnOk r (P new.disk)
+        by (Ok given) says untouched P held zero =
+            let H : says.repaired ≡ mid.history = repaired-idle mid says.repaired none says.found in
+            let grows = history_after-grows says.repaired asks in
+            let whole : new.history ≡ mid.history ++ grows.more =
+            says.history ∙ grows.longer ∙ ap (λ (l : List Entry). l ++ grows.more) H in
+            let counted = says.recorded in
+            let few : length (mid.history ++ grows.more) ≤ length mid.history =
+            omega (arith, ap length (sym whole), ap length H, counted, zero) in
+            subst P (sym (untouched (whole ∙ more-none mid.history grows.more few))) held
+        by (Err f) says untouched P held zero = tt
 
-  -- the version that is read after a call by which the history has grown
-  pub newer-on : (told : D → DiskState) (asks : List Ask) (result : Result (List Answer) CallFault)
-      → BatchSays asks result mid new → (new.history ≡ mid.history → OnOk result (new.disk ≡ mid.disk))
-      → (length old.history < length mid.history → version_of (told mid.disk).bytes ≡ 2)
-      → (length mid.history < length new.history → OnOk result (version_of (told new.disk).bytes ≡ 2))
-      → length old.history < length new.history → OnOk result (version_of (told new.disk).bytes ≡ 2)
-  newer-on told asks result says untouched before after more = ⊎_elim
-      (λ (grown : length mid.history < length new.history). after grown)
-      (λ (still : length new.history ≤ length mid.history).
-      let longer = says-longer asks result mid new says in
-      let few : length (mid.history ++ longer.0) ≤ length mid.history =
-      omega (arith, ap length (sym longer.1), still) in
-      let same : new.history ≡ mid.history = longer.1 ∙ more-none mid.history longer.0 few in
-      on_ok-weaker result (new.disk ≡ mid.disk) (version_of (told new.disk).bytes ≡ 2)
-      (λ is. subst (λ (d : D). version_of (told d).bytes ≡ 2) (sym is)
-      (before (omega (arith, more, still))))
-      (untouched same))
-      (cases_lt (length mid.history) (length new.history))
+    -- the version that is read after a call by which the history has grown
+    pub newer-on : (told : D → DiskState) → Settles asks Given result mid new
+        → (new.history ≡ mid.history → OnOk result (new.disk ≡ mid.disk))
+        → (length old.history < length mid.history → version_of (told mid.disk).bytes ≡ 2)
+        → (length mid.history < length new.history → OnOk result (version_of (told new.disk).bytes ≡ 2))
+        → length old.history < length new.history → OnOk result (version_of (told new.disk).bytes ≡ 2)
+    newer-on told says untouched before after more = ⊎_elim
+        (λ (grown : length mid.history < length new.history). after grown)
+        (λ (still : length new.history ≤ length mid.history).
+        let longer = says-longer asks Given result mid new says in
+        let few : length (mid.history ++ longer.0) ≤ length mid.history =
+        omega (arith, ap length (sym longer.1), still) in
+        let same : new.history ≡ mid.history = longer.1 ∙ more-none mid.history longer.0 few in
+        on_ok-weaker result (new.disk ≡ mid.disk) (version_of (told new.disk).bytes ≡ 2)
+        (λ is. subst (λ (d : D). version_of (told d).bytes ≡ 2) (sym is)
+        (before (omega (arith, more, still))))
+        (untouched same))
+        (cases_lt (length mid.history) (length new.history))
+
+    -- a call behind a repair that had nothing to do leaves the disk where it leaves the history
+    pub untouched-on : (new.history ≡ mid.history → OnOk result (new.disk ≡ mid.disk))
+        → (old.pending ≡ [] → mid.disk ≡ old.disk) → old.pending ≡ [] → new.history ≡ old.history
+        → OnOk result (new.disk ≡ old.disk)
+    untouched-on untouched idle rests same =
+        let before : mid.history ≡ old.history = repaired-idle old mid.history rests repaired in
+        on_ok-weaker result (new.disk ≡ mid.disk) (new.disk ≡ old.disk) (λ is. is ∙ idle rests)
+        (untouched (same ∙ sym before))
 
   left-repaired : (c : List ℕ) → StandsFor mid.history c → IsLeft old new c
   left-repaired c stands = ⊎_elim
@@ -194,13 +207,6 @@ module _ {D : Type 0} (old mid new : StoreState D) (none : mid.pending ≡ [])
   leaves-on a b d one two = leaves_only-trans a b d (IsLeft old new)
       (leaves_only-weaker a b (IsWithOrWithout old.history old.pending) (IsLeft old new) (λ c before. inl before) one)
       (leaves_only-weaker b d (IsLeft mid new) (IsLeft old new) left-on two)
-
--- what a repair that failed came to
-pub says-unrepaired : {D : Type 0} (old new : StoreState D) (asks : List Ask) (f : CallFault) → IsUnrepairedBy f old new
-    → BatchSays asks (Err f) old new
-says-unrepaired old new asks (fault.Refused cause) failed = failed
-says-unrepaired old new asks (fault.StoreFault before after) failed = inl failed
-says-unrepaired old new asks fault.Memory failed = absurd failed
 
 -- the view of a store, by whether something is pending
 pub undecided-none : (pending : Option (List ℕ)) (ready : List Entry) → pending ≡ None → undecided pending ready ≡ []

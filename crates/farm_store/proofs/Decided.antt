@@ -1,6 +1,6 @@
 -- What deciding asks came to, from what storing their new entries came to.
 use Rattle.std.proofs.Common.{◌≡◌, ◌≢◌, ◌⊎◌, inl, inr, ⊎_elim, ℕ, ◌+◌, ◌-◌, ◌≤◌, ◌<◌, Bool, true, List, [], ◌∷◌, ◌++◌, length, take, drop, Option, Some, None, refl, sym, ◌∙◌, ap, subst, arith}
-use Rattle.std.specs.Prelude.{Ok, Err, OnOk}
+use Rattle.std.specs.Prelude.{Ok, Err}
 use Rattle.std.proofs.lemmas.List.{append-nil, length-append, take_at, drop_at}
 use Rattle.std.proofs.lemmas.Option.{none-some}
 use Rattle.farm_disk.specs.Images.{DiskState, LeavesOnly}
@@ -14,22 +14,19 @@ use Rattle.farm_entry.specs.declared.command.Command.{Command}
 use Rattle.farm_entry.specs.declared.decision.Decision.{Decision}
 use Rattle.farm_entry.specs.declared.decision.Decision.TheVariants as decision
 use Rattle.farm_entry.specs.declared.entry.Entry.{Entry}
-use Rattle.farm_entry.specs.declared.refusal.Refusal.{Refusal}
+use Rattle.farm_journal.specs.Faults.{OnMemory, OnStoreFault}
 use Rattle.farm_journal.specs.Layout.{version_of}
 use Rattle.farm_journal.specs.State.{JournalState}
+use Rattle.farm_journal.specs.declared.fault.JournalFault.{JournalFault}
+use Rattle.farm_journal.specs.declared.fault.JournalFault.TheVariants as fault
 use Rattle.farm_laws.proofs.Induct.{IsLegal-push}
 use Rattle.farm_laws.proofs.Recorded.{recorded}
-use Rattle.farm_store.specs.Answering.{AreAnswers, BatchSays, IsAnswer, IsAnswered, as_batch, history_after}
+use Rattle.farm_store.specs.Answering.{Settles, history_after}
 use Rattle.farm_store.specs.Bytes.{StandsFor}
-use Rattle.farm_store.specs.Faults.{IsOfStore, OnCallFault, OnCallMemory}
 use Rattle.farm_store.specs.Recorded.{LeavesNew}
 use Rattle.farm_store.specs.State.{StoreState, IsLeft, IsWithOrWithout}
 use Rattle.farm_store.specs.StoreInside.{IsAhead, IsStore, Keeps, store_view, undecided}
-use Rattle.farm_store.specs.declared.asking.Answer.{Answer}
-use Rattle.farm_store.specs.declared.asking.Answer.TheVariants as answer
 use Rattle.farm_store.specs.declared.asking.Ask.{Ask}
-use Rattle.farm_store.specs.declared.asking.CallFault.{CallFault}
-use Rattle.farm_store.specs.declared.asking.CallFault.TheVariants as fault
 use Rattle.farm_store.specs.Sizes.{entries_size}
 use Rattle.farm_store.specs.declared.asking.TheConstants.{MAX_RECORD_BYTES}
 use Rattle.farm_store.proofs.Calls.{Grows, history_after-grows, undecided-none, undecided-some}
@@ -54,25 +51,6 @@ history_after-legal H (ask ∷ asks) legal =
 pub grows-by : (H K : List Entry) (asks : List Ask) → K ≡ history_after H asks → Grows H K (length asks)
 grows-by H K asks is = subst (λ (l : List Entry). Grows H l (length asks)) (sym is) (history_after-grows H asks)
 
--- a refusal adds nothing
-pub refused-after : (H : List Entry) (d : Decision) (x : Refusal) → IsAnswer H d (answer.Refused x) → after H d ≡ H
-refused-after H (decision.Refuse cause) x is = refl
-refused-after H (decision.Repeat place) x is = absurd is
-refused-after H (decision.Show page) x is = absurd is
-refused-after H (decision.New e) x is = absurd is
-
--- a fault of the store is the same of one ask and of a list of one
-pub one-missed : {D : Type 0} (asks : List Ask) (f : CallFault) (old new : StoreState D) → IsOfStore f
-    → BatchSays asks (Err f) old new → BatchSays asks (as_batch (Err f)) old new
-one-missed asks (fault.Refused cause) old new of says = absurd of
-one-missed asks (fault.StoreFault before after) old new of says = says
-one-missed asks fault.Memory old new of says = says
-
-pub one-untouched : (f : CallFault) (P : Type 0) → IsOfStore f → OnOk (as_batch (Err f)) P
-one-untouched (fault.Refused cause) P of = absurd of
-one-untouched (fault.StoreFault before after) P of = tt
-one-untouched fault.Memory P of = tt
-
 module _ {D : Type 0} (tells : D → Bool) (told : D → DiskState) (farm : FarmView) (journal : JournalState D)
     (store : IsStore tells told farm journal) (count : ℕ) (s : StoreState D)
     (view : store_view farm journal count ≡ s) (decided : s.pending ≡ []) where
@@ -96,34 +74,12 @@ module _ {D : Type 0} (tells : D → Bool) (told : D → DiskState) (farm : Farm
     waits = λ p waits t. absurd (none-some p (sym idle ∙ waits));
   }
 
-  -- nothing was added
-  pub not-grown : (farm' : FarmView) → farm'.history ≡ farm.history → length s.history < length farm'.history → ⊥
-  not-grown farm' same more = omega (arith, ap length same, ap length same-history, more)
-
   -- nothing was done on the disk
   pub leaves-still : (new : StoreState D) → tells s.disk ≡ true
       → LeavesOnly (told s.disk) (told journal.disk) (IsLeft s new)
   leaves-still new t = leaves_only-weaker (told s.disk) (told journal.disk) (IsWithOrWithout s.history s.pending)
       (IsLeft s new) (λ c before. inl before)
       (leaves-idle-view tells told farm journal store count s view t)
-
-  -- a refusal records nothing
-  pub says-refused : (farm' : FarmView) (q : Command) (m : Moment) (x : Refusal)
-      → IsAnswer farm.history (decide farm.history q m) (answer.Refused x)
-      → farm'.history ≡ after farm.history (decide farm.history q m) → count ≡ 0
-      → IsAnswered (record { command = q; at = m } ∷ []) (answer.Refused x ∷ []) s (store_view farm' journal count)
-  says-refused farm' q m x answered history zero =
-      let same : farm'.history ≡ farm.history =
-      history ∙ refused-after farm.history (decide farm.history q m) x answered in
-      let long = ap length same in
-      record {
-        repaired = farm.history;
-        found = inl same-history;
-        answers = (answered, tt);
-        history = history;
-        recorded = omega (arith, long, zero);
-        decided = undecided-none journal.pending farm'.ready idle;
-      }
 
   module _ (farm' : FarmView) (most : ℕ) (grows : Grows farm.history farm'.history most) where
     front : take (length farm.history) farm'.history ≡ farm.history
@@ -163,10 +119,11 @@ module _ {D : Type 0} (tells : D → Bool) (told : D → DiskState) (farm : Farm
       pub counted : farm''.history ≡ farm'.history → start ≤ length farm''.history
       counted same = let both = ap length same in omega (arith, both, long, is)
 
-      pub says-stored : (asks : List Ask) (answers : List Answer) → farm'.history ≡ history_after farm.history asks
-          → AreAnswers farm.history asks answers → farm''.history ≡ farm'.history → journal''.pending ≡ None
-          → BatchSays asks (Ok answers) s (store_view farm'' journal'' (length farm''.history - start))
-      says-stored asks answers history right same none =
+      pub says-stored : {T : Type 0} (asks : List Ask) (Given : T → List Entry → Type 0) (given : T)
+          → farm'.history ≡ history_after farm.history asks → Given given farm.history
+          → farm''.history ≡ farm'.history → journal''.pending ≡ None
+          → Settles asks Given (Ok given) s (store_view farm'' journal'' (length farm''.history - start))
+      says-stored asks Given given history right same none =
           let both = ap length same in
           let low = counted same in
           record {
@@ -235,16 +192,15 @@ module _ {D : Type 0} (tells : D → Bool) (told : D → DiskState) (farm : Farm
           (subst (λ (d : D). tells d ≡ true) (sym (ap (λ (x : StoreState D). x.disk) view)) t)
 
       -- it was not
-      pub says-missed : (asks : List Ask) (f : CallFault) → IsOfStore f → count ≡ 0
+      pub says-missed : {T : Type 0} (asks : List Ask) (Given : T → List Entry → Type 0) (f : JournalFault) → count ≡ 0
           → farm'.history ≡ history_after farm.history asks
           → farm''.history ≡ take start farm'.history
-          → OnCallFault {T = Unit {0}} (Err f) (farm''.ready ≡ drop start farm'.history)
-          → OnCallFault {T = Unit {0}} (Err f) (journal''.pending ≢ None)
-          → OnCallMemory {T = Unit {0}} (Err f) (journal''.pending ≡ None)
+          → OnStoreFault {T = Unit {0}} (Err f) (farm''.ready ≡ drop start farm'.history)
+          → OnStoreFault {T = Unit {0}} (Err f) (journal''.pending ≢ None)
+          → OnMemory {T = Unit {0}} (Err f) (journal''.pending ≡ None)
           → IsStore tells told farm'' journal''
-          → BatchSays asks (Err f) s (store_view farm'' journal'' count)
-      says-missed asks (fault.Refused cause) of zero history back ready pending memory kept = absurd of
-      says-missed asks (fault.StoreFault before after) of zero history back ready pending memory kept =
+          → Settles asks Given (Err f) s (store_view farm'' journal'' count)
+      says-missed asks Given (fault.StoreFault before after) zero history back ready pending memory kept =
           let shown = undecided-some journal''.pending farm''.ready pending in
           let H : farm''.history ≡ farm.history = back ∙ front-at start is in
           let some : farm''.ready ≢ [] = some-by journal''.pending refl in
@@ -262,27 +218,27 @@ module _ {D : Type 0} (tells : D → Bool) (told : D → DiskState) (farm : Farm
           some-by : (o : Option (List ℕ)) → journal''.pending ≡ o → farm''.ready ≢ []
           some-by None is' = absurd (pending is')
           some-by (Some p) is' = (kept.undecided p is').some
-      says-missed asks fault.Memory of zero history back ready pending memory kept = record {
+      says-missed asks Given fault.Memory zero history back ready pending memory kept = record {
         found = inl (back ∙ front-at start is ∙ same-history);
         decided = undecided-none journal''.pending farm''.ready memory;
         none = zero;
       }
 
-      pub leaves-missed : (f : CallFault) → IsOfStore f
+      pub leaves-missed : (f : JournalFault)
           → farm''.history ≡ take start farm'.history
-          → OnCallFault {T = Unit {0}} (Err f) (farm''.ready ≡ drop start farm'.history)
-          → OnCallFault {T = Unit {0}} (Err f) (journal''.pending ≢ None)
+          → OnStoreFault {T = Unit {0}} (Err f) (farm''.ready ≡ drop start farm'.history)
+          → OnStoreFault {T = Unit {0}} (Err f) (journal''.pending ≢ None)
           → (tells journal.disk ≡ true → LeavesOnly (told journal.disk) (told journal''.disk)
           (LeavesNew (take start farm'.history) (drop start farm'.history) (Err f)))
           → tells s.disk ≡ true → LeavesOnly (told s.disk) (told journal''.disk)
           (IsLeft s (store_view farm'' journal'' count))
-      leaves-missed f of back ready pending leaves =
+      leaves-missed f back ready pending leaves =
           subst (λ (d : D). tells d ≡ true → LeavesOnly (told d) (told journal''.disk)
           (IsLeft s (store_view farm'' journal'' count))) (ap (λ (x : StoreState D). x.disk) view)
           (λ t. leaves_only-weaker (told journal.disk) (told journal''.disk)
           (LeavesNew (take start farm'.history) (drop start farm'.history) (Err f))
           (IsLeft s (store_view farm'' journal'' count))
-          (λ c one. left-missed f of ready pending c one)
+          (λ c one. left-missed f ready pending c one)
           (leaves t))
         where
           left-old : (c : List ℕ) → StandsFor (take start farm'.history) c
@@ -290,13 +246,12 @@ module _ {D : Type 0} (tells : D → Bool) (told : D → DiskState) (farm : Farm
           left-old c old =
               inl (inl (subst (λ (l : List Entry). StandsFor l c) (front-at start is ∙ same-history) old))
 
-          left-missed : (f : CallFault) → IsOfStore f
-              → OnCallFault {T = Unit {0}} (Err f) (farm''.ready ≡ drop start farm'.history)
-              → OnCallFault {T = Unit {0}} (Err f) (journal''.pending ≢ None) → (c : List ℕ)
+          left-missed : (f : JournalFault)
+              → OnStoreFault {T = Unit {0}} (Err f) (farm''.ready ≡ drop start farm'.history)
+              → OnStoreFault {T = Unit {0}} (Err f) (journal''.pending ≢ None) → (c : List ℕ)
               → LeavesNew (take start farm'.history) (drop start farm'.history) (Err f) c
               → IsLeft s (store_view farm'' journal'' count) c
-          left-missed (fault.Refused cause) of' ready' pending' c one = absurd of'
-          left-missed (fault.StoreFault before after) of' ready' pending' c one = ⊎_elim
+          left-missed (fault.StoreFault before after) ready' pending' c one = ⊎_elim
               (λ (old : StandsFor (take start farm'.history) c). left-old c old)
               (λ (new : StandsFor (take start farm'.history ++ drop start farm'.history) c).
               inr (subst (λ (l : List Entry). StandsFor l c)
@@ -304,4 +259,4 @@ module _ {D : Type 0} (tells : D → Bool) (told : D → DiskState) (farm : Farm
               ∙ ap (λ (l : List Entry). farm''.history ++ l)
               (sym ready' ∙ sym (undecided-some journal''.pending farm''.ready pending'))) new))
               one
-          left-missed fault.Memory of' ready' pending' c one = left-old c one
+          left-missed fault.Memory ready' pending' c one = left-old c one

@@ -1,14 +1,17 @@
 -- Payloads that go on with a history, one after the other.
 use Rattle.std.proofs.Common.{Bool, true, false, true≢false, ◌≡◌, ◌≢◌, inl, inr, ℕ, ◌+◌, ◌*◌, ◌≤◌, ◌<◌, List, [], ◌∷◌, ◌++◌, length, take, drop, get_or, All, refl, sym, ◌∙◌, ap, subst, arith}
-use Rattle.std.specs.Prelude.{◌==◌, IfErr, IfOk, Result, Ok, Err, reverse, remove}
+use Rattle.std.specs.Prelude.{◌==◌, IfErr, IfOk, Result, Ok, Err, remove}
 use Rattle.std.proofs.lemmas.Bool.Decides.{nat_tests}
-use Rattle.std.proofs.lemmas.List.{append-nil, append_assoc, length-append, reverse-append, take-append-drop, take_all, take_more, drop_more}
+use Rattle.std.proofs.lemmas.List.{append_assoc, length-append, take-append-drop, take_all, take_more, drop_more}
 use Rattle.std.proofs.lemmas.List.Elements.{All-get_or}
 use Rattle.entry_codec.specs.Grammar.{AreSpelled}
 use Rattle.entry_codec.specs.Spelling.{spelling}
 use Rattle.entry_codec.specs.declared.limits.TheConstants.{MAX_ENTRY_BYTES}
 use Rattle.entry_codec.proofs.ListLaws.{spelling-injective}
+use Rattle.farm_core.specs.FarmFaults.{IsHalted, IsUnfit}
 use Rattle.farm_core.specs.FarmView.{FarmView}
+use Rattle.farm_core.specs.declared.farm.AdmitFault.{AdmitFault}
+use Rattle.farm_core.specs.declared.farm.AdmitFault.TheVariants.{Illegal, Memory}
 use Rattle.farm_entry.specs.Legal.{IsLegal}
 use Rattle.farm_journal.specs.declared.fault.OpeningFault.{OpeningFault}
 use Rattle.farm_entry.specs.declared.entry.Entry.{Entry}
@@ -18,16 +21,14 @@ use Rattle.farm_laws.proofs.Induct.{IsLegal-first}
 use Rattle.farm_journal.specs.Layout.{gate_of, IsPayload}
 use Rattle.farm_journal.specs.declared.layout.TheConstants.{FIRST_GATE}
 use Rattle.farm_journal.proofs.Scan.{gate_of-push}
-use Rattle.farm_store.specs.Admitted.{GoesOn, IsMisfit, IsMissed, IsNotLegal}
+use Rattle.farm_store.specs.Admitted.{GoesOn, IsMisfit, IsMissed}
 use Rattle.farm_store.specs.Damage.{IsUnfitAt}
 use Rattle.farm_store.specs.StoreInside.{Keeps}
-use Rattle.farm_store.specs.declared.admitting.Misfit.{Misfit}
-use Rattle.farm_store.specs.declared.admitting.Misfit.TheVariants.{Unfit, Memory}
 use Rattle.farm_store.proofs.Spellings.{keeps-first, keeps-push, spelling-nonempty, spells-none}
 
 -- what a payload spells may not come next
 pub misfit-part : (payload : List ℕ) (H entries : List Entry) → AreSpelled entries → payload ≡ spelling entries
-    → (IsLegal (H ++ entries) → ⊥) → IsMisfit payload H Unfit
+    → (IsLegal (H ++ entries) → ⊥) → IsMisfit payload H Illegal
 misfit-part payload H entries own own_is none = λ part spelled is legal.
     none (subst (λ (l : List Entry). IsLegal (H ++ l)) (spelling-injective part entries spelled own (sym is ∙ own_is))
     legal)
@@ -55,7 +56,7 @@ keeps-begun p K fits on =
     (subst IsLegal on.whole on.legal))
 
 -- the first record doesn't fit
-pub unfit-first : (p : List ℕ) (later : List (List ℕ)) (o : ℕ) → o ≡ FIRST_GATE → IsMisfit p [] Unfit
+pub unfit-first : (p : List ℕ) (later : List (List ℕ)) (o : ℕ) → o ≡ FIRST_GATE → IsMisfit p [] Illegal
     → IsUnfitAt (p ∷ later) o
 unfit-first p later o at misfit = record {
   before = [];
@@ -71,7 +72,7 @@ unfit-first p later o at misfit = record {
 
 -- a later one doesn't
 pub unfit-later : (before : List (List ℕ)) (p : List ℕ) (later : List (List ℕ)) (H : List Entry) (o : ℕ)
-    → Keeps before H → o ≡ gate_of before → IsMisfit p H Unfit → IsUnfitAt (before ++ p ∷ later) o
+    → Keeps before H → o ≡ gate_of before → IsMisfit p H Illegal → IsUnfitAt (before ++ p ∷ later) o
 unfit-later before p later H o keeps at misfit = record {
   before = before;
   payload = p;
@@ -96,13 +97,6 @@ gate-small before H gate keeps at =
 pub record Grown (before done : List (List ℕ)) (H : List Entry) (gate : ℕ) : Type 0 where
   pub keeps : Keeps (before ++ done) H
   pub at : gate ≡ gate_of (before ++ done)
-
-pub grown-start : (before : List (List ℕ)) (H : List Entry) (gate : ℕ) → Keeps before H → gate ≡ gate_of before
-    → Grown before [] H gate
-grown-start before H gate keeps at = record {
-  keeps = subst (λ (l : List (List ℕ)). Keeps l H) (sym (append-nil before)) keeps;
-  at = at ∙ ap gate_of (sym (append-nil before));
-}
 
 -- one payload more
 module _ (before payloads : List (List ℕ)) (i : ℕ) (H : List Entry) (gate : ℕ) (p : List ℕ)
@@ -136,30 +130,9 @@ module _ (before payloads : List (List ℕ)) (i : ℕ) (H : List Entry) (gate : 
       fits-at : All IsPayload payloads → IsPayload p
       fits-at fit' = subst IsPayload (sym is) (All-get_or IsPayload payloads i p within fit')
 
-  pub grown-unfit : (o : ℕ) → o ≡ gate → IsMisfit p H Unfit → IsUnfitAt (before ++ payloads) o
+  pub grown-unfit : (o : ℕ) → o ≡ gate → IsMisfit p H Illegal → IsUnfitAt (before ++ payloads) o
   grown-unfit o at misfit = subst (λ (l : List (List ℕ)). IsUnfitAt l o) (sym all-split)
       (unfit-later (before ++ take i payloads) p (drop (i + 1) payloads) H o grown.keeps (at ∙ grown.at) misfit)
-
--- the entries left of a list of which the last stands first
-pub rest-more : (now last : List Entry) (e : Entry) (rest left whole : List Entry) → rest ≡ left ++ e ∷ []
-    → last ≡ now ++ e ∷ [] → now ++ reverse rest ≡ whole → last ++ reverse left ≡ whole
-rest-more now last e rest left whole split then before =
-    ap (λ (l : List Entry). l ++ reverse left) then
-    ∙ append_assoc now (e ∷ []) (reverse left)
-    ∙ ap (λ (l : List Entry). now ++ l) (sym (reverse-append left (e ∷ [])))
-    ∙ ap (λ (l : List Entry). now ++ reverse l) (sym split)
-    ∙ before
-
--- one that may not come next
-pub rest-illegal : (now H E : List Entry) (e : Entry) (rest left : List Entry) → rest ≡ left ++ e ∷ []
-    → (IsLegal (now ++ e ∷ []) → ⊥) → now ++ reverse rest ≡ H ++ E → (more : List Entry)
-    → IsLegal (H ++ E ++ more) → ⊥
-rest-illegal now H E e rest left split none before more legal =
-    let all : (H ++ E) ++ more ≡ now ++ e ∷ (reverse left ++ more) =
-    ap (λ (l : List Entry). l ++ more) (sym before)
-    ∙ append_assoc now (reverse rest) more
-    ∙ ap (λ (l : List Entry). now ++ (l ++ more)) (ap reverse split ∙ reverse-append left (e ∷ [])) in
-    illegal-front now (reverse left ++ more) e none (subst IsLegal all legal)
 
 -- the first of some entries, and those behind it
 pub removed-first : (xs : List Entry) (x : Entry) → 0 < length xs → x ≡ get_or xs 0 x → xs ≡ x ∷ remove xs 0
@@ -168,14 +141,14 @@ removed-first (y ∷ ys) x some is = ap (λ (z : Entry). z ∷ ys) (sym is)
 
 -- a payload of no entries begins no history
 pub misfit-empty : (payload : List ℕ) (entries : List Entry) → AreSpelled entries → payload ≡ spelling entries
-    → entries ≡ [] → IsMisfit payload [] Unfit
+    → entries ≡ [] → IsMisfit payload [] Illegal
 misfit-empty payload entries own is none = misfit-part payload [] entries own is (λ legal. subst IsLegal none legal)
 
 -- nor does one whose first entry is no founding
-pub misfit-first : (payload : List ℕ) (entries rest : List Entry) (e : Entry) (m : Misfit) → AreSpelled entries
-    → payload ≡ spelling entries → entries ≡ e ∷ rest → IsNotLegal (λ more. e ∷ more) m → IsMisfit payload [] m
-misfit-first payload entries rest e Unfit own is split none =
-    misfit-part payload [] entries own is (λ legal. none rest (subst IsLegal split legal))
+pub misfit-first : (payload : List ℕ) (entries rest : List Entry) (e : Entry) (m : AdmitFault) → AreSpelled entries
+    → payload ≡ spelling entries → entries ≡ e ∷ rest → IsUnfit [] e m → IsMisfit payload [] m
+misfit-first payload entries rest e Illegal own is split none = misfit-part payload [] entries own is
+    (λ legal. illegal-front [] rest e none (subst IsLegal split legal))
 misfit-first payload entries rest e Memory own is split none = tt
 
 -- a payload whose first entry founds a farm that the others go on with
@@ -196,25 +169,32 @@ pub grown-all : (before payloads : List (List ℕ)) (i : ℕ) (H : List Entry) (
 grown-all before payloads i H gate grown past =
     subst (λ (l : List (List ℕ)). Keeps (before ++ l) H) (take_all i payloads past) grown.keeps
 
+-- entries of which one may not come next make no legal history
+halted-illegal : (H entries K : List Entry) → IsHalted H entries K Illegal → IsLegal (H ++ entries) → ⊥
+halted-illegal H entries K halted legal = illegal-front K halted.behind halted.entry halted.unfit
+    (subst IsLegal
+    (ap (λ (l : List Entry). H ++ l) halted.split
+    ∙ sym (append_assoc H halted.before (halted.entry ∷ halted.behind))
+    ∙ ap (λ (l : List Entry). l ++ halted.entry ∷ halted.behind) (sym halted.added)) legal)
+
 -- a payload whose entries may not come next
-pub misfit-on : (payload : List ℕ) (H entries : List Entry) (m : Misfit) → AreSpelled entries
-    → payload ≡ spelling entries → IsNotLegal (λ more. H ++ entries ++ more) m → IsMisfit payload H m
-misfit-on payload H entries Unfit own is none =
-    misfit-part payload H entries own is (λ legal. none [] (subst IsLegal (sym (append-nil (H ++ entries))) legal))
-misfit-on payload H entries Memory own is none = tt
+misfit-on : (payload : List ℕ) (H entries K : List Entry) (m : AdmitFault) → AreSpelled entries
+    → payload ≡ spelling entries → IsHalted H entries K m → IsMisfit payload H m
+misfit-on payload H entries K Illegal own is halted =
+    misfit-part payload H entries own is (halted-illegal H entries K halted)
+misfit-on payload H entries K Memory own is halted = tt
 
-pub misfit-rest : (payload : List ℕ) (entries rest H : List Entry) (e : Entry) (m : Misfit) → AreSpelled entries
-    → payload ≡ spelling entries → entries ≡ e ∷ rest → H ≡ e ∷ [] → IsNotLegal (λ more. H ++ rest ++ more) m
-    → IsMisfit payload [] m
-misfit-rest payload entries rest H e Unfit own is split begun none =
-    misfit-part payload [] entries own is (λ legal. none [] (subst IsLegal
-    (split ∙ ap (λ (l : List Entry). l ++ rest) (sym begun) ∙ sym (append-nil (H ++ rest))) legal))
-misfit-rest payload entries rest H e Memory own is split begun none = tt
+pub misfit-rest : (payload : List ℕ) (entries rest H K : List Entry) (e : Entry) (m : AdmitFault) → AreSpelled entries
+    → payload ≡ spelling entries → entries ≡ e ∷ rest → H ≡ e ∷ [] → IsHalted H rest K m → IsMisfit payload [] m
+misfit-rest payload entries rest H K e Illegal own is split begun halted =
+    misfit-part payload [] entries own is (λ legal. halted-illegal H rest K halted (subst IsLegal
+    (split ∙ ap (λ (l : List Entry). l ++ rest) (sym begun)) legal))
+misfit-rest payload entries rest H K e Memory own is split begun halted = tt
 
-pub if-misfit : (payload : List ℕ) (H entries : List Entry) (r : Result (Unit {0}) Misfit) → AreSpelled entries
-    → payload ≡ spelling entries → IfErr r (IsNotLegal (λ more. H ++ entries ++ more)) → IfErr r (IsMisfit payload H)
-if-misfit payload H entries (Ok done) own is none = tt
-if-misfit payload H entries (Err m) own is none = misfit-on payload H entries m own is none
+pub if-misfit : (payload : List ℕ) (H entries K : List Entry) (r : Result (Unit {0}) AdmitFault) → AreSpelled entries
+    → payload ≡ spelling entries → IfErr r (IsHalted H entries K) → IfErr r (IsMisfit payload H)
+if-misfit payload H entries K (Ok done) own is halted = tt
+if-misfit payload H entries K (Err m) own is halted = misfit-on payload H entries K m own is halted
 
 -- what further payloads came to, of all of them
 pub if-grown : (ps qs : List (List ℕ)) (r : Result FarmView OpeningFault) → ps ≡ qs

@@ -2,10 +2,12 @@ pub mod Ahead
 pub mod Batches
 pub mod Calls
 pub mod Decided
+pub mod Adding
 pub mod Entered
 pub mod Excluded
 pub mod Foundings
 pub mod GoingOn
+pub mod Missed
 pub mod Repairs
 pub mod Sizes
 pub mod Spellings

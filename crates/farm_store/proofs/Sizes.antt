@@ -255,9 +255,9 @@ pub asks-fit : (H K : List Entry) (asks : List Ask) → K ≡ history_after H as
 asks-fit H K asks is fits = subst (λ (l : List Entry). entries_size l ≤ entries_size H + MAX_RECORD_BYTES) (sym is)
     (omega (arith, history_after-takes H asks, fits))
 
-pub batch-fits : (H K : List Entry) (asks : List Ask) → K ≡ history_after H asks → length asks ≤ MAX_BATCH
-    → entries_size K ≤ entries_size H + MAX_RECORD_BYTES
-batch-fits H K asks is few = asks-fit H K asks is (omega (arith, asks_size-most asks, few))
+-- a batch is one that is sure to fit a record
+pub batch-size : (asks : List Ask) → length asks ≤ MAX_BATCH → asks_size asks ≤ MAX_RECORD_BYTES
+batch-size asks few = let most = asks_size-most asks in omega (arith, few, most)
 
 -- and what stands behind what was there takes no more
 pub rest-fits : (H more K : List Entry) (most : ℕ) → K ≡ H ++ more → entries_size K ≤ entries_size H + most

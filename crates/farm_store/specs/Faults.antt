@@ -1,6 +1,8 @@
 -- Why a call on a store was not answered.
 use Rattle.std.specs.Prelude.{◌≡◌, ℕ, Result, Ok, Err, ⊤}
 use Rattle.fault_types.specs.Counts.{Rose}
+use Rattle.farm_journal.specs.declared.fault.JournalFault.{JournalFault}
+use Rattle.farm_journal.specs.declared.fault.JournalFault.TheVariants as journal
 use Rattle.farm_store.specs.declared.asking.CallFault.{CallFault}
 use Rattle.farm_store.specs.declared.asking.CallFault.TheVariants.{Refused, StoreFault, Memory}
 
@@ -11,32 +13,12 @@ HasCallCause (Err (Refused cause)) first last = ⊤
 HasCallCause (Err (StoreFault before after)) first last = (before ≡ first) × (after ≡ last) × Rose first last
 HasCallCause (Err Memory) first last = ⊤
 
--- the same where the count before is one from earlier on
-abbrev pub HasCountFrom : {T : Type 0} → ℕ → Result T CallFault → ℕ → ℕ → Type 0
+-- the same of a fault of the journal, where the count before is one from earlier on
+abbrev pub HasCountFrom : {T : Type 0} → ℕ → Result T JournalFault → ℕ → ℕ → Type 0
 HasCountFrom start (Ok answered) first last = ⊤
-HasCountFrom start (Err (Refused cause)) first last = ⊤
-HasCountFrom start (Err (StoreFault before after)) first last = (before ≡ start) × (after ≡ last) × Rose first last
-HasCountFrom start (Err Memory) first last = ⊤
-
--- what holds where the disk failed
-abbrev pub OnCallFault : {T : Type 0} → Result T CallFault → Type 0 → Type 0
-OnCallFault (Ok answered) P = ⊤
-OnCallFault (Err (Refused cause)) P = ⊤
-OnCallFault (Err (StoreFault before after)) P = P
-OnCallFault (Err Memory) P = ⊤
-
--- what holds where memory ran out
-abbrev pub OnCallMemory : {T : Type 0} → Result T CallFault → Type 0 → Type 0
-OnCallMemory (Ok answered) P = ⊤
-OnCallMemory (Err (Refused cause)) P = ⊤
-OnCallMemory (Err (StoreFault before after)) P = ⊤
-OnCallMemory (Err Memory) P = P
-
--- the fault is none of the farm's
-abbrev pub IsOfStore : CallFault → Type 0
-IsOfStore (Refused cause) = ⊥
-IsOfStore (StoreFault before after) = ⊤
-IsOfStore Memory = ⊤
+HasCountFrom start (Err (journal.StoreFault before after)) first last =
+    (before ≡ start) × (after ≡ last) × Rose first last
+HasCountFrom start (Err journal.Memory) first last = ⊤
 
 -- what holds where the call was answered; a refusal is an answer
 abbrev pub OnAnswered : {T : Type 0} → Result T CallFault → Type 0 → Type 0

@@ -5,6 +5,7 @@ pub mod Damage
 pub mod Entering
 pub mod Faults
 pub mod Founded
+pub mod Keeping
 pub mod Opened
 pub mod Recorded
 pub mod Sizes

@@ -3,13 +3,13 @@ use Rattle.std.specs.Prelude.{◌≡◌, ◌≢◌, ◌<◌, ◌⊎◌, Bool, tr
 use Rattle.farm_disk.specs.Images.{DiskState, LeavesOnly}
 use Rattle.farm_journal.specs.Layout.{gate_of, holds, opens}
 use Rattle.farm_journal.specs.State.{JournalState, IsBeforeOrAfter, IsHeld, IsPending}
+use Rattle.farm_journal.specs.declared.fault.JournalFault.{JournalFault}
+use Rattle.farm_journal.specs.declared.fault.JournalFault.TheVariants as fault
 use Rattle.farm_journal.specs.declared.layout.TheConstants.{GATE_LIMIT}
 use Rattle.entry_codec.specs.Grammar.{AreSpelled}
 use Rattle.entry_codec.specs.Spelling.{spelling}
 use Rattle.farm_entry.specs.declared.entry.Entry.{Entry}
 use Rattle.farm_store.specs.Bytes.{StandsFor}
-use Rattle.farm_store.specs.declared.asking.CallFault.{CallFault}
-use Rattle.farm_store.specs.declared.asking.CallFault.TheVariants as fault
 
 module _ {D : Type 0} (tells : D → Bool) (told : D → DiskState) where
   -- nothing is pending, there is room for a record, and each crash leaves the payloads
@@ -51,13 +51,12 @@ module _ {D : Type 0} (tells : D → Bool) (told : D → DiskState) where
     pub same : new ≡ old
 
   -- what storing entries did, by its answer
-  abbrev pub Wrote : List Entry → Result (Unit {0}) CallFault → (old new : JournalState D) → Type 0
+  abbrev pub Wrote : List Entry → Result (Unit {0}) JournalFault → (old new : JournalState D) → Type 0
   Wrote entries (Ok _) old new = IsUntouched entries old new ⊎ IsWritten entries old new
-  Wrote entries (Err (fault.Refused cause)) old new = ⊥
   Wrote entries (Err (fault.StoreFault before after)) old new = IsTorn entries old new
   Wrote entries (Err fault.Memory) old new = IsUnwritten old new
 
 -- each crash leaves these payloads' history, or the one with these entries, where they may have been stored
-abbrev pub LeavesNew : (H new : List Entry) → Result (Unit {0}) CallFault → List ℕ → Type 0
+abbrev pub LeavesNew : (H new : List Entry) → Result (Unit {0}) JournalFault → List ℕ → Type 0
 LeavesNew H new (Err fault.Memory) bytes = StandsFor H bytes
 LeavesNew H new _ bytes = StandsFor H bytes ⊎ StandsFor (H ++ new) bytes

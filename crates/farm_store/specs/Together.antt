@@ -1,9 +1,9 @@
 -- What a store answers to several callers whose new entries share a record, and how its history goes on.
-use Rattle.std.specs.Prelude.{◌≡◌, ◌+◌, List, [], ◌∷◌, length, Result, Ok, Err, ⊤}
+use Rattle.std.specs.Prelude.{◌≡◌, List, [], ◌∷◌, length, Result, Ok, Err, ⊤}
 use Rattle.std.specs.List.{flat_map}
 use Rattle.farm_entry.specs.declared.entry.Entry.{Entry}
-use Rattle.farm_store.specs.Answering.{AreAnswers, BatchSays, history_after}
-use Rattle.farm_store.specs.State.{StoreState, IsRepaired}
+use Rattle.farm_store.specs.Answering.{AreAnswers, BatchSays, IsSettled, history_after}
+use Rattle.farm_store.specs.State.{StoreState}
 use Rattle.farm_store.specs.declared.asking.Ask.{Ask}
 use Rattle.farm_store.specs.declared.asking.CallFault.{CallFault}
 use Rattle.farm_store.specs.declared.asking.Part.{Part}
@@ -25,13 +25,8 @@ AreGiven H (p ∷ parts) (q ∷ given) = IsPartGiven H p q × AreGiven (history_
 AreGiven H _ _ = ⊥
 
 -- all asks of all callers were answered, from the history as the repair left it, and what they record is stored
-pub record IsGiven {D : Type 0} (parts given : List Part) (old new : StoreState D) : Type 0 where
-  pub repaired : List Entry
-  pub found : IsRepaired old repaired
-  pub answers : AreGiven repaired parts given
-  pub history : new.history ≡ history_after repaired (all_asks parts)
-  pub recorded : length new.history ≡ length repaired + new.recorded
-  pub decided : new.pending ≡ []
+abbrev pub IsGiven : {D : Type 0} → (parts given : List Part) → (old new : StoreState D) → Type 0
+IsGiven parts given old new = IsSettled (all_asks parts) (λ repaired. AreGiven repaired parts given) old new
 
 -- what a call with the asks of these callers came to, by what it answers: where it failed, it did as a call with all
 -- asks in one list

@@ -5,23 +5,14 @@ ghost use Rattle.entry_codec.specs.Grammar.{AreSpelled};
 ghost use Rattle.entry_codec.specs.Spelling.{spelling};
 ghost use Rattle.farm_entry.specs.Legal.{IsLegal};
 ghost use Rattle.farm_journal.specs.Layout.{IsPayload, gate_of};
-ghost use Rattle.farm_store.specs.Admitted.{GoesOn, IsMisfit, IsMissed, IsNotLegal, SpellsNone};
+ghost use Rattle.farm_store.specs.Admitted.{GoesOn, IsMisfit, IsMissed, SpellsNone};
 ghost use Rattle.farm_store.specs.StoreInside.{Keeps};
 
 use entry_codec::{CodecFault, read_entries};
 use farm_core::{AdmitFault, Farm};
-use farm_entry::{Entry, What};
+use farm_entry::Entry;
 use farm_journal::{FIRST_GATE, OpeningFault, Payload};
 use std::alloc::Global;
-
-/// Why a payload doesn't go on with a history.
-#[derive(Clone, Copy, Debug, PartialEq, Eq)]
-pub enum Misfit {
-    /// It spells no entries, or none that may come next.
-    Unfit,
-    /// Out of memory.
-    Memory,
-}
 
 /// The farm whose history these payloads spell, or the gate of the first record that doesn't fit.
 pub fn farm_of(alloc: Global, payloads: &[Payload]) -> Result<Farm, OpeningFault>
@@ -39,8 +30,8 @@ pub fn farm_of(alloc: Global, payloads: &[Payload]) -> Result<Farm, OpeningFault
             FIRST_GATE + 5 + first.bytes().len() as u64,
             others,
         ),
-        Err(Misfit::Unfit) => Err(OpeningFault::Damaged(FIRST_GATE)),
-        Err(Misfit::Memory) => Err(OpeningFault::Memory),
+        Err(AdmitFault::Illegal) => Err(OpeningFault::Damaged(FIRST_GATE)),
+        Err(AdmitFault::Memory) => Err(OpeningFault::Memory),
     }
 }
 
@@ -58,81 +49,47 @@ fn grow(alloc: Global, farm: Farm, gate: u64, payloads: &[Payload]) -> Result<Fa
     for payload in payloads {
         match go_on(alloc, &mut farm, payload.bytes()) {
             Ok(()) => gate += 5 + payload.bytes().len() as u64,
-            Err(Misfit::Unfit) => return Err(OpeningFault::Damaged(gate)),
-            Err(Misfit::Memory) => return Err(OpeningFault::Memory),
+            Err(AdmitFault::Illegal) => return Err(OpeningFault::Damaged(gate)),
+            Err(AdmitFault::Memory) => return Err(OpeningFault::Memory),
         }
     }
     Ok(farm)
 }
 
 /// The farm whose history a payload begins.
-fn begin(alloc: Global, payload: &[u8]) -> Result<Farm, Misfit>
+fn begin(alloc: Global, payload: &[u8]) -> Result<Farm, AdmitFault>
     ensures farm { IfOk result (λ farm. GoesOn payload.now [] farm.history) }
     ensures misfit { IfErr result (IsMisfit payload.now []) }
 {
     let mut entries = entries_of(alloc, payload)?;
     if entries.is_empty() {
-        return Err(Misfit::Unfit);
+        return Err(AdmitFault::Illegal);
     }
-    let mut farm = found(alloc, entries.remove(0))?;
-    admit_all(&mut farm, entries)?;
+    let first = entries.remove(0);
+    let mut farm = Farm::founded_by(alloc, &first)?;
+    farm.admit_all(entries)?;
     Ok(farm)
 }
 
 /// Goes on with the entries of a further payload.
-fn go_on(alloc: Global, farm: &mut Farm, payload: &[u8]) -> Result<(), Misfit>
+fn go_on(alloc: Global, farm: &mut Farm, payload: &[u8]) -> Result<(), AdmitFault>
     requires { IsLegal farm.old.history }
     ensures farm { OnOk result (GoesOn payload.now farm.old.history farm.new.history) }
     ensures misfit { IfErr result (IsMisfit payload.now farm.old.history) }
 {
     let entries = entries_of(alloc, payload)?;
-    admit_all(farm, entries)
+    farm.admit_all(entries)
 }
 
 /// The entries that a payload spells.
-fn entries_of(alloc: Global, payload: &[u8]) -> Result<Vec<Entry>, Misfit>
+fn entries_of(alloc: Global, payload: &[u8]) -> Result<Vec<Entry>, AdmitFault>
     ensures spelled { IfOk result (λ entries. AreSpelled entries.items) }
     ensures is { IfOk result (λ entries. payload.now ≡ spelling entries.items) }
     ensures none { IfErr result (SpellsNone payload.now) }
 {
     match read_entries(alloc, payload) {
         Ok(entries) => Ok(entries),
-        Err(CodecFault::Bad(_)) => Err(Misfit::Unfit),
-        Err(CodecFault::Memory) => Err(Misfit::Memory),
+        Err(CodecFault::Bad(_)) => Err(AdmitFault::Illegal),
+        Err(CodecFault::Memory) => Err(AdmitFault::Memory),
     }
-}
-
-/// The farm that an entry founds.
-fn found(alloc: Global, entry: Entry) -> Result<Farm, Misfit>
-    ensures founded { IfOk result (λ farm. farm.history ≡ entry ∷ []) }
-    ensures legal { OnOk result (IsLegal (entry ∷ [])) }
-    ensures misfit { IfErr result (IsNotLegal (λ more. entry ∷ more)) }
-{
-    let What::Founded { settings } = entry.what else {
-        return Err(Misfit::Unfit);
-    };
-    match Farm::found(alloc, settings, entry.at) {
-        Ok(farm) => Ok(farm),
-        Err(_) => Err(Misfit::Memory),
-    }
-}
-
-/// Admits entries, one after the other.
-fn admit_all(farm: &mut Farm, entries: Vec<Entry>) -> Result<(), Misfit>
-    requires { IsLegal farm.old.history }
-    ensures admitted { OnOk result (farm.new.history ≡ farm.old.history ++ entries.items) }
-    ensures legal { OnOk result (IsLegal (farm.old.history ++ entries.items)) }
-    ensures misfit { IfErr result (IsNotLegal (λ more. farm.old.history ++ entries.items ++ more)) }
-{
-    let mut rest = entries;
-    // The first stands last, from where it is taken without moving the others.
-    rest.reverse();
-    while let Some(entry) = rest.pop() {
-        match farm.admit(entry) {
-            Ok(()) => {}
-            Err(AdmitFault::Illegal) => return Err(Misfit::Unfit),
-            Err(AdmitFault::Memory) => return Err(Misfit::Memory),
-        }
-    }
-    Ok(())
 }

@@ -3,8 +3,8 @@ ghost use Rattle.std.specs.Prelude.{◌≡◌, ◌≤◌, length};
 ghost use Rattle.farm_store.specs.Sizes.{command_size, asks_size};
 
 use entry_codec::MAX_ENTRY_BYTES;
-use farm_entry::{Command, Refusal, Reply};
-use farm_journal::MAX_PAYLOAD;
+use farm_entry::{Answer, Command, Refusal};
+use farm_journal::{JournalFault, MAX_PAYLOAD};
 use farm_types::Moment;
 use item_list::ItemList;
 use thiserror::Error;
@@ -42,15 +42,6 @@ impl Ask {
     }
 }
 
-/// The answer to one ask of a batch.
-#[derive(Debug, PartialEq, Eq, Drop)]
-pub enum Answer {
-    /// The reply: of the entry that the command made, now or before, or what it shows.
-    Done(Reply),
-    /// The farm refuses the command.
-    Refused(Refusal),
-}
-
 /// The answers to a batch, one for each ask, in their order.
 pub type Answers = ItemList<Answer>;
 
@@ -83,6 +74,20 @@ pub enum CallFault {
     /// Out of memory, and nothing of the call is recorded.
     #[error("out of memory")]
     Memory,
+}
+
+impl From<JournalFault> for CallFault {
+    ghost use Rattle.std.specs.Prelude.{◌≡◌};
+    ghost use Rattle.farm_store.specs.Answering.{as_call};
+
+    ghost from_gives = { λ fault given. given ≡ as_call fault };
+
+    fn from(fault: JournalFault) -> CallFault {
+        match fault {
+            JournalFault::StoreFault { before, after } => CallFault::StoreFault { before, after },
+            JournalFault::Memory => CallFault::Memory,
+        }
+    }
 }
 
 /// The most bytes that the entries of a batch take in a record, by their kinds. [`laws`](crate::laws) has that they

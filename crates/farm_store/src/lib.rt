@@ -5,21 +5,23 @@
 //! that a crash leaves all of these or none. Where the disk fails, it is undecided whether the record was kept: its
 //! entries are pending, and the next call begins by finding out, before anything else is decided. Several callers can
 //! share a record: the asks of each, a [`Part`], are answered after those of the one before, and what all of them
-//! record is stored at once, where their [`most_bytes`] are [`MAX_RECORD_BYTES`] together at most. A caller who needs no
-//! reply but the run that it hands out enters a command, which spares the look at the search that the run is for.
-//! [`answer`] answers a command by a farm in memory alone, as a store does before it writes, for a farm that has no
-//! disk.
+//! record is stored at once, where their [`most_bytes`] are [`MAX_RECORD_BYTES`] together at most. A caller who needs
+//! no reply but the run that it hands out enters a command, which spares the look at the search that the run is for.
+//!
+//! Each call is one settling (repair, decide, record), behind which the decisions of `deciding` differ. What it leaves
+//! alone, and what never falls, is one record, `KeepsStore` of `specs/Keeping`.
 //!
 //! The crate stands on `farm_core` for the farm, on `farm_journal` and `farm_disk` for the records and what a crash may
 //! leave of them, and on `entry_codec` for entries as bytes. What the entries of asks take at most is told by the
-//! commands' kinds, whose decisions name drafts of `farm_rules` and verdicts of `weight_exact`. The layers above may use every name below; clauses above
-//! cite `specs/` (`Bytes`, `Damage`, `State`, `Answering`, `Together`, `Sizes`, `Entering`, `Opened`, `Founded`,
-//! `Faults`).
+//! commands' kinds, whose decisions name drafts of `farm_rules` and verdicts of `weight_exact`. The layers above may
+//! use every name below; clauses above cite `specs/` (`Bytes`, `Damage`, `State`, `Answering`, `Keeping`, `Together`,
+//! `Sizes`, `Entering`, `Opened`, `Founded`, `Faults`).
 #![tactic(auto)]
 
 mod admitting;
 mod answering;
 mod asking;
+mod deciding;
 mod founding;
 pub mod laws;
 mod recording;
@@ -27,10 +29,10 @@ mod showing;
 mod store;
 
 pub use admitting::farm_of;
-pub use answering::answer;
 pub use asking::{
-    Answer, Answers, Ask, CallFault, MAX_BATCH, MAX_BATCH_BYTES, MAX_RECORD_BYTES,
-    MAX_SHORT_ENTRY_BYTES, Part, most_bytes,
+    Answers, Ask, CallFault, MAX_BATCH, MAX_BATCH_BYTES, MAX_RECORD_BYTES, MAX_SHORT_ENTRY_BYTES,
+    Part, most_bytes,
 };
-pub use farm_journal::{CreateFault, OpeningFault};
+pub use farm_entry::Answer;
+pub use farm_journal::{CreateFault, JournalFault, OpeningFault};
 pub use store::Store;

@@ -1,16 +1,16 @@
 //! Storing the entries by which the farm in memory is ahead of its journal.
 
-ghost use Rattle.std.specs.Prelude.{◌≡◌, ◌≢◌, ◌≤◌, [], true, take, drop, None, IfErr, OnOk, OnErr, All};
+ghost use Rattle.std.specs.Prelude.{◌≡◌, ◌≢◌, ◌≤◌, [], true, take, drop, None, OnOk, OnErr, All};
 ghost use Rattle.farm_disk.specs.Images.{LeavesOnly};
 ghost use Rattle.farm_journal.specs.Layout.{version_of};
 ghost use Rattle.entry_codec.specs.Grammar.{IsWithinLimits};
-ghost use Rattle.farm_store.specs.Faults.{HasCountFrom, IsOfStore, OnCallFault, OnCallMemory};
+ghost use Rattle.farm_journal.specs.Faults.{OnMemory, OnStoreFault};
+ghost use Rattle.farm_store.specs.Faults.{HasCountFrom};
 ghost use Rattle.farm_store.specs.Recorded.{IsOpen, LeavesNew, Wrote};
 ghost use Rattle.farm_store.specs.StoreInside.{IsAhead, IsStore};
 ghost use Rattle.farm_store.specs.Sizes.{entries_size};
 ghost use Rattle.farm_store.specs.declared.asking.TheConstants.{MAX_RECORD_BYTES};
 
-use crate::asking::CallFault;
 use entry_codec::write_entries_into;
 use farm_core::Farm;
 use farm_disk::Disk;
@@ -28,7 +28,7 @@ pub fn record_from<D: Disk>(
     journal: &mut Journal<D>,
     start: usize,
     before: u64,
-) -> Result<(), CallFault>
+) -> Result<(), JournalFault>
     requires ahead { IsAhead D.tells D.told start farm.old journal.old }
 
     ensures same { D.tells journal.new.disk ≡ D.tells journal.old.disk }
@@ -40,10 +40,9 @@ pub fn record_from<D: Disk>(
     ensures stored { OnOk result (farm.new.history ≡ farm.old.history) }
     ensures decided { OnOk result (journal.new.pending ≡ None) }
     ensures taken_back { OnErr result (farm.new.history ≡ take start farm.old.history) }
-    ensures undecided { OnCallFault result (farm.new.ready ≡ drop start farm.old.history) }
-    ensures pending { OnCallFault result (journal.new.pending ≢ None) }
-    ensures memory { OnCallMemory result (journal.new.pending ≡ None) }
-    ensures of_the_store { IfErr result IsOfStore }
+    ensures undecided { OnStoreFault result (farm.new.ready ≡ drop start farm.old.history) }
+    ensures pending { OnStoreFault result (journal.new.pending ≢ None) }
+    ensures memory { OnMemory result (journal.new.pending ≡ None) }
     ensures nothing { drop start farm.old.history ≡ [] → OnOk result (journal.new ≡ journal.old) }
     ensures new_version { drop start farm.old.history ≢ [] → D.tells journal.old.disk ≡ true
         → OnOk result (version_of (D.told journal.new.disk).bytes ≡ 2) }
@@ -67,7 +66,7 @@ fn write_new<D: Disk>(
     journal: &mut Journal<D>,
     entries: &[Entry],
     before: u64,
-) -> Result<(), CallFault>
+) -> Result<(), JournalFault>
     requires open { IsOpen D.tells D.told journal.old }
     requires within { All (λ entry. IsWithinLimits entry.what) entries.now }
     requires fits { entries_size entries.now ≤ MAX_RECORD_BYTES }
@@ -83,11 +82,14 @@ fn write_new<D: Disk>(
         return Ok(());
     }
     let Ok(()) = write_entries_into(payload, entries) else {
-        return Err(CallFault::Memory);
+        return Err(JournalFault::Memory);
     };
     match journal.append(alloc, payload) {
         Ok(()) => Ok(()),
-        Err(JournalFault::StoreFault { after, .. }) => Err(CallFault::StoreFault { before, after }),
-        Err(JournalFault::Memory) => Err(CallFault::Memory),
+        Err(JournalFault::StoreFault { after, .. }) => Err(JournalFault::StoreFault {
+            before,
+            after,
+        }),
+        Err(JournalFault::Memory) => Err(JournalFault::Memory),
     }
 }

@@ -25,13 +25,15 @@ ghost use Rattle.farm_entry.specs.Legal.{IsLegal};
 ghost use Rattle.farm_entry.specs.Pages.{page_of, totals};
 ghost use Rattle.farm_entry.specs.Standing.{standing};
 ghost use Rattle.farm_journal.specs.Created.{CreatingCause, IsUnborn, OnCreatingMemory};
+ghost use Rattle.farm_journal.specs.Faults.{HasCause};
 ghost use Rattle.farm_journal.specs.Layout.{is_unborn, version_of};
 ghost use Rattle.farm_journal.specs.Opened.{OpeningCause};
 ghost use Rattle.farm_journal.specs.ReadsOnly.{ReadsOnly};
-ghost use Rattle.farm_store.specs.Answering.{BatchSays, CallSays, IsUnrepairedBy, as_batch};
+ghost use Rattle.farm_store.specs.Answering.{AnswerSays, BatchSays, CallSays, IsUnrepairedBy, Settles, as_batch};
 ghost use Rattle.farm_store.specs.Entering.{Enters};
 ghost use Rattle.farm_store.specs.Faults.{HasCallCause, HasCountFrom, OnAnswered};
 ghost use Rattle.farm_store.specs.Founded.{Founds, IsUnbornOrFounding, disk_founded, founding};
+ghost use Rattle.farm_store.specs.Keeping.{KeepsStore};
 ghost use Rattle.farm_store.specs.Opened.{OpensTo, disk_opened};
 ghost use Rattle.farm_store.specs.State.{IsLeft, IsRepaired, IsStored, IsWithOrWithout};
 ghost use Rattle.farm_store.specs.Together.{TogetherSays, all_asks};
@@ -39,14 +41,16 @@ ghost use Rattle.farm_store.specs.Sizes.{asks_size};
 ghost use Rattle.farm_store.specs.declared.asking.TheConstants.{MAX_BATCH, MAX_RECORD_BYTES};
 
 use crate::admitting::farm_of;
-use crate::answering::{answer, answer_all, answer_parts};
-use crate::asking::{Answer, Answers, Ask, CallFault, Part};
+use crate::asking::{Answers, Ask, CallFault, Part};
+use crate::deciding::{AskList, AskParts, Deciding, OneAsk, OneRun};
 use crate::founding::found;
 use crate::recording::record_from;
 use crate::showing::page_in;
-use farm_core::{CoreFault, Farm};
+use farm_core::Farm;
 use farm_disk::Disk;
-use farm_entry::{Command, Entry, LeasedRun, Reply, SearchPage, Settings, Standing, Totals};
+use farm_entry::{
+    Answer, Command, Entry, LeasedRun, Reply, SearchPage, Settings, Standing, Totals,
+};
 use farm_journal::{CreateFault, Journal, JournalFault, OpeningFault, Repaired};
 use farm_types::{Memory, Moment};
 use std::alloc::Global;
@@ -160,7 +164,27 @@ impl<D: Disk> Store<D> {
 
     /// Answers a command at a moment. Where a fault left a record undecided, a repair finds out first whether it was
     /// kept; then the command is decided at the history that there is. A new entry is stored before its reply is
-    /// given: from then on each crash leaves a history that has it.
+    /// given: from then on each crash leaves a history that has it. A refusal is an answer, given exactly where the
+    /// farm's definitions refuse the command.
+    ///
+    /// # Errors
+    ///
+    /// [`JournalFault::StoreFault`] where the disk failed in this call, in the repair or as the new entry was stored,
+    /// which then is pending; or [`JournalFault::Memory`].
+    pub fn answer(
+        &mut self,
+        alloc: Global,
+        command: &Command,
+        at: Moment,
+    ) -> Result<Answer, JournalFault>
+        ensures says { AnswerSays command.now at result self.old self.new }
+        ensures keeps { KeepsStore D.Disk (λ P. OnOk result P) self.old self.new }
+        ensures cause { HasCause result (D.count self.old.disk) (D.count self.new.disk) }
+    {
+        self.settle(alloc, &mut OneAsk { command, at })
+    }
+
+    /// Answers a command as [`Store::answer`] does, where a refusal is an error.
     ///
     /// # Errors
     ///
@@ -168,40 +192,15 @@ impl<D: Disk> Store<D> {
     /// the disk failed in this call, in the repair or as the new entry was stored, which then is pending; or
     /// [`CallFault::Memory`].
     pub fn call(&mut self, alloc: Global, command: &Command, at: Moment) -> Result<Reply, CallFault>
-        ensures same { D.tells self.new.disk ≡ D.tells self.old.disk }
         ensures says { CallSays command.now at result self.old self.new }
-        ensures longer { (more : List Entry) × (self.new.history ≡ self.old.history ++ more) }
-        ensures legal { IsLegal (self.new.history ++ self.new.pending) }
-
-        // Each image of each moment of the call stands for the history from before, with or without what was pending,
-        // or for the one from now with what is pending now.
-        ensures any_moment { D.tells self.old.disk ≡ true
-            → LeavesOnly (D.told self.old.disk) (D.told self.new.disk) (IsLeft self.old self.new) }
-        ensures stored { D.tells self.old.disk ≡ true
-            → IsStored self.new.history self.new.pending (D.told self.new.disk) }
-        // What records nothing writes nothing: it asks the disk for nothing, or for one sync and one read where it
-        // repairs.
-        ensures untouched { self.old.pending ≡ [] → self.new.history ≡ self.old.history
-            → OnOk (as_batch result) (self.new.disk ≡ self.old.disk) }
-        ensures only { D.tells self.old.disk ≡ true → self.new.recorded ≡ 0
-            → OnOk (as_batch result) (ReadsOnly (D.told self.old.disk) (D.told self.new.disk)) }
-        ensures two_calls { D.tells self.old.disk ≡ true → self.old.pending ≢ [] → self.new.recorded ≡ 0
-            → OnOk (as_batch result) (moment (D.told self.new.disk) ≡ moment (D.told self.old.disk) + 2) }
-        // Once the history has grown, the file is of version 2.
-        ensures new_version { D.tells self.old.disk ≡ true → length self.old.history < length self.new.history
-            → OnOk (as_batch result) (version_of (D.told self.new.disk).bytes ≡ 2) }
-
+        ensures keeps { KeepsStore D.Disk (λ P. OnOk (as_batch result) P) self.old self.new }
         ensures cause { HasCallCause result (D.count self.old.disk) (D.count self.new.disk) }
-        ensures never_falls { D.count self.old.disk ≤ D.count self.new.disk }
     {
-        let before = self.faults();
-        if let Err(fault) = self.repair(before) {
-            self.tell();
-            return Err(fault);
+        match self.answer(alloc, command, at) {
+            Ok(Answer::Done(reply)) => Ok(reply),
+            Ok(Answer::Refused(refusal)) => Err(CallFault::Refused(refusal)),
+            Err(fault) => Err(CallFault::from(fault)),
         }
-        let answered = self.decide(alloc, command, at, before);
-        self.tell();
-        answered
     }
 
     /// Answers a command as [`Store::call`] does, but gives of its reply only the run that it hands out, if it does:
@@ -216,35 +215,15 @@ impl<D: Disk> Store<D> {
         command: &Command,
         at: Moment,
     ) -> Result<Option<LeasedRun>, CallFault>
-        ensures same { D.tells self.new.disk ≡ D.tells self.old.disk }
         ensures says { Enters command.now at result self.old self.new }
-        ensures longer { (more : List Entry) × (self.new.history ≡ self.old.history ++ more) }
-        ensures legal { IsLegal (self.new.history ++ self.new.pending) }
-
-        ensures any_moment { D.tells self.old.disk ≡ true
-            → LeavesOnly (D.told self.old.disk) (D.told self.new.disk) (IsLeft self.old self.new) }
-        ensures stored { D.tells self.old.disk ≡ true
-            → IsStored self.new.history self.new.pending (D.told self.new.disk) }
-        ensures untouched { self.old.pending ≡ [] → self.new.history ≡ self.old.history
-            → OnAnswered result (self.new.disk ≡ self.old.disk) }
-        ensures only { D.tells self.old.disk ≡ true → self.new.recorded ≡ 0
-            → OnAnswered result (ReadsOnly (D.told self.old.disk) (D.told self.new.disk)) }
-        ensures two_calls { D.tells self.old.disk ≡ true → self.old.pending ≢ [] → self.new.recorded ≡ 0
-            → OnAnswered result (moment (D.told self.new.disk) ≡ moment (D.told self.old.disk) + 2) }
-        ensures new_version { D.tells self.old.disk ≡ true → length self.old.history < length self.new.history
-            → OnAnswered result (version_of (D.told self.new.disk).bytes ≡ 2) }
-
+        ensures keeps { KeepsStore D.Disk (λ P. OnAnswered result P) self.old self.new }
         ensures cause { HasCallCause result (D.count self.old.disk) (D.count self.new.disk) }
-        ensures never_falls { D.count self.old.disk ≤ D.count self.new.disk }
     {
-        let before = self.faults();
-        if let Err(fault) = self.repair(before) {
-            self.tell();
-            return Err(fault);
+        match self.settle(alloc, &mut OneRun { command, at }) {
+            Ok(Ok(run)) => Ok(run),
+            Ok(Err(refusal)) => Err(CallFault::Refused(refusal)),
+            Err(fault) => Err(CallFault::from(fault)),
         }
-        let entered = self.decide_run(alloc, command, at, before);
-        self.tell();
-        entered
     }
 
     /// Answers 1 to `MAX_BATCH` asks as single calls one after the other would, but for this: their new entries are
@@ -259,35 +238,14 @@ impl<D: Disk> Store<D> {
         requires some { 1 ≤ length asks.now }
         requires few { length asks.now ≤ MAX_BATCH }
 
-        ensures same { D.tells self.new.disk ≡ D.tells self.old.disk }
         ensures says { BatchSays asks.now result self.old self.new }
-        ensures longer { (more : List Entry) × (self.new.history ≡ self.old.history ++ more) }
-        ensures legal { IsLegal (self.new.history ++ self.new.pending) }
-
-        ensures any_moment { D.tells self.old.disk ≡ true
-            → LeavesOnly (D.told self.old.disk) (D.told self.new.disk) (IsLeft self.old self.new) }
-        ensures stored { D.tells self.old.disk ≡ true
-            → IsStored self.new.history self.new.pending (D.told self.new.disk) }
-        ensures untouched { self.old.pending ≡ [] → self.new.history ≡ self.old.history
-            → OnOk result (self.new.disk ≡ self.old.disk) }
-        ensures only { D.tells self.old.disk ≡ true → self.new.recorded ≡ 0
-            → OnOk result (ReadsOnly (D.told self.old.disk) (D.told self.new.disk)) }
-        ensures two_calls { D.tells self.old.disk ≡ true → self.old.pending ≢ [] → self.new.recorded ≡ 0
-            → OnOk result (moment (D.told self.new.disk) ≡ moment (D.told self.old.disk) + 2) }
-        ensures new_version { D.tells self.old.disk ≡ true → length self.old.history < length self.new.history
-            → OnOk result (version_of (D.told self.new.disk).bytes ≡ 2) }
-
+        ensures keeps { KeepsStore D.Disk (λ P. OnOk result P) self.old self.new }
         ensures cause { HasCallCause result (D.count self.old.disk) (D.count self.new.disk) }
-        ensures never_falls { D.count self.old.disk ≤ D.count self.new.disk }
     {
-        let before = self.faults();
-        if let Err(fault) = self.repair(before) {
-            self.tell();
-            return Err(fault);
+        match self.settle(alloc, &mut AskList { asks }) {
+            Ok(answers) => Ok(answers),
+            Err(fault) => Err(CallFault::from(fault)),
         }
-        let answered = self.decide_all(alloc, asks, before);
-        self.tell();
-        answered
     }
 
     /// Answers asks of several callers, at least one and no more than are sure to fit a record, as batches one after
@@ -303,36 +261,15 @@ impl<D: Disk> Store<D> {
         requires some { 1 ≤ length (all_asks parts.old) }
         requires fits { asks_size (all_asks parts.old) ≤ MAX_RECORD_BYTES }
 
-        ensures same { D.tells self.new.disk ≡ D.tells self.old.disk }
         ensures says { TogetherSays parts.old parts.new result self.old self.new }
         ensures asks { map (λ part. part.asks) parts.new ≡ map (λ part. part.asks) parts.old }
-        ensures longer { (more : List Entry) × (self.new.history ≡ self.old.history ++ more) }
-        ensures legal { IsLegal (self.new.history ++ self.new.pending) }
-
-        ensures any_moment { D.tells self.old.disk ≡ true
-            → LeavesOnly (D.told self.old.disk) (D.told self.new.disk) (IsLeft self.old self.new) }
-        ensures stored { D.tells self.old.disk ≡ true
-            → IsStored self.new.history self.new.pending (D.told self.new.disk) }
-        ensures untouched { self.old.pending ≡ [] → self.new.history ≡ self.old.history
-            → OnOk result (self.new.disk ≡ self.old.disk) }
-        ensures only { D.tells self.old.disk ≡ true → self.new.recorded ≡ 0
-            → OnOk result (ReadsOnly (D.told self.old.disk) (D.told self.new.disk)) }
-        ensures two_calls { D.tells self.old.disk ≡ true → self.old.pending ≢ [] → self.new.recorded ≡ 0
-            → OnOk result (moment (D.told self.new.disk) ≡ moment (D.told self.old.disk) + 2) }
-        ensures new_version { D.tells self.old.disk ≡ true → length self.old.history < length self.new.history
-            → OnOk result (version_of (D.told self.new.disk).bytes ≡ 2) }
-
+        ensures keeps { KeepsStore D.Disk (λ P. OnOk result P) self.old self.new }
         ensures cause { HasCallCause result (D.count self.old.disk) (D.count self.new.disk) }
-        ensures never_falls { D.count self.old.disk ≤ D.count self.new.disk }
     {
-        let before = self.faults();
-        if let Err(fault) = self.repair(before) {
-            self.tell();
-            return Err(fault);
+        match self.settle(alloc, &mut AskParts { parts }) {
+            Ok(()) => Ok(()),
+            Err(fault) => Err(CallFault::from(fault)),
         }
-        let answered = self.decide_together(alloc, parts, before);
-        self.tell();
-        answered
     }
 
     /// The history, without what is pending.
@@ -406,8 +343,32 @@ impl<D: Disk> Store<D> {
         let _ = &self.journal;
     }
 
+    /// What each call does: finds out what became of what is pending, decides what is asked, and stores what is new in
+    /// one record.
+    fn settle<A: Deciding>(
+        &mut self,
+        alloc: Global,
+        asked: &mut A,
+    ) -> Result<A::Given, JournalFault>
+        requires fits { asks_size (A.asks asked.old) ≤ MAX_RECORD_BYTES }
+        ensures says { Settles (A.asks asked.old) (λ given H. A.gives H asked.old given asked.new) result
+            self.old self.new }
+        ensures stays { A.stays asked.old asked.new }
+        ensures keeps { KeepsStore D.Disk (λ P. OnOk result P) self.old self.new }
+        ensures cause { HasCause result (D.count self.old.disk) (D.count self.new.disk) }
+    {
+        let before = self.faults();
+        if let Err(fault) = self.repair(before) {
+            self.tell();
+            return Err(fault);
+        }
+        let decided = self.decide(alloc, asked, before);
+        self.tell();
+        decided
+    }
+
     /// Finds out whether what is pending was kept. Where nothing is pending, nothing is done.
-    fn repair(&mut self, before: u64) -> Result<(), CallFault>
+    fn repair(&mut self, before: u64) -> Result<(), JournalFault>
         ensures same { D.tells self.new.disk ≡ D.tells self.old.disk }
         ensures repaired { OnOk result (IsRepaired self.old self.new.history) }
         ensures decided { OnOk result (self.new.pending ≡ []) }
@@ -437,7 +398,7 @@ impl<D: Disk> Store<D> {
                 Ok(())
             }
             Ok(Repaired::Dropped) => Ok(()),
-            Err(JournalFault::StoreFault { after, .. }) => Err(CallFault::StoreFault {
+            Err(JournalFault::StoreFault { after, .. }) => Err(JournalFault::StoreFault {
                 before,
                 after,
             }),
@@ -445,93 +406,20 @@ impl<D: Disk> Store<D> {
         }
     }
 
-    /// Answers a command while nothing is pending.
-    fn decide(
+    /// Decides what is asked and stores what is new, while nothing is pending.
+    fn decide<A: Deciding>(
         &mut self,
         alloc: Global,
-        command: &Command,
-        at: Moment,
+        asked: &mut A,
         before: u64,
-    ) -> Result<Reply, CallFault>
+    ) -> Result<A::Given, JournalFault>
         requires decided { self.old.pending ≡ [] }
         requires none_recorded { self.old.recorded ≡ 0 }
+        requires fits { asks_size (A.asks asked.old) ≤ MAX_RECORD_BYTES }
         ensures same { D.tells self.new.disk ≡ D.tells self.old.disk }
-        ensures says { CallSays command.now at result self.old self.new }
-        ensures any_moment { D.tells self.old.disk ≡ true
-            → LeavesOnly (D.told self.old.disk) (D.told self.new.disk) (IsLeft self.old self.new) }
-        ensures untouched { self.new.history ≡ self.old.history
-            → OnOk (as_batch result) (self.new.disk ≡ self.old.disk) }
-        ensures new_version { D.tells self.old.disk ≡ true → length self.old.history < length self.new.history
-            → OnOk (as_batch result) (version_of (D.told self.new.disk).bytes ≡ 2) }
-        ensures cause { HasCountFrom before result (D.count self.old.disk) (D.count self.new.disk) }
-        ensures never_falls { D.count self.old.disk ≤ D.count self.new.disk }
-    {
-        let start = self.farm.history().len();
-        match answer(&mut self.farm, command, at) {
-            Ok(Answer::Done(reply)) => {
-                record_from(
-                    alloc,
-                    &mut self.payload,
-                    &mut self.farm,
-                    &mut self.journal,
-                    start,
-                    before,
-                )?;
-                self.recorded = self.farm.history().len() - start;
-                Ok(reply)
-            }
-            Ok(Answer::Refused(refusal)) => Err(CallFault::Refused(refusal)),
-            Err(_) => Err(CallFault::Memory),
-        }
-    }
-
-    /// Answers a command while nothing is pending, by the run that it hands out.
-    fn decide_run(
-        &mut self,
-        alloc: Global,
-        command: &Command,
-        at: Moment,
-        before: u64,
-    ) -> Result<Option<LeasedRun>, CallFault>
-        requires decided { self.old.pending ≡ [] }
-        requires none_recorded { self.old.recorded ≡ 0 }
-        ensures same { D.tells self.new.disk ≡ D.tells self.old.disk }
-        ensures says { Enters command.now at result self.old self.new }
-        ensures any_moment { D.tells self.old.disk ≡ true
-            → LeavesOnly (D.told self.old.disk) (D.told self.new.disk) (IsLeft self.old self.new) }
-        ensures untouched { self.new.history ≡ self.old.history
-            → OnAnswered result (self.new.disk ≡ self.old.disk) }
-        ensures new_version { D.tells self.old.disk ≡ true → length self.old.history < length self.new.history
-            → OnAnswered result (version_of (D.told self.new.disk).bytes ≡ 2) }
-        ensures cause { HasCountFrom before result (D.count self.old.disk) (D.count self.new.disk) }
-        ensures never_falls { D.count self.old.disk ≤ D.count self.new.disk }
-    {
-        let start = self.farm.history().len();
-        match self.farm.enter(command, at) {
-            Ok(run) => {
-                record_from(
-                    alloc,
-                    &mut self.payload,
-                    &mut self.farm,
-                    &mut self.journal,
-                    start,
-                    before,
-                )?;
-                self.recorded = self.farm.history().len() - start;
-                Ok(run)
-            }
-            Err(CoreFault::Refused(refusal)) => Err(CallFault::Refused(refusal)),
-            Err(CoreFault::Memory) => Err(CallFault::Memory),
-        }
-    }
-
-    /// Answers a list of asks while nothing is pending.
-    fn decide_all(&mut self, alloc: Global, asks: &[Ask], before: u64) -> Result<Answers, CallFault>
-        requires decided { self.old.pending ≡ [] }
-        requires none_recorded { self.old.recorded ≡ 0 }
-        requires few { length asks.now ≤ MAX_BATCH }
-        ensures same { D.tells self.new.disk ≡ D.tells self.old.disk }
-        ensures says { BatchSays asks.now result self.old self.new }
+        ensures says { Settles (A.asks asked.old) (λ given H. A.gives H asked.old given asked.new) result
+            self.old self.new }
+        ensures stays { A.stays asked.old asked.new }
         ensures any_moment { D.tells self.old.disk ≡ true
             → LeavesOnly (D.told self.old.disk) (D.told self.new.disk) (IsLeft self.old self.new) }
         ensures untouched { self.new.history ≡ self.old.history → OnOk result (self.new.disk ≡ self.old.disk) }
@@ -541,64 +429,26 @@ impl<D: Disk> Store<D> {
         ensures never_falls { D.count self.old.disk ≤ D.count self.new.disk }
     {
         let start = self.farm.history().len();
-        match answer_all(alloc, &mut self.farm, asks) {
-            Ok(answers) => {
-                record_from(
+        match asked.decide(alloc, &mut self.farm) {
+            Ok(given) => {
+                match record_from(
                     alloc,
                     &mut self.payload,
                     &mut self.farm,
                     &mut self.journal,
                     start,
                     before,
-                )?;
-                self.recorded = self.farm.history().len() - start;
-                Ok(Answers::of(answers))
+                ) {
+                    Ok(()) => {
+                        self.recorded = self.farm.history().len() - start;
+                        Ok(given)
+                    }
+                    Err(fault) => Err(fault),
+                }
             }
             Err(_) => {
                 self.farm.retract(self.farm.history().len() - start);
-                Err(CallFault::Memory)
-            }
-        }
-    }
-
-    /// Answers the asks of several callers while nothing is pending.
-    fn decide_together(
-        &mut self,
-        alloc: Global,
-        parts: &mut [Part],
-        before: u64,
-    ) -> Result<(), CallFault>
-        requires decided { self.old.pending ≡ [] }
-        requires none_recorded { self.old.recorded ≡ 0 }
-        requires fits { asks_size (all_asks parts.old) ≤ MAX_RECORD_BYTES }
-        ensures same { D.tells self.new.disk ≡ D.tells self.old.disk }
-        ensures says { TogetherSays parts.old parts.new result self.old self.new }
-        ensures asks { map (λ part. part.asks) parts.new ≡ map (λ part. part.asks) parts.old }
-        ensures any_moment { D.tells self.old.disk ≡ true
-            → LeavesOnly (D.told self.old.disk) (D.told self.new.disk) (IsLeft self.old self.new) }
-        ensures untouched { self.new.history ≡ self.old.history → OnOk result (self.new.disk ≡ self.old.disk) }
-        ensures new_version { D.tells self.old.disk ≡ true → length self.old.history < length self.new.history
-            → OnOk result (version_of (D.told self.new.disk).bytes ≡ 2) }
-        ensures cause { HasCountFrom before result (D.count self.old.disk) (D.count self.new.disk) }
-        ensures never_falls { D.count self.old.disk ≤ D.count self.new.disk }
-    {
-        let start = self.farm.history().len();
-        match answer_parts(alloc, &mut self.farm, parts) {
-            Ok(()) => {
-                record_from(
-                    alloc,
-                    &mut self.payload,
-                    &mut self.farm,
-                    &mut self.journal,
-                    start,
-                    before,
-                )?;
-                self.recorded = self.farm.history().len() - start;
-                Ok(())
-            }
-            Err(_) => {
-                self.farm.retract(self.farm.history().len() - start);
-                Err(CallFault::Memory)
+                Err(JournalFault::Memory)
             }
         }
     }

@@ -1,3 +1,4 @@
+pub mod Answers
 pub mod Calendar
 mod CommaTexts
 pub mod Faults

@@ -232,16 +232,3 @@ joined-ordered order commit search day = refl
 -- what an array goes on with behind some of its numbers
 abbrev pub goes_on : List ℕ → List ℕ
 goes_on numbers = items_text true (items_of (map whole numbers))
-
-pub array-some : (old begun new numbers more : List ℕ) (first : ℕ) → numbers ≡ first ∷ more
-    → begun ≡ old ++ (codes "[" ++ decimal first) → new ≡ begun ++ goes_on more
-    → new ≡ old ++ compact_text (wholes numbers)
-array-some old begun new numbers more first is begin put =
-    put
-    ∙ ap (λ text. text ++ goes_on more) begin
-    ∙ append_assoc old (codes "[" ++ decimal first) (goes_on more)
-    ∙ ap (λ ns. old ++ compact_text (wholes ns)) (sym is)
-
-pub array-none : (old new numbers : List ℕ) → numbers ≡ [] → new ≡ old ++ codes "[]"
-    → new ≡ old ++ compact_text (wholes numbers)
-array-none old new numbers none put = put ∙ ap (λ ns. old ++ compact_text (wholes ns)) (sym none)

@@ -1,5 +1,5 @@
 -- Replies as JSON objects, of which the text that is sent is written.
-use Rattle.std.specs.Prelude.{ℕ, List, [], ◌∷◌, ◌++◌, map, codes, All, ◌≤◌, ⊤}
+use Rattle.std.specs.Prelude.{ℕ, List, [], ◌∷◌, ◌++◌, map, codes}
 use Rattle.serde_json.specs.Data.{Data, array, string}
 use Rattle.farm_types.specs.declared.stage.Stage.{Stage}
 use Rattle.farm_types.specs.declared.stage.Stage.TheVariants as stage
@@ -15,7 +15,6 @@ use Rattle.farm_entry.specs.declared.reply.Totals.{Totals}
 use Rattle.farm_entry.specs.declared.standing.Standing.TheVariants.{Cancelled}
 use Rattle.hex.specs.Hex.{encode_lower}
 use Rattle.serde_json.specs.View.{items_of}
-use Rattle.farm_types.specs.declared.moment.TheConstants.{LAST_DAY}
 use Rattle.farm_wire.specs.Dates.{day_text}
 use Rattle.farm_wire.specs.Members.{Named, commit_value, object_with, standing_members, where_some, whole, wholes}
 
@@ -113,14 +112,3 @@ reply_data (reply.Search page) = page_data page
 reply_data (reply.Farm totals) = totals_data (codes "farm") totals
 reply_data (reply.Orders lines) =
     reply_of (codes "orders") ((codes "orders", array (items_of (map order_data lines))) ∷ [])
-
--- the days that a reply shows have dates that can be written, which every day of a legal history has
-abbrev pub HasDates : Reply → Type 0
-HasDates (reply.Opened search budget standing) = ⊤
-HasDates (reply.Leased run search stage position commit test deadline) = ⊤
-HasDates (reply.Reported run search verdict outcome standing) = ⊤
-HasDates (reply.Cancelled search) = ⊤
-HasDates (reply.Ordered order commit search day) = day ≤ LAST_DAY
-HasDates (reply.Search page) = ⊤
-HasDates (reply.Farm totals) = ⊤
-HasDates (reply.Orders lines) = All (λ line. line.day ≤ LAST_DAY) lines

@@ -1,6 +1,15 @@
 //! What holds of every text, each law the contract of a call that does nothing.
 
 ghost use Rattle.std.specs.Prelude.{◌≡◌, ◌≢◌, ◌<◌, Err, List, length, ℕ};
+ghost use Rattle.farm_types.specs.declared.moment.Moment.{Moment};
+ghost use Rattle.farm_entry.specs.Answer.{IsAnswer};
+ghost use Rattle.farm_entry.specs.Decision.{decide};
+ghost use Rattle.farm_entry.specs.Legal.{IsLegal};
+ghost use Rattle.farm_entry.specs.Playing.{after};
+ghost use Rattle.farm_entry.specs.declared.answer.Answer.{Answer};
+ghost use Rattle.farm_entry.specs.declared.command.Command.{Command};
+ghost use Rattle.farm_entry.specs.declared.entry.Entry.{Entry};
+ghost use Rattle.farm_wire.specs.Answers.{AnswerHasDates, answer_text, decision_text};
 ghost use Rattle.farm_wire.specs.Reading.{body_reading, line_reading};
 ghost use Rattle.farm_wire.specs.declared.fault.WireFault.TheVariants.{Memory, TooLong};
 ghost use Rattle.farm_wire.specs.declared.limits.TheConstants.{MAX_COMMAND_BYTES};
@@ -17,4 +26,16 @@ pub fn too_long_lines()
 pub fn no_text_wants_memory()
     ensures lines { (line : List ℕ) → line_reading line ≢ Err Memory }
     ensures bodies { (route : Route) (body : List ℕ) → body_reading route body ≢ Err Memory }
+{}
+
+/// An answer to a command has the text of what the command comes to.
+pub fn answers_have_one_text()
+    ensures { (H : List Entry) (q : Command) (m : Moment) (a : Answer) → IsAnswer H (decide H q m) a
+        → answer_text a ≡ decision_text H (decide H q m) }
+{}
+
+/// Where the history with what a command adds to it is legal, the days that its answer shows have dates.
+pub fn answers_have_dates()
+    ensures { (H : List Entry) (q : Command) (m : Moment) (a : Answer) → IsLegal (after H (decide H q m))
+        → IsAnswer H (decide H q m) a → AnswerHasDates a }
 {}

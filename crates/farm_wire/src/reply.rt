@@ -2,10 +2,11 @@
 
 ghost use Rattle.std.specs.Prelude.{◌≡◌, ◌≤◌, IfOk, codes, string_bytes};
 ghost use Rattle.farm_types.specs.declared.moment.TheConstants.{LAST_DAY};
+ghost use Rattle.farm_laws.specs.Days.{HasDays};
 ghost use Rattle.serde_json.specs.Written.{compact_text};
 ghost use Rattle.farm_wire.specs.Members.{culprit_in};
 ghost use Rattle.farm_wire.specs.Pieces.{fate_name};
-ghost use Rattle.farm_wire.specs.Replies.{HasDates, fate_word, log_data, reply_data, stage_word, totals_data, verdict_word};
+ghost use Rattle.farm_wire.specs.Replies.{fate_word, log_data, reply_data, stage_word, totals_data, verdict_word};
 
 use crate::date::day_text;
 use crate::orders::orders_text;
@@ -19,7 +20,7 @@ use weight_exact::Verdict;
 
 /// The text of a reply: a JSON object with no space in it, whose members stand in the order of their names.
 pub fn reply_text(alloc: Global, reply: &Reply) -> Result<String, Memory>
-    requires { HasDates reply.now }
+    requires { HasDays reply.now }
     ensures { IfOk result (λ text. string_bytes text ≡ compact_text (reply_data reply.now)) }
 {
     reply_text_in(alloc, String::new(alloc), reply)
@@ -27,7 +28,7 @@ pub fn reply_text(alloc: Global, reply: &Reply) -> Result<String, Memory>
 
 /// The same, written in this room, whose bytes go.
 pub fn reply_text_in(alloc: Global, room: String, reply: &Reply) -> Result<String, Memory>
-    requires { HasDates reply.now }
+    requires { HasDays reply.now }
     ensures { IfOk result (λ text. string_bytes text ≡ compact_text (reply_data reply.now)) }
 {
     match reply {

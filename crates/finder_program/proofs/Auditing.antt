@@ -17,7 +17,8 @@ use Rattle.finder_program.proofs.Judging.{ReadFails}
 use Rattle.finder_program.proofs.Taken.{read_front, read_whole}
 
 -- nothing was put, where the input was not read
-pub unread_audit : (before after : Streams) (fault : InputFault) → ReadFails before after fault → after.written ≡ before.written →
+pub unread_audit : (before after : Streams) (fault : InputFault) → ReadFails before after fault
+    → after.written ≡ before.written →
     AuditEnds (status_of_input fault) before after
 unread_audit before after input.Failed fails same = (fails.rises refl, same)
 unread_audit before after input.AtLimit fails same =
@@ -34,12 +35,14 @@ line-of_all : (all bytes text : List ℕ) → all ≡ bytes → IsAuditLine byte
 line-of_all all bytes text same line = subst (λ (b : List ℕ). IsAuditLine b text) (sym same) line
 
 -- so is the line of bytes and a text that are told in other words
-pub line-carried : (bytes same text told : List ℕ) → bytes ≡ same → told ≡ text → IsAuditLine bytes text → IsAuditLine same told
+pub line-carried : (bytes same text told : List ℕ) → bytes ≡ same → told ≡ text → IsAuditLine bytes text
+    → IsAuditLine same told
 line-carried bytes same text told bytes_are text_is line =
     subst (λ (t : List ℕ). IsAuditLine same t) (sym text_is) (subst (λ (b : List ℕ). IsAuditLine b text) bytes_are line)
 
 -- where the line was not put whole
-pub unput_line : (before after : Streams) (bytes text : List ℕ) (fault : PutFault) → WasRead before.left after.left bytes →
+pub unput_line : (before after : Streams) (bytes text : List ℕ) (fault : PutFault)
+    → WasRead before.left after.left bytes →
     IsAuditLine bytes text → (fault ≡ put.Failed → Rose before.write_faults after.write_faults) →
     (n : ℕ) × (n < length text) × (after.written ≡ append_known before.written (take n text)) →
     AuditEnds (status_of_put fault) before after
@@ -54,7 +57,8 @@ unput_line before after bytes text put.Memory read line rises stopped = λ all t
     inr (text, line-of_all all bytes text r.1 line, (stopped.0, stopped.2))
 
 -- where it was
-pub put_line : (before after : Streams) (bytes text : List ℕ) → WasRead before.left after.left bytes → IsAuditLine bytes text →
+pub put_line : (before after : Streams) (bytes text : List ℕ) → WasRead before.left after.left bytes
+    → IsAuditLine bytes text →
     after.written ≡ append_known before.written text → AuditEnds Done before after
 put_line before after bytes text read line written all told =
     let r = read_whole all bytes _ _ told read.taken read.ended in

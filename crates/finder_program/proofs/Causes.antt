@@ -1,18 +1,13 @@
 -- What a status says of the disk's faults.
 use Rattle.std.proofs.Common.{◌≡◌, ◌∙◌, ℕ, List, subst}
-use Rattle.farm_journal.specs.Created.{CreatingCause}
 use Rattle.farm_journal.specs.Opened.{OpeningCause}
-use Rattle.farm_journal.specs.declared.fault.CreateFault.{CreateFault}
 use Rattle.farm_journal.specs.declared.fault.CreateFault.TheVariants as creating
 use Rattle.farm_journal.specs.declared.fault.OpeningFault.{OpeningFault}
 use Rattle.farm_journal.specs.declared.fault.OpeningFault.TheVariants as opening
-use Rattle.farm_script.specs.declared.run_end.RunEnd.{RunEnd}
 use Rattle.farm_script.specs.declared.run_end.RunEnd.TheVariants as script
 use Rattle.fault_types.specs.Counts.{Rose}
 use Rattle.farm_serve.specs.Outside.{DiskSeen, OutputSeen}
-use Rattle.finder_program.specs.RunJournal.{IsStoreFaultOf}
 use Rattle.finder_program.specs.Disks.{HasStoreCause}
-use Rattle.finder_program.specs.Found.{status_of_creating}
 use Rattle.finder_program.specs.Opening.{status_of_opening}
 use Rattle.finder_program.specs.TextPut.{TextPut}
 use Rattle.finder_program.specs.declared.status.Status.{Status}
@@ -26,29 +21,16 @@ opening-cause (opening.Damaged o) old new cause = tt
 opening-cause (opening.StoreFault before after) old new cause = cause
 opening-cause opening.Memory old new cause = tt
 
--- of a journal that was not founded
-pub creating-cause : (fault : CreateFault) (old new : DiskSeen) → CreatingCause fault old.faults new.faults
-    → HasStoreCause (status_of_creating fault) old new
-creating-cause creating.AlreadyBorn old new cause = tt
-creating-cause (creating.StoreFault before after) old new cause = cause
-creating-cause creating.Memory old new cause = tt
-
 -- of a text that was put
 pub text-cause : (text : List ℕ) (status : Status) (before after : OutputSeen) (old new : DiskSeen)
     → TextPut text status before after → HasStoreCause status old new
 text-cause text (StoreFault b a) before after old new put = absurd put
 text-cause text _ before after old new put = tt
 
--- of a script that was run over a journal
-pub end-cause : (status : Status) (before after : ℕ) (end : RunEnd) (old new : DiskSeen)
-    → IsStoreFaultOf status before after end → before ≡ old.faults → after ≡ new.faults
-    → (end ≡ script.StoreFault → Rose old.faults new.faults) → HasStoreCause status old new
-end-cause (StoreFault b a) before after end old new said first last rises =
-    (said.0 ∙ first, said.1 ∙ last, rises said.2)
-end-cause _ before after end old new said first last rises = tt
-
 -- the same, where the count at the start is known otherwise
-pub cause-same : (status : Status) (old other new : DiskSeen) → other.faults ≡ old.faults → HasStoreCause status other new
+pub cause-same : (status : Status) (old other new : DiskSeen) → other.faults ≡ old.faults
+    → HasStoreCause status other new
     → HasStoreCause status old new
-cause-same (StoreFault b a) old other new same cause = (cause.0 ∙ same, cause.1, subst (λ (n : ℕ). Rose n new.faults) same cause.2)
+cause-same (StoreFault b a) old other new same cause =
+    (cause.0 ∙ same, cause.1, subst (λ (n : ℕ). Rose n new.faults) same cause.2)
 cause-same _ old other new same cause = tt

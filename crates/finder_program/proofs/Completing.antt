@@ -81,7 +81,8 @@ not_opened-completes (opening.StoreFault b a) status old new history is missed c
 not_opened-completes opening.Memory status old new history is missed cause steady stands = is
 
 pub shown-completes : (text_of : List Entry → List ℕ) (status : Status) (before after : OutputSeen) (old new : DiskSeen)
-    → IsNotOpened status before after old new ⊎ JournalShown text_of status before after old new → HasStoreCause status old new → ShowCompletes status before after old new
+    → IsNotOpened status before after old new ⊎ JournalShown text_of status before after old new
+    → HasStoreCause status old new → ShowCompletes status before after old new
 shown-completes text_of status before after old new ends cause calm steady tell history stands = ⊎_elim
     (λ (missed : IsNotOpened status before after old new). inl
     (not_opened-completes missed.0 status old new history missed.1 (missed.2.cause tell) cause steady stands))
@@ -99,8 +100,10 @@ ended-as status end as_end before after first last pending stands said ends =
     (same_Some end as_end (sym stands ∙ said)) ends
 
 -- where nothing fails, a script is run to its end or to the limit, unless memory runs out
-ran-completes : (status : Status) (end : RunEnd) (before after : Streams) (old new : DiskSeen) (first last pending : List Entry)
-    → journal_end status ≡ Some end → RunEnds farm_rule end (over_journal before first []) (over_journal after last pending)
+ran-completes : (status : Status) (end : RunEnd) (before after : Streams) (old new : DiskSeen)
+    (first last pending : List Entry)
+    → journal_end status ≡ Some end
+    → RunEnds farm_rule end (over_journal before first []) (over_journal after last pending)
     → HasStoreCause status old new → ¬ Rose before.read_faults after.read_faults
     → ¬ Rose before.write_faults after.write_faults → ¬ Rose old.faults new.faults
     → (all : List ℕ) → before.left ≡ Some all
@@ -116,9 +119,11 @@ ran-completes ReadFault end before after old new first last pending stands ends 
 ran-completes WriteFault end before after old new first last pending stands ends cause reads writes steady all told =
     let failed = ended-as WriteFault end script.WriteFault before after first last pending stands refl ends in
     absurd (writes failed.0)
-ran-completes (StoreFault b a) end before after old new first last pending stands ends cause reads writes steady all told =
+ran-completes (StoreFault b a) end before after old new first last pending stands ends cause reads writes steady all
+    told =
     absurd (steady cause.2)
-ran-completes Memory end before after old new first last pending stands ends cause reads writes steady all told = inl refl
+ran-completes Memory end before after old new first last pending stands ends cause reads writes steady all told =
+    inl refl
 ran-completes InputLimit end before after old new first last pending stands ends cause reads writes steady all told =
     let limit = ended-as InputLimit end script.InputLimit before after first last pending stands refl ends in
     let front = read_front all limit.0 INPUT_LIMIT before.left after.left told limit.1.bytes limit.2 in
@@ -133,6 +138,6 @@ run_journal-completes status before after old new ends cause reads writes steady
     (λ (missed : IsNotOpened status before after old new). inl
     (not_opened-completes missed.0 status old new history missed.1 (missed.2.cause tell) cause steady stands))
     (λ (ran : (end : RunEnd) × (journal_end status ≡ Some end) × JournalRan end before after old new).
-    ran-completes status ran.0 before after old new ran.2.first ran.2.last ran.2.pending ran.1 ran.2.ends cause reads writes steady
-    all told)
+    ran-completes status ran.0 before after old new ran.2.first ran.2.last ran.2.pending ran.1 ran.2.ends cause reads
+    writes steady all told)
     ends

@@ -6,7 +6,7 @@ use Rattle.farm_drill.specs.Line.{drill_line}
 use Rattle.finder_program.specs.DrillCommand.{DrillCompletes, DrillEnds, DrillPut}
 use Rattle.farm_serve.specs.Outside.{OutputSeen}
 use Rattle.finder_program.specs.TextPut.{TextPut}
-use Rattle.finder_program.specs.Unread.{IsUnread}
+use Rattle.finder_program.specs.RanOut.{RanOut}
 use Rattle.finder_program.specs.declared.status.Status.{Status}
 use Rattle.finder_program.proofs.Completing.{text-completes}
 
@@ -23,7 +23,7 @@ pub drill-completes : (searches : ℕ) (status : Status) (before after : OutputS
     → DrillEnds searches status before after
     → DrillCompletes status before after
 drill-completes searches status before after ends calm = ⊎_elim
-    (λ (unread : IsUnread status before after). inl unread.0)
+    (λ (unread : RanOut status before after). inl unread.0)
     (λ (put : DrillPut searches status before after).
     text-completes (drill_line put.history) status before after put.text calm)
     ends

@@ -134,16 +134,6 @@ net-from_fault fault.NetFault status ends is = refl
 net-from_fault (fault.Peer s) status ends is = cc
 net-from_fault fault.Memory status ends is = cc
 
-pub damage-from_fault : (f : FollowFault) (status : Status) (offset : ℕ) → EndsBy f status → status ≡ Damaged offset
-    → f ≡ fault.Damaged offset
-damage-from_fault (fault.Gap a b) status offset ends is = absurd ends
-damage-from_fault (fault.Foreign p) status offset ends is = cc
-damage-from_fault (fault.StoreFault a b) status offset ends is = let same = ends.2 in cc
-damage-from_fault (fault.Damaged o) status offset ends is = cc
-damage-from_fault fault.NetFault status offset ends is = cc
-damage-from_fault (fault.Peer s) status offset ends is = cc
-damage-from_fault fault.Memory status offset ends is = cc
-
 -- Where nothing fails.
 
 no-damage : (bytes : List ℕ) (offset : ℕ) → opens bytes ≡ unborn → IsDamagedAt bytes offset → ⊥

@@ -1,5 +1,5 @@
 -- A run over a journal, from its opening on.
-use Rattle.std.proofs.Common.{◌≡◌, ◌≢◌, ◌++◌, ℕ, true, List, [], sym, ap, ◌∙◌, subst, append_assoc}
+use Rattle.std.proofs.Common.{◌≡◌, ◌++◌, ℕ, true, List, [], sym, ap, ◌∙◌, subst, append_assoc}
 use Rattle.farm_disk.specs.declared.disk.Disk as disk
 use Rattle.farm_entry.specs.Legal.{IsLegal}
 use Rattle.farm_entry.specs.declared.entry.Entry.{Entry}
@@ -7,9 +7,6 @@ use Rattle.farm_journal.specs.ReadsOnly.{ReadsOnly}
 use Rattle.farm_script.proofs.Growing.{between-first}
 use Rattle.farm_script.proofs.LegalRuns.{run-legal}
 use Rattle.farm_script.specs.Images.{Rests, StandsBetween}
-use Rattle.farm_script.specs.FarmRule.{farm_rule}
-use Rattle.farm_script.specs.RunEnds.{RunEnds}
-use Rattle.farm_script.specs.StoreFarm.{StoreGrows}
 use Rattle.farm_script.specs.declared.run_end.RunEnd.{RunEnd}
 use Rattle.farm_script.specs.declared.run_end.RunEnd.TheVariants as script
 use Rattle.farm_store.specs.Bytes.{StandsFor}
@@ -52,24 +49,6 @@ ran-opened {D} meant end before after store old new opened ran =
       any_moment = λ tell settled. any_moment-opened (meant.told old) (meant.told store.disk) (meant.told new) P
           (first tell) (opened.only tell) (ran.each (opened.same ∙ tell) (rested tell)) settled;
     }
-
--- a run over a store, by what its history grew to
-pub ran-from_grows : {D : Type 0} (meant : disk.Ghosts D) (end : RunEnd) (before after : Streams) (old new : StoreState D)
-    (left : D) → left ≡ new.disk → StoreGrows meant old new
-    → RunEnds farm_rule end (over_journal before old.history []) (over_journal after new.history new.pending)
-    → (end ≢ script.StoreFault → new.pending ≡ []) → StoreRan meant end before after old left
-ran-from_grows {D} meant end before after old new left is grows ends decided =
-    subst (λ (d : D). StoreRan meant end before after old d) (sym is) (record {
-      last = new.history;
-      pending = new.pending;
-      more = grows.more;
-      longer = grows.longer;
-      ends = ends;
-      decided = decided;
-      same = grows.same;
-      rests = grows.rests;
-      each = grows.each;
-    })
 
 -- what was put of a store that was opened is the text of its journal's history
 pub shown-opened : {D : Type 0} (meant : disk.Ghosts D) (text_of : List Entry → List ℕ) (status : Status)

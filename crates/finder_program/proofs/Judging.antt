@@ -29,11 +29,13 @@ carried P (Err s) status is holds = subst P (sym is) holds
 
 -- what reading an input says of each way to fail
 pub record ReadFails (before after : Streams) (fault : InputFault) : Type 0 where
-  pub at_limit : fault ≡ input.AtLimit → (bytes : List ℕ) × (length bytes ≡ INPUT_LIMIT) × (before.left ≡ prepend_known bytes after.left)
+  pub at_limit : fault ≡ input.AtLimit → (bytes : List ℕ) × (length bytes ≡ INPUT_LIMIT)
+      × (before.left ≡ prepend_known bytes after.left)
   pub rises : fault ≡ input.Failed → Rose before.read_faults after.read_faults
 
 -- nothing was put, where the input was not read
-pub unread : (before after : Streams) (fault : InputFault) → ReadFails before after fault → after.written ≡ before.written →
+pub unread : (before after : Streams) (fault : InputFault) → ReadFails before after fault
+    → after.written ≡ before.written →
     JudgeEnds (status_of_input fault) before after
 unread before after input.Failed fails same = (fails.rises refl, same)
 unread before after input.AtLimit fails same =
@@ -54,18 +56,21 @@ unjudged before after bytes (judge.BadInput line) read bad same = (
 unjudged before after bytes judge.Memory read bad same = λ all told. (0, same ∙ sym (append_known-nil before.written))
 
 -- where nothing fails, they have none only for running out of memory or at a bad line
-pub unjudged_completes : (before after : Streams) (bytes : List ℕ) (fault : JudgeFault) → WasRead before.left after.left bytes →
+pub unjudged_completes : (before after : Streams) (bytes : List ℕ) (fault : JudgeFault)
+    → WasRead before.left after.left bytes →
     ((line : ℕ) → fault ≡ judge.BadInput line → judged bytes ≡ Err line) →
     JudgeCompletes (status_of_judge fault) before after
 unjudged_completes before after bytes (judge.BadInput line) read bad reads writes all told =
     let r = read_whole all bytes _ _ told read.taken read.ended in
-    let M : Result (List ℕ) ℕ → Type 0 = λ j. MatchResult j (λ _. BadInput line ≡ Done) (λ l. BadInput line ≡ BadInput l) in
+    let M : Result (List ℕ) ℕ → Type 0 =
+    λ j. MatchResult j (λ _. BadInput line ≡ Done) (λ l. BadInput line ≡ BadInput l) in
     let answered : M (judged all) = subst M (sym (ap judged r.1 ∙ bad line refl)) refl in
     inr (inl (omega (arith, read.few, ap length r.1), answered))
 unjudged_completes before after bytes judge.Memory read bad reads writes all told = inl refl
 
 -- where the answer was not put whole
-pub unput : (before after : Streams) (bytes text : List ℕ) (fault : PutFault) → WasRead before.left after.left bytes → judged bytes ≡ Ok text →
+pub unput : (before after : Streams) (bytes text : List ℕ) (fault : PutFault) → WasRead before.left after.left bytes
+    → judged bytes ≡ Ok text →
     (fault ≡ put.Failed → Rose before.write_faults after.write_faults) →
     (n : ℕ) × (n < length text) × (after.written ≡ append_known before.written (take n text)) →
     JudgeEnds (status_of_put fault) before after
@@ -77,17 +82,20 @@ unput before after bytes text put.Failed read good rises stopped = (
 )
 unput before after bytes text put.Memory read good rises stopped = λ all told.
     let r = read_whole all bytes _ _ told read.taken read.ended in
-    let P : Result (List ℕ) ℕ → Type 0 = λ j. after.written ≡ append_known before.written (take stopped.0 (text_of j)) in
+    let P : Result (List ℕ) ℕ → Type 0 =
+    λ j. after.written ≡ append_known before.written (take stopped.0 (text_of j)) in
     (stopped.0, subst P (sym (ap judged r.1 ∙ good)) stopped.2)
 
 -- where it was
-pub done : (before after : Streams) (bytes text : List ℕ) → WasRead before.left after.left bytes → judged bytes ≡ Ok text →
+pub done : (before after : Streams) (bytes text : List ℕ) → WasRead before.left after.left bytes
+    → judged bytes ≡ Ok text →
     after.written ≡ append_known before.written text → JudgeEnds Done before after
 done before after bytes text read good written all told =
     let r = read_whole all bytes _ _ told read.taken read.ended in
     (r.0, (text, ap judged r.1 ∙ good, written))
 
-pub done_completes : (before after : Streams) (bytes text : List ℕ) → WasRead before.left after.left bytes → judged bytes ≡ Ok text →
+pub done_completes : (before after : Streams) (bytes text : List ℕ) → WasRead before.left after.left bytes
+    → judged bytes ≡ Ok text →
     JudgeCompletes Done before after
 done_completes before after bytes text read good reads writes all told =
     let r = read_whole all bytes _ _ told read.taken read.ended in

@@ -7,6 +7,7 @@ pub mod Foundings
 pub mod JournalRuns
 pub mod Judging
 pub mod Putting
+pub mod Saying
 pub mod Serving
 pub mod Taken
 pub mod Unread

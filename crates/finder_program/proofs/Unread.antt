@@ -1,21 +1,15 @@
 -- What each command's answers say where memory ran out to read the words.
-use Rattle.std.proofs.Common.{◌≡◌, refl, sym, ℕ}
+use Rattle.std.proofs.Common.{◌≡◌, refl, ℕ}
 use Rattle.farm_types.specs.declared.moment.Moment.{Moment}
 use Rattle.farm_disk.specs.Images.{DiskState}
 use Rattle.farm_journal.proofs.Births.{birth-start, since_sync-none}
 use Rattle.farm_journal.specs.ReadsOnly.{ReadsOnly}
 use Rattle.farm_journal.specs.declared.fault.OpeningFault.TheVariants as fault
-use Rattle.link_io.proofs.Told.{append_known-nil}
-use Rattle.link_io.specs.Streams.{Streams}
 use Rattle.farm_serve.specs.Outside.{DiskSeen, Outside}
 use Rattle.farm_serve.specs.declared.ending.Ending.TheVariants as end
-use Rattle.finder_program.specs.JudgeCommand.{JudgeEnds}
 use Rattle.finder_program.specs.Opening.{IsNotOpened}
 use Rattle.finder_program.specs.ServeCommand.{JournalServeEnds}
 use Rattle.finder_program.specs.declared.status.Status.TheVariants.{Memory}
-
-pub unread-judge : (seen : Streams) → JudgeEnds Memory seen seen
-unread-judge seen = λ all told. (0, sym (append_known-nil seen.written))
 
 reads-nothing : (state : DiskState) → ReadsOnly state state
 reads-nothing state = record {
@@ -31,7 +25,8 @@ unread-not_opened seen disk = (
   record { untouched = refl; cause = λ tells. tt; only = λ tells. reads-nothing disk.told },
 )
 
-pub unread-served : (links : ℕ) (clock : Moment → Type 0) (seen : Outside) → JournalServeEnds links clock Memory seen seen
+pub unread-served : (links : ℕ) (clock : Moment → Type 0) (seen : Outside)
+    → JournalServeEnds links clock Memory seen seen
 unread-served links clock seen = (
   end.NotOpened fault.Memory,
   refl,

@@ -9,7 +9,7 @@ use Rattle.worker_agent.specs.declared.worked.WorkFault.TheVariants as work
 use Rattle.finder_program.specs.Statuses.{status_of_work}
 use Rattle.farm_serve.specs.Outside.{OutputSeen}
 use Rattle.finder_program.specs.TextPut.{TextPut}
-use Rattle.finder_program.specs.WorkCommand.{OutsideSeen, SaysWork, WorkCompletes, WorkEnds, work_line}
+use Rattle.finder_program.specs.WorkCommand.{WorkSeen, SaysWork, WorkCompletes, WorkEnds, work_line}
 use Rattle.finder_program.specs.declared.status.Status.{Status}
 use Rattle.finder_program.specs.declared.status.Status.TheVariants.{Done, WriteFault, NetFault, RunnerFault, Memory, Peer}
 
@@ -40,13 +40,13 @@ put-not_runner text status before after put e =
     at
 
 -- where memory ran out to read the words, nothing was done
-pub unread-work : (worker : List ℕ) (runs : ℕ) (seen : OutsideSeen) (written : OutputSeen) →
+pub unread-work : (worker : List ℕ) (runs : ℕ) (seen : WorkSeen) (written : OutputSeen) →
     WorkEnds worker runs Memory seen seen written written
 unread-work worker runs seen written = record {
   result = Err work.Memory;
   works = record {
     steps = [];
-    cames = [];
+    events = [];
     agent = agent_start runs;
     last = nothing;
     are = refl;
@@ -65,7 +65,7 @@ put-completes text WriteFault before after put calm = absurd (calm put.0)
 put-completes text Memory before after put calm = inl refl
 put-completes text _ before after put calm = absurd put
 
-fault-completes : (fault : WorkFault) (status : Status) (before after : OutsideSeen) → status ≡ status_of_work fault →
+fault-completes : (fault : WorkFault) (status : Status) (before after : WorkSeen) → status ≡ status_of_work fault →
     (status ≡ NetFault → Rose before.network_faults after.network_faults) →
     (status ≡ RunnerFault → Rose before.runner_faults after.runner_faults) →
     ¬ Rose before.network_faults after.network_faults → ¬ Rose before.runner_faults after.runner_faults →
@@ -75,16 +75,19 @@ fault-completes work.RunnerFault status before after is net ran steady calm = ab
 fault-completes (work.Peer answer) status before after is net ran steady calm = inr (inr (answer, is))
 fault-completes work.Memory status before after is net ran steady calm = inl is
 
-says-completes : (result : Result Worked WorkFault) (status : Status) (before after : OutsideSeen) (written now : OutputSeen) →
+says-completes : (result : Result Worked WorkFault) (status : Status) (before after : WorkSeen)
+    (written now : OutputSeen) →
     SaysWork result status written now →
     (status ≡ NetFault → Rose before.network_faults after.network_faults) →
-    (status ≡ RunnerFault → Rose before.runner_faults after.runner_faults) → WorkCompletes status before after written now
+    (status ≡ RunnerFault → Rose before.runner_faults after.runner_faults)
+    → WorkCompletes status before after written now
 says-completes (Ok worked) status before after written now says net ran steady calm quiet =
     put-completes (work_line worked) status written now says quiet
 says-completes (Err fault) status before after written now says net ran steady calm quiet =
     fault-completes fault status before after says.0 net ran steady calm
 
-pub work-completes : (worker : List ℕ) (runs : ℕ) (status : Status) (before after : OutsideSeen) (written now : OutputSeen) →
+pub work-completes : (worker : List ℕ) (runs : ℕ) (status : Status) (before after : WorkSeen)
+    (written now : OutputSeen) →
     WorkEnds worker runs status before after written now → WorkCompletes status before after written now
 work-completes worker runs status before after written now ends =
     says-completes ends.result status before after written now ends.says ends.net_fault ends.runner_fault

@@ -43,3 +43,8 @@ AuditCompletes status before after =
     (status ≡ Memory)
     ⊎ ((length all < INPUT_LIMIT) × (status ≡ Done))
     ⊎ ((INPUT_LIMIT ≤ length all) × (status ≡ InputLimit))
+
+-- what is said of a call: how it ends, and that it does its work
+pub record AuditSays (status : Status) (before after : Streams) : Type 0 where
+  pub ends : AuditEnds status before after
+  pub completes : AuditCompletes status before after

@@ -6,7 +6,7 @@ use Rattle.farm_drill.specs.Drilled.{IsDrilled}
 use Rattle.farm_drill.specs.Line.{drill_line}
 use Rattle.farm_serve.specs.Outside.{OutputSeen}
 use Rattle.finder_program.specs.TextPut.{TextPut}
-use Rattle.finder_program.specs.Unread.{IsUnread}
+use Rattle.finder_program.specs.RanOut.{RanOut}
 use Rattle.finder_program.specs.declared.status.Status.{Status}
 use Rattle.finder_program.specs.declared.status.Status.TheVariants.{Done, Memory}
 
@@ -18,8 +18,13 @@ pub record DrillPut (searches : ℕ) (status : Status) (before after : OutputSee
 
 -- what a status says: memory ran out before anything was put, or the line was put as the status says
 abbrev pub DrillEnds : (searches : ℕ) → Status → OutputSeen → OutputSeen → Type 0
-DrillEnds searches status before after = IsUnread status before after ⊎ DrillPut searches status before after
+DrillEnds searches status before after = RanOut status before after ⊎ DrillPut searches status before after
 
 -- where the output doesn't fail and memory is there, the line is put whole
 abbrev pub DrillCompletes : Status → OutputSeen → OutputSeen → Type 0
 DrillCompletes status before after = ¬ Rose before.faults after.faults → (status ≡ Memory) ⊎ (status ≡ Done)
+
+-- what is said of a call: how it ends, and that it does its work
+pub record DrillSays (searches : ℕ) (status : Status) (before after : OutputSeen) : Type 0 where
+  pub ends : DrillEnds searches status before after
+  pub completes : DrillCompletes status before after

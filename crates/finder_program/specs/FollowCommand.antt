@@ -89,3 +89,8 @@ FollowCompletes status old new =
     → (history : List Entry) → Shows history old.disk.told.bytes
     → (status ≡ Memory) ⊎ (status ≡ Done) ⊎ ((place : ℕ) × (status ≡ Foreign place))
     ⊎ ((answer : ℕ) × (status ≡ Peer answer))
+
+-- what is said of a call: how it ends, and that it does its work
+pub record FollowSays (rounds : ℕ) (status : Status) (old new : Outside) : Type 0 where
+  pub ends : FollowEnds rounds status old new
+  pub completes : FollowCompletes status old new

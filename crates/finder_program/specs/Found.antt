@@ -1,5 +1,4 @@
 -- What the subcommand `found JOURNAL LEASE_MS DAILY ZONE` does.
-use Rattle.std.specs.Option.{ForSome}
 use Rattle.std.specs.Prelude.{◌≡◌, ◌⊎◌, ℕ, ℤ, true, false, List, [], codes}
 use Rattle.farm_disk.specs.Images.{EachImage, LeavesOnly, LeavesSinceSync}
 use Rattle.farm_entry.specs.Settings.{settings_daily, settings_lease_ms, settings_zone_minutes}
@@ -12,9 +11,9 @@ use Rattle.farm_store.specs.Founded.{IsRefusedBy, IsUnbornOrFounding, founding}
 use Rattle.farm_store.specs.State.{IsStored}
 use Rattle.farm_types.specs.declared.moment.Moment.{Moment}
 use Rattle.fault_types.specs.Counts.{Rose}
-use Rattle.link_io.specs.declared.clock.Clock as clock
 use Rattle.farm_serve.specs.Outside.{DiskSeen, OutputSeen}
 use Rattle.finder_program.specs.TextPut.{TextPut}
+use Rattle.finder_program.specs.RanOut.{RanOut}
 use Rattle.finder_program.specs.declared.status.Status.{Status}
 use Rattle.finder_program.specs.declared.status.Status.TheVariants.{Done, StoreFault, AlreadyBorn, Memory}
 
@@ -62,12 +61,11 @@ pub record FoundLeaves (settings : Settings) (at : Moment) (old new : DiskSeen) 
   pub any_moment : old.tells ≡ true → is_unborn old.told.bytes ≡ true → EachImage old.told.steps IsUnborn
       → LeavesOnly old.told new.told (IsUnbornOrFounding settings at)
 
--- a journal is founded with these settings at a moment that the clock showed, or why it is not
-abbrev pub JournalFoundEnds : {C : Type 0} → clock.Ghosts C → C → Settings → Status → OutputSeen → OutputSeen → DiskSeen
+-- a journal is founded with these settings at a moment that the clock may give, or why it is not
+abbrev pub JournalFoundEnds : (clock : Moment → Type 0) → Settings → Status → OutputSeen → OutputSeen → DiskSeen
     → DiskSeen → Type 0
-JournalFoundEnds meant clock settings status before after old new =
-    (at : Moment) × meant.shows clock at × ForSome (meant.told clock) (λ told. at ≡ told)
-    × FoundEnds settings at status before after old new × FoundLeaves settings at old new
+JournalFoundEnds clock settings status before after old new =
+    (at : Moment) × clock at × FoundEnds settings at status before after old new × FoundLeaves settings at old new
 
 -- where neither the disk nor the output fails and memory is there, a journal is founded on an unborn disk, and one that
 -- is there already is told
@@ -76,3 +74,12 @@ FoundCompletes status before after old new =
     ¬ Rose before.faults after.faults → ¬ Rose old.faults new.faults → old.tells ≡ true
     → (status ≡ Memory) ⊎ ((is_unborn old.told.bytes ≡ true) × (status ≡ Done))
     ⊎ ((is_unborn old.told.bytes ≡ false) × (status ≡ AlreadyBorn))
+
+-- What is said of a call whose words have these numbers: memory ran out as they were read, or a journal was to be
+-- founded with settings that have them; and that it does its work.
+pub record FoundSays (lease_ms daily : ℕ) (zone_minutes : ℤ) (clock : Moment → Type 0) (status : Status)
+    (before after : OutputSeen) (old new : DiskSeen) : Type 0 where
+  pub ends : RanOut {V = OutputSeen × DiskSeen} status (before, old) (after, new)
+      ⊎ ((settings : Settings) × HasNumbers settings lease_ms daily zone_minutes
+      × JournalFoundEnds clock settings status before after old new)
+  pub completes : FoundCompletes status before after old new

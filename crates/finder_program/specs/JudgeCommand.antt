@@ -50,3 +50,8 @@ JudgeCompletes status before after =
     (status ≡ Memory)
     ⊎ ((length all < INPUT_LIMIT) × MatchResult (judged all) (λ _. status ≡ Done) (λ line. status ≡ BadInput line))
     ⊎ ((INPUT_LIMIT ≤ length all) × (status ≡ InputLimit))
+
+-- what is said of a call: how it ends, and that it does its work
+pub record JudgeSays (status : Status) (before after : Streams) : Type 0 where
+  pub ends : JudgeEnds status before after
+  pub completes : JudgeCompletes status before after

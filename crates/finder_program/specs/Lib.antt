@@ -13,5 +13,7 @@ pub mod ServeCommand
 pub mod Show
 pub mod RatesCommand
 pub mod Found
-pub mod Unread
+pub mod RanOut
 pub mod WorkCommand
+pub mod World
+pub mod FinderSays

@@ -14,3 +14,8 @@ RatesEnds status before after old new =
 -- where neither the disk nor the output fails and memory is there, the lines of a journal that holds a history are put
 abbrev pub RatesCompletes : Status → OutputSeen → OutputSeen → DiskSeen → DiskSeen → Type 0
 RatesCompletes = ShowCompletes
+
+-- what is said of a call: how it ends, and that it does its work
+pub record RatesSays (status : Status) (before after : OutputSeen) (old new : DiskSeen) : Type 0 where
+  pub ends : RatesEnds status before after old new
+  pub completes : RatesCompletes status before after old new

@@ -1,5 +1,5 @@
 -- What the subcommand `run` does, over a farm in memory.
-use Rattle.std.specs.Prelude.{◌≡◌, Option, Some, None}
+use Rattle.std.specs.Prelude.{◌≡◌, ◌⊎◌, Option, Some, None}
 use Rattle.farm_types.specs.Moment.{moment_ms}
 use Rattle.farm_types.specs.declared.moment.Moment.{Moment}
 use Rattle.farm_types.specs.declared.moment.TheConstants.{MOMENT_MIN_MS}
@@ -9,6 +9,7 @@ use Rattle.farm_script.specs.FoundedRun.{FoundedRunCompletes, FoundedRunEnds}
 use Rattle.farm_script.specs.declared.run_end.RunEnd.{RunEnd}
 use Rattle.farm_script.specs.declared.run_end.RunEnd.TheVariants as script
 use Rattle.link_io.specs.Streams.{Streams}
+use Rattle.finder_program.specs.RanOut.{RanOut}
 use Rattle.finder_program.specs.declared.memory_farm.TheConstants.{MEMORY_DAILY, MEMORY_LEASE_MS, MEMORY_ZONE_MINUTES}
 use Rattle.finder_program.specs.declared.status.Status.{Status}
 use Rattle.finder_program.specs.declared.status.Status.TheVariants.{Done, ReadFault, WriteFault, Memory, InputLimit}
@@ -40,3 +41,8 @@ MemoryRunEnds status before after =
 abbrev pub MemoryRunCompletes : Status → Streams → Streams → Type 0
 MemoryRunCompletes status before after =
     (end : RunEnd) × (script_end status ≡ Some end) × FoundedRunCompletes end before after
+
+-- what is said of a call: memory ran out as the words were read, or the script was run; and that it does its work
+pub record MemoryRunSays (status : Status) (before after : Streams) : Type 0 where
+  pub ends : RanOut status before after ⊎ MemoryRunEnds status before after
+  pub completes : MemoryRunCompletes status before after

@@ -89,3 +89,8 @@ JournalRunCompletes status before after old new =
     → (all : List ℕ) → before.left ≡ Some all
     → (status ≡ Memory) ⊎ ((length all < INPUT_LIMIT) × (status ≡ Done))
     ⊎ ((INPUT_LIMIT ≤ length all) × (status ≡ InputLimit))
+
+-- what is said of a call: how it ends, and that it does its work
+pub record JournalRunSays (status : Status) (before after : Streams) (old new : DiskSeen) : Type 0 where
+  pub ends : JournalRunEnds status before after old new
+  pub completes : JournalRunCompletes status before after old new

@@ -34,3 +34,8 @@ JournalServeCompletes status old new =
     → ¬ Rose old.disk.faults new.disk.faults → old.disk.tells ≡ true
     → (history : List Entry) → StandsFor history old.disk.told.bytes
     → (status ≡ Memory) ⊎ (status ≡ Done)
+
+-- what is said of a call: how it ends, and that it does its work
+pub record ServeSays (links : ℕ) (clock : Moment → Type 0) (status : Status) (old new : Outside) : Type 0 where
+  pub ends : JournalServeEnds links clock status old new
+  pub completes : JournalServeCompletes status old new

@@ -14,7 +14,8 @@ use Rattle.finder_program.specs.declared.status.Status.TheVariants.{Done, Memory
 
 -- The journal held a history, of which a text was put, and its disk was only read. The history is legal, whether the
 -- disk tells what it holds or not
-pub record JournalShown (text_of : List Entry → List ℕ) (status : Status) (before after : OutputSeen) (old new : DiskSeen) : Type 0 where
+pub record JournalShown (text_of : List Entry → List ℕ) (status : Status) (before after : OutputSeen)
+    (old new : DiskSeen) : Type 0 where
   pub history : List Entry
   pub held : old.tells ≡ true → StandsFor history old.told.bytes
   pub legal : IsLegal history
@@ -32,3 +33,8 @@ ShowCompletes status before after old new =
     ¬ Rose before.faults after.faults → ¬ Rose old.faults new.faults → old.tells ≡ true
     → (history : List Entry) → StandsFor history old.told.bytes
     → (status ≡ Memory) ⊎ (status ≡ Done)
+
+-- what is said of a call: how it ends, and that it does its work
+pub record ShowSays (status : Status) (before after : OutputSeen) (old new : DiskSeen) : Type 0 where
+  pub ends : ShowEnds status before after old new
+  pub completes : ShowCompletes status before after old new

@@ -16,13 +16,13 @@ use Rattle.finder_program.specs.declared.status.Status.TheVariants.{Done, NetFau
 
 -- what is seen of the network, the runner and the source of keys: what they have told, and how often the first two
 -- failed
-pub record OutsideSeen : Type 0 where
+pub record WorkSeen : Type 0 where
   pub told : Told
   pub network_faults : ℕ
   pub runner_faults : ℕ
 
-abbrev pub outside_seen : Option (List NetworkEvent) → ℕ → Option (List Asked) → ℕ → Option (List Key) → OutsideSeen
-outside_seen network network_faults runner runner_faults keys = record {
+abbrev pub work_seen : Option (List NetworkEvent) → ℕ → Option (List Asked) → ℕ → Option (List Key) → WorkSeen
+work_seen network network_faults runner runner_faults keys = record {
   told = record { network = network; runner = runner; keys = keys };
   network_faults = network_faults;
   runner_faults = runner_faults;
@@ -47,7 +47,8 @@ SaysWork (Err fault) status before after = (status ≡ status_of_work fault) × 
 
 -- The work of a worker of this name that is to take so many leases, and what was written of it. A fault of the network
 -- or the runner is answered only where it failed in this call
-pub record WorkEnds (worker : List ℕ) (runs : ℕ) (status : Status) (before after : OutsideSeen) (written now : OutputSeen) : Type 0 where
+pub record WorkEnds (worker : List ℕ) (runs : ℕ) (status : Status) (before after : WorkSeen)
+    (written now : OutputSeen) : Type 0 where
   pub result : Result Worked WorkFault
   pub works : Works worker runs before.told after.told result
   pub says : SaysWork result status written now
@@ -56,7 +57,13 @@ pub record WorkEnds (worker : List ℕ) (runs : ℕ) (status : Status) (before a
 
 -- where nothing fails and memory is there, the work comes to its end, or the service's answers are none that it goes
 -- on with
-abbrev pub WorkCompletes : Status → (before after : OutsideSeen) → (written now : OutputSeen) → Type 0
+abbrev pub WorkCompletes : Status → (before after : WorkSeen) → (written now : OutputSeen) → Type 0
 WorkCompletes status before after written now =
     ¬ Rose before.network_faults after.network_faults → ¬ Rose before.runner_faults after.runner_faults →
     ¬ Rose written.faults now.faults → (status ≡ Memory) ⊎ (status ≡ Done) ⊎ ((answer : ℕ) × (status ≡ Peer answer))
+
+-- what is said of a call: how it ends, and that it does its work
+pub record WorkSays (worker : List ℕ) (runs : ℕ) (status : Status) (before after : WorkSeen)
+    (written now : OutputSeen) : Type 0 where
+  pub ends : WorkEnds worker runs status before after written now
+  pub completes : WorkCompletes status before after written now

@@ -1,6 +1,7 @@
 //! The subcommand `found JOURNAL LEASE_MS DAILY ZONE`.
 
 ghost use Rattle.std.specs.Prelude.{◌≡◌, ◌≤◌};
+ghost use Rattle.connection_laws.specs.Moments.{MayGive};
 ghost use Rattle.farm_serve.specs.Outside.{disk_seen, output_seen};
 ghost use Rattle.finder_program.specs.Disks.{HasStoreCause};
 ghost use Rattle.finder_program.specs.Found.{JournalFoundEnds, status_of_creating};
@@ -24,7 +25,7 @@ pub fn found_command<K: Sink, D: Disk, C: Clock>(
     disk: D,
     clock: &C,
 ) -> (Status, D)
-    ensures ends { JournalFoundEnds C.Clock clock.now settings result.0
+    ensures ends { JournalFoundEnds (MayGive C.Clock clock.now) settings result.0
         (output_seen K.Sink output.old) (output_seen K.Sink output.new)
         (disk_seen D.Disk disk) (disk_seen D.Disk result.1) }
     ensures cause { HasStoreCause result.0 (disk_seen D.Disk disk) (disk_seen D.Disk result.1) }

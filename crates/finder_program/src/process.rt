@@ -21,9 +21,9 @@ const EXCHANGE_MS: u64 = 60_000;
 
 /// Runs the subcommand that the process's words name over the real input, output, disk, clock, network, runner and
 /// keys, and ends with the status of that. `threads` is the same runtime, as `main` has it: the threads of the process.
-/// Where the subcommand did not do its work, the status's text is the one line on standard error, but for a handler of a
-/// service that can't be started, which is told of as it happens; what can't be written there is lost. A standard stream that the process began without stays one that can be neither read nor written,
-/// whatever is opened meanwhile.
+/// Where the subcommand did not do its work, the status's text is the one line on standard error, but for a handler of
+/// a service that can't be started, which is told of as it happens; what can't be written there is lost. A standard
+/// stream that the process began without stays one that can be neither read nor written, whatever is opened meanwhile.
 ///
 /// The adapters over standard input and output, over the journal's file, over TCP, over the machine's clock and over
 /// its random bytes are the trusted edge: no contract says which bytes the system or a peer gives, takes or keeps,

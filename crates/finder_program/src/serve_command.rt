@@ -42,11 +42,13 @@ where
     N::End: Send,
     requires { 0 < handlers }
     ensures ends { JournalServeEnds links (MayGive C.Clock clock.now) result.0
-        (outside (network_seen (N.told network) (N.count network)) (output_seen K.Sink output.old) (disk_seen D.Disk disk))
+        (outside (network_seen (N.told network) (N.count network)) (output_seen K.Sink output.old)
+        (disk_seen D.Disk disk))
         (outside (network_seen (N.told result.2) (N.count result.2)) (output_seen K.Sink output.new)
         (disk_seen D.Disk result.1)) }
     ensures completes { JournalServeCompletes result.0
-        (outside (network_seen (N.told network) (N.count network)) (output_seen K.Sink output.old) (disk_seen D.Disk disk))
+        (outside (network_seen (N.told network) (N.count network)) (output_seen K.Sink output.old)
+        (disk_seen D.Disk disk))
         (outside (network_seen (N.told result.2) (N.count result.2)) (output_seen K.Sink output.new)
         (disk_seen D.Disk result.1)) }
     ensures cause { HasStoreCause result.0 (disk_seen D.Disk disk) (disk_seen D.Disk result.1) }

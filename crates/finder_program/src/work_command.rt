@@ -3,7 +3,7 @@
 ghost use Rattle.std.specs.Prelude.{◌≡◌, ◌≤◌};
 ghost use Rattle.farm_serve.specs.Outside.{output_seen};
 ghost use Rattle.finder_program.specs.TextPut.{TextPut};
-ghost use Rattle.finder_program.specs.WorkCommand.{WorkCompletes, WorkEnds, outside_seen, work_line};
+ghost use Rattle.finder_program.specs.WorkCommand.{WorkCompletes, WorkEnds, work_seen, work_line};
 
 use crate::put_text::put_text;
 use crate::status::Status;
@@ -25,14 +25,14 @@ pub fn work_command<K: Sink, N: Network, R: Runner, Q: KeySource>(
     runs: u32,
 ) -> Status
     requires { 1 ≤ runs }
-    ensures ends { let before = outside_seen (N.told network.old) (N.count network.old)
+    ensures ends { let before = work_seen (N.told network.old) (N.count network.old)
         (R.told runner.old) (R.count runner.old) (Q.told keys.old) in
-        let after = outside_seen (N.told network.new) (N.count network.new)
+        let after = work_seen (N.told network.new) (N.count network.new)
         (R.told runner.new) (R.count runner.new) (Q.told keys.new) in
         WorkEnds worker.now runs result before after (output_seen K.Sink output.old) (output_seen K.Sink output.new) }
-    ensures completes { let before = outside_seen (N.told network.old) (N.count network.old)
+    ensures completes { let before = work_seen (N.told network.old) (N.count network.old)
         (R.told runner.old) (R.count runner.old) (Q.told keys.old) in
-        let after = outside_seen (N.told network.new) (N.count network.new)
+        let after = work_seen (N.told network.new) (N.count network.new)
         (R.told runner.new) (R.count runner.new) (Q.told keys.new) in
         WorkCompletes result before after (output_seen K.Sink output.old) (output_seen K.Sink output.new) }
     ensures network_count { N.count network.old ≤ N.count network.new }

@@ -172,6 +172,21 @@ uses_input (Some rates) = false
 uses_input (Some (drill searches workers)) = false
 uses_input (Some (follow rounds)) = false
 
+-- whether it uses a disk
+abbrev pub uses_disk : Option Asked → Bool
+uses_disk None = false
+uses_disk (Some judge) = false
+uses_disk (Some run) = false
+uses_disk (Some (found lease_ms daily zone)) = true
+uses_disk (Some show) = true
+uses_disk (Some run_journal) = true
+uses_disk (Some audit) = false
+uses_disk (Some (serve handlers links)) = true
+uses_disk (Some (work worker runs)) = false
+uses_disk (Some rates) = true
+uses_disk (Some (drill searches workers)) = false
+uses_disk (Some (follow rounds)) = true
+
 -- whether it uses the network
 abbrev pub uses_network : Option Asked → Bool
 uses_network None = false

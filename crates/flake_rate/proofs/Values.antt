@@ -16,14 +16,8 @@ use Rattle.flake_rate.specs.declared.rate.Rate.{Rate}
 pub rate-in_limits : (rate : Rate) → IsRate (rate_numerator rate) (rate_denominator rate)
 rate-in_limits rate = rate.in_limits
 
-pub rate-lowest_terms : (rate : Rate) → gcd (rate_numerator rate) (rate_denominator rate) ≡ 1
-rate-lowest_terms rate = rate.lowest_terms
-
 pub miss-in_limits : (miss : Miss) → IsMiss (miss_numerator miss) (miss_denominator miss)
 miss-in_limits miss = miss.in_limits
-
-pub miss-lowest_terms : (miss : Miss) → gcd (miss_numerator miss) (miss_denominator miss) ≡ 1
-miss-lowest_terms miss = miss.lowest_terms
 
 pub bar-in_limits : (bar : Bar) → IsBar (bar_numerator bar) (bar_denominator bar)
 bar-in_limits bar = bar.in_limits

@@ -147,13 +147,6 @@ pub record IsSound (w : World) : Type 0 where
   pub begins : Begins w.leader w.follower
   pub pages : ArePagesOf w.leader w.pages
 
-same-sound : (w next : World) → IsSound w → next.leader ≡ w.leader → next.follower ≡ w.follower → next.pages ≡ w.pages →
-    IsSound next
-same-sound w next s a b c = record {
-  begins = subst (λ (l : List Entry). Begins l next.follower) (sym a) (subst (λ (h : Held). Begins w.leader h) (sym b) s.begins);
-  pages = subst (λ (l : List Entry). ArePagesOf l next.pages) (sym a) (subst (λ (ps : List Page). ArePagesOf w.leader ps) (sym c) s.pages);
-}
-
 reopened-sound : (w : World) (H : List Entry) → IsSound w → IsPrefix H w.leader → IsSound (reopened w H)
 reopened-sound w H s p = record {
   begins = subst (λ (l : List Entry). IsPrefix l w.leader) (sym (append-nil H)) p;

@@ -1,11 +1,11 @@
 -- Texts that are put one after the other.
-use Rattle.std.proofs.Common.{ℕ, Option, ◌≡◌, ◌+◌, ◌<◌, ◌≤◌, List, [], ◌∷◌, ◌++◌, length, take, drop, get_or, sym, ap, ◌∙◌, append_assoc, append-nil, length-append, arith}
+use Rattle.std.proofs.Common.{ℕ, Option, ◌≡◌, ◌+◌, ◌<◌, List, [], ◌∷◌, ◌++◌, length, take, drop, get_or, sym, ap, ◌∙◌, append_assoc, append-nil, length-append, arith}
 use Rattle.std.specs.Borrow.{Bor}
 use Rattle.std.specs.Io.KnownBytes.{append_known}
 use Rattle.link_io.proofs.Told.{append_known-append}
 use Rattle.std.proofs.Math.Seq.{take-append-add}
 use Rattle.std.proofs.lemmas.Grind.{flat_map-append}
-use Rattle.std.proofs.lemmas.List.{take_more, take-append-drop, take-append-le, take_all}
+use Rattle.std.proofs.lemmas.List.{take_more, take-append-drop, take-append-le}
 use Rattle.http_answers.specs.Pieces.{joined}
 
 abbrev text : Bor (List ℕ) → List ℕ
@@ -44,10 +44,6 @@ joined-front pieces i n d inside within =
           ∙ sym (take-append-add before (piece ++ behind) n)
           ∙ ap (take (length before + n)) (sym whole);
     }
-
--- all pieces
-pub joined-all : (pieces : List (Bor (List ℕ))) (i : ℕ) → length pieces ≤ i → joined (take i pieces) ≡ joined pieces
-joined-all pieces i past = ap joined (take_all i pieces past)
 
 -- what was put when a piece stopped: a front of the whole
 pub stopped-front : (pieces : List (Bor (List ℕ))) (i n : ℕ) (d : Bor (List ℕ)) (first mid last : Option (List ℕ)) → i < length pieces

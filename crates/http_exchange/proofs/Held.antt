@@ -1,19 +1,16 @@
 -- What is held of the bytes that were taken, and what they come to.
-use Rattle.std.proofs.Common.{◌≡◌, ◌+◌, ◌<◌, ◌≤◌, ◌↔◌, ℕ, Bool, true, false, List, [], ◌++◌, ◌-◌, length, take, drop, slice_range, Result, IfOk, IfErr, OnOk, Ok, Err, refl, sym, ap, subst, ◌∙◌, inl, inr, append_assoc, append-nil, length-append, length-drop, arith}
-use Rattle.http_responses.specs.Reading.{IsBefore, IsUnfinished, Says}
+use Rattle.std.proofs.Common.{◌≡◌, ◌+◌, ◌<◌, ◌≤◌, ◌↔◌, ℕ, Bool, true, false, List, [], ◌++◌, ◌-◌, length, take, drop, slice_range, Result, IfOk, IfErr, OnOk, Ok, Err, sym, ap, subst, ◌∙◌, inl, inr, append_assoc, append-nil, length-append, length-drop, arith}
+use Rattle.http_responses.specs.Reading.{IsUnfinished, Says}
 use Rattle.http_responses.specs.Whole.{IsWhole}
 use Rattle.http_responses.specs.declared.progress.Progress.TheVariants as progress
 use Rattle.http_responses.specs.declared.progress.Response.{Response}
 use Rattle.link_io.specs.declared.source.TheConstants.{PIECE}
 use Rattle.std.proofs.lemmas.List.{length-take-le, take-append-drop}
-use Rattle.http_exchange.specs.Received.{IsHeld, IsOver, IsTaken, ReceivedBytes, TakesUntil, nothing_received}
+use Rattle.http_exchange.specs.Received.{IsHeld, IsOver, IsTaken, ReceivedBytes, TakesUntil}
 use Rattle.http_exchange.specs.Responses.{ComesTo, HasJustCome, HasNone, IsBroken}
 use Rattle.http_exchange.specs.declared.response.NoResponse.{NoResponse}
 use Rattle.http_exchange.specs.declared.response.NoResponse.TheVariants.{Broken, Failed, Memory}
 use Rattle.http_exchange.specs.declared.response.Response as made
-
-pub held-first : IsHeld [] nothing_received
-held-first = record { taken = refl; same = λ more status body. ((λ (w : IsWhole more status body). w), (λ (w : IsWhole more status body). w)) }
 
 -- a response at the front is the same in both lists
 same-now : (bytes : List ℕ) (r : ReceivedBytes) → IsHeld bytes r → (status : ℕ) (body : List ℕ) → IsWhole bytes status body ↔ IsWhole r.held status body
@@ -21,19 +18,6 @@ same-now bytes r held status body =
     subst (λ (l : List ℕ). IsWhole l status body ↔ IsWhole r.held status body) (append-nil bytes)
     (subst (λ (l : List ℕ). IsWhole (bytes ++ []) status body ↔ IsWhole l status body) (append-nil r.held)
     (held.same [] status body))
-
--- an interim response is passed over
-pub held-past : (bytes : List ℕ) (r : ReceivedBytes) (size : ℕ) → IsHeld bytes r → IsBefore r.held size →
-    IsHeld bytes (record r { held = drop size r.held })
-held-past bytes r size held before = record {
-  taken = held.taken;
-  same = λ more status body.
-      let one = held.same more status body in
-      let two = before.same more status body in (
-        (λ (w : IsWhole (bytes ++ more) status body). two.0 (one.0 w)),
-        (λ (w : IsWhole (drop size r.held ++ more) status body). one.1 (two.1 w)),
-      );
-}
 
 -- more is taken
 pub held-on : (bytes : List ℕ) (r s : ReceivedBytes) (piece : List ℕ) → IsHeld bytes r → IsTaken r s piece → IsHeld (bytes ++ piece) s
@@ -85,10 +69,6 @@ comes-fault bytes r s piece size ended Failed held waits takes = none-yet bytes 
 comes-fault bytes r s piece size ended Broken held waits takes = absurd takes
 comes-fault bytes r s piece size ended Memory held waits takes = tt
 
--- the measure of the loop: what may be taken counts twice
-pub less-past : (size : ℕ) (held : List ℕ) → 1 ≤ size → size ≤ length held → length (drop size held) < length held
-less-past size held some within = simp length-drop (omega arith)
-
 pub held-until : (bytes : List ℕ) (r s : ReceivedBytes) (piece : List ℕ) (size : ℕ) (ended : Bool) → IsHeld bytes r →
     TakesUntil size r s piece ended (Ok true) → IsHeld (bytes ++ piece) s
 held-until bytes r s piece size ended held takes = held-on bytes r s piece held takes.0
@@ -101,10 +81,6 @@ comes-made bytes ended (Ok response) status body status_is body_is short whole =
     (subst (λ (l : List ℕ). IsWhole bytes status l) (sym body_is) whole)
 comes-made bytes ended (Err none) status body status_is body_is short whole =
     subst (λ (x : NoResponse). ComesTo bytes ended (Err x)) (sym short) tt
-
--- nothing was taken yet
-pub just-first : HasJustCome []
-just-first = record { before = []; last = []; is = refl; few = omega arith; none = inl refl }
 
 -- the last piece that was taken made a response whole
 pub just-until : (bytes : List ℕ) (r s : ReceivedBytes) (piece : List ℕ) (size : ℕ) (ended : Bool) → IsHeld bytes r →

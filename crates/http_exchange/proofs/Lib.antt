@@ -1,3 +1,4 @@
 pub mod Takes
 pub mod Held
 pub mod Outcomes
+pub mod Sendings

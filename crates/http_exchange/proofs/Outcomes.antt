@@ -1,5 +1,5 @@
 -- What an exchange tells, and what it is answered by.
-use Rattle.std.proofs.Common.{◌≡◌, ℕ, Bool, List, [], ◌∷◌, take, drop, Option, Some, None, Result, Ok, Err, IfOk, OnOk, IfSome, IsErrOf, refl, sym, ap, subst, ◌∙◌, append-nil, arith}
+use Rattle.std.proofs.Common.{◌≡◌, ℕ, Bool, List, [], ◌∷◌, take, drop, Option, Some, None, Result, Ok, Err, IfOk, OnOk, IfSome, IsErrOf, refl, sym, ap, subst, ◌∙◌, inl, inr, append-nil, arith}
 use Rattle.std.proofs.lemmas.List.{take-append-drop}
 use Rattle.std.specs.Io.KnownBytes.{append_known}
 use Rattle.fault_types.specs.Counts.{Rose}
@@ -29,8 +29,8 @@ prefix-take n xs = (drop n xs, sym (take-append-drop n xs))
 
 pub asked-unput : (request sent : List ℕ) (ended : Bool) (f : PutFault) → IsPrefix sent request →
     AskedOver request sent [] ended (Err (unput f))
-asked-unput request sent ended put_fault.Failed front = front
-asked-unput request sent ended put_fault.Memory front = front
+asked-unput request sent ended put_fault.Failed front = inr (front, refl)
+asked-unput request sent ended put_fault.Memory front = inr (front, refl)
 
 -- a link that was fresh, as it is told once it is taken back
 pub over-told : (told : Option (List NetworkEvent)) (before after : LinkState) (sent taken : List ℕ) →
@@ -48,21 +48,17 @@ over-told (Some events) before after sent taken fresh put_is taken_is =
     one ∙ ap (λ (o : Option (List ℕ)). let s : LinkState = record after { taken = Some taken; put = o } in s) put_now in
     ap (λ (s : LinkState). Some (returned s ∷ events)) two
 
-prefix-same : (sent request : List ℕ) → sent ≡ request → IsPrefix sent request
-prefix-same sent request same = ([], sym same ∙ sym (append-nil sent))
-
 pub answered-by : (request sent taken : List ℕ) (ended : Bool) (count : ℕ) (answer : Result Response NoResponse)
     (result : Result Exchanged Memory) → AskedOver request sent taken ended answer → IsOutcome answer count result →
     (IsErrOf answer no_response.Failed → Rose 0 count) →
     AnsweredBy request (talked (record { taken = taken; put = sent; ended = ended; count = count })) result
 answered-by request sent taken ended count (Ok response) (Ok (Answered given)) asked is rises =
     (is.0, asked.0, subst (λ (r : Response). IsWhole taken r.status r.body) (sym is.1) asked.1)
-answered-by request sent taken ended count (Ok response) (Ok Failed) asked is rises = (is, prefix-same sent request asked.0)
+answered-by request sent taken ended count (Ok response) (Ok Failed) asked is rises = (is, inl asked.0)
 answered-by request sent taken ended count (Ok response) (Ok Broken) asked is rises = absurd is
 answered-by request sent taken ended count (Ok response) (Err memory) asked is rises = absurd is
 answered-by request sent taken ended count (Err no_response.Broken) (Ok (Answered given)) asked is rises = absurd is
-answered-by request sent taken ended count (Err no_response.Broken) (Ok Failed) asked is rises =
-    (is, prefix-same sent request asked.0)
+answered-by request sent taken ended count (Err no_response.Broken) (Ok Failed) asked is rises = (is, inl asked.0)
 answered-by request sent taken ended count (Err no_response.Broken) (Ok Broken) asked is rises = (is, asked.0, asked.1)
 answered-by request sent taken ended count (Err no_response.Broken) (Err memory) asked is rises = absurd is
 answered-by request sent taken ended count (Err no_response.Failed) (Ok (Answered given)) asked is rises = absurd is

@@ -1,13 +1,10 @@
 -- Takes one after the other.
-use Rattle.std.proofs.Common.{◌≡◌, ◌+◌, ℕ, List, [], ◌++◌, length, Bool, false, Option, Ok, Err, ◌<◌, inl, sym, ap, ◌∙◌, append_assoc, append-nil, length-append, arith}
+use Rattle.std.proofs.Common.{◌≡◌, ◌+◌, ℕ, List, [], ◌++◌, length, Bool, Option, Err, ◌<◌, sym, ap, ◌∙◌, append_assoc, append-nil, length-append, arith}
 use Rattle.std.specs.Io.KnownBytes.{append_known}
 use Rattle.link_io.proofs.Told.{append_known-append, append_known-nil}
 use Rattle.http_exchange.specs.Received.{IsTaken, ReceivedBytes, Takes, TakesUntil}
 use Rattle.http_exchange.specs.declared.response.NoResponse.{NoResponse}
 use Rattle.http_exchange.specs.declared.response.NoResponse.TheVariants.{Broken, Failed, Memory}
-
-pub taken-none : (r : ReceivedBytes) → IsTaken r r []
-taken-none r = record { held = sym (append-nil r.held); taken = omega arith }
 
 pub taken-on : (a b c : ReceivedBytes) (first second : List ℕ) → IsTaken a b first → IsTaken b c second → IsTaken a c (first ++ second)
 taken-on a b c first second one two = record {
@@ -40,8 +37,3 @@ until-err size a b c first second ended Failed before few takes =
     (taken-on a b c first second before takes.0, still-few size b c second takes.0 takes.1 few)
 until-err size a b c first second ended Broken before few takes = absurd takes
 until-err size a b c first second ended Memory before few takes = tt
-
-pub until-end : (size : ℕ) (a b c : ReceivedBytes) (first second : List ℕ) (ended : Bool) → IsTaken a b first →
-    length b.held < size → Takes b c second ended (Ok false) → TakesUntil size a c (first ++ second) ended (Ok false)
-until-end size a b c first second ended before few takes =
-    (taken-on a b c first second before takes.0, still-few size b c second takes.0 takes.1 few, inl takes.2)

@@ -1,5 +1,5 @@
 -- A request and what became of it, over a connection of its own.
-use Rattle.std.specs.Prelude.{◌≡◌, ◌≤◌, ℕ, Bool, List, [], ◌∷◌, Option, Some, Result, Ok, Err, ⊤}
+use Rattle.std.specs.Prelude.{◌≡◌, ◌≤◌, ◌⊎◌, ℕ, Bool, List, [], ◌∷◌, Option, Some, Result, Ok, Err, ⊤}
 use Rattle.fault_types.specs.declared.memory.Memory.{Memory}
 use Rattle.http_responses.specs.Whole.{IsWhole}
 use Rattle.link_io.specs.Links.{LinkState}
@@ -39,17 +39,27 @@ abbrev pub tell_all : {A : Type 0} → List A → Option (List A) → Option (Li
 tell_all [] told = told
 tell_all (thing ∷ things) told = tell_all things (add_told thing told)
 
+-- a request is put before a response to it is taken: the whole request was put; or a prefix of it, and nothing was
+-- taken
+abbrev pub IsPutFirst : (request put taken : List ℕ) → Type 0
+IsPutFirst request put taken = (put ≡ request) ⊎ (IsPrefix put request × (taken ≡ []))
+
+-- the same of an exchange
+abbrev pub IsPut : (request : List ℕ) → Exchange → Type 0
+IsPut request unconnected = ⊤
+IsPut request (talked t) = IsPutFirst request t.put t.taken
+
 -- What an exchange is answered by. A response is whole, of a connection that never failed. Else the connection failed,
 -- or was never made; or the whole request was put, and the other end sent no whole response. Unless a connection
--- failed, or memory ran out, the whole request was put
+-- failed, or memory ran out, the whole request was put; and nothing is taken before it was
 abbrev pub AnsweredBy : (request : List ℕ) → Exchange → Result Exchanged Memory → Type 0
 AnsweredBy request unconnected (Ok Failed) = ⊤
 AnsweredBy request unconnected answer = ⊥
 AnsweredBy request (talked t) (Ok (Answered response)) =
     (t.count ≡ 0) × (t.put ≡ request) × IsWhole t.taken response.status response.body
-AnsweredBy request (talked t) (Ok Failed) = (1 ≤ t.count) × IsPrefix t.put request
+AnsweredBy request (talked t) (Ok Failed) = (1 ≤ t.count) × IsPutFirst request t.put t.taken
 AnsweredBy request (talked t) (Ok Broken) = (t.count ≡ 0) × (t.put ≡ request) × IsBroken t.taken t.ended
-AnsweredBy request (talked t) (Err memory) = IsPrefix t.put request
+AnsweredBy request (talked t) (Err memory) = IsPutFirst request t.put t.taken
 
 -- what holds where a whole response was answered
 abbrev pub IfAnswered : Exchanged → Type 0 → Type 0
@@ -61,8 +71,8 @@ IfAnswered Broken P = ⊤
 abbrev pub AskedOver : (request sent taken : List ℕ) → (ended : Bool) → Result Response NoResponse → Type 0
 AskedOver request sent taken ended (Ok response) = (sent ≡ request) × IsWhole taken response.status response.body
 AskedOver request sent taken ended (Err no_response.Broken) = (sent ≡ request) × IsBroken taken ended
-AskedOver request sent taken ended (Err no_response.Failed) = IsPrefix sent request
-AskedOver request sent taken ended (Err no_response.Memory) = IsPrefix sent request
+AskedOver request sent taken ended (Err no_response.Failed) = IsPutFirst request sent taken
+AskedOver request sent taken ended (Err no_response.Memory) = IsPutFirst request sent taken
 
 -- what is answered for a response, or for none, where the connection failed so often
 abbrev pub IsOutcome : Result Response NoResponse → (count : ℕ) → Result Exchanged Memory → Type 0

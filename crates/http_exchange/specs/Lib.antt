@@ -1,3 +1,6 @@
 pub mod Received
 pub mod Responses
 pub mod Exchanges
+pub mod Requests
+pub mod Statuses
+pub mod Sending

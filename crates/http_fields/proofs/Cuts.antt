@@ -1,8 +1,8 @@
 -- The parts of a list that is cut at its first element which passes a test.
-use Rattle.std.proofs.Common.{ℕ, zero, suc, ◌≡◌, ◌+◌, ◌==◌, Bool, true, false, not, cond, List, [], ◌∷◌, length, take, drop, Option, Some, None, MatchOption, refl, sym, subst, arith, nat_lt}
+use Rattle.std.proofs.Common.{ℕ, ◌≡◌, ◌+◌, Bool, true, false, not, cond, List, [], ◌∷◌, length, take, drop, Option, Some, None, MatchOption, refl, sym, subst, arith, nat_lt}
 use Rattle.std.specs.Borrow.{Bor}
-use Rattle.std.specs.List.{position, position_or_len, slice_split, onto_first}
-use Rattle.std.proofs.lemmas.Bool.{ltb-true, ltb-false, lt-ltb, le-ltb, eqb-true, not-true, false≢true}
+use Rattle.std.specs.List.{position, position_or_len, slice_split}
+use Rattle.std.proofs.lemmas.Bool.{ltb-true, ltb-false, not-true, false≢true}
 use Rattle.std.proofs.lemmas.List.Splits.{slice_split_first, slice_split_none}
 use Rattle.std.proofs.lemmas.List.Sums.{prefix_len_passes}
 use Rattle.std.proofs.lemmas.Option.{none-some, same_Some}
@@ -29,42 +29,7 @@ slice_split-whole p xs none =
     let far = ltb-false _ _ (chosen_none (nat_lt (position_or_len p xs) (length xs)) (position_or_len p xs) none) in
     slice_split_none p xs (λ k d inside. not-true _ (prefix_len_passes (λ x. not (p x)) xs k d (omega (arith, far, inside))))
 
-onto_first-some : {X : Type 0} (x : X) (parts : List (List X))
-    → (part : List X) × (rest : List (List X)) × (onto_first x parts ≡ part ∷ rest)
-onto_first-some x [] = (x ∷ [], [], refl)
-onto_first-some x (part ∷ parts) = (x ∷ part, parts, refl)
-
--- there is always a first part
-pub slice_split-some : {X : Type 0} (p : X → Bool) (xs : List X)
-    → (part : List X) × (rest : List (List X)) × (slice_split p xs ≡ part ∷ rest)
-slice_split-some p [] = ([], [], refl)
-slice_split-some {X} p (x ∷ xs) =
-    elim (p x) as (λ v. (part : List X) × (rest : List (List X)) × (cond v ([] ∷ slice_split p xs) (onto_first x (slice_split p xs)) ≡ part ∷ rest)) [
-      | true ↦ ([], slice_split p xs, refl)
-      | false ↦ onto_first-some x (slice_split p xs)
-    ]
-
 -- ---- what a cut gives: the first part, and the rest where there is one
 
 abbrev pub CutTo : (ℕ → Bool) → Option (Bor (List ℕ)) → List (List ℕ) → List ℕ → Type 0
 CutTo ends r parts part = MatchOption r (parts ≡ part ∷ []) (λ rest. parts ≡ part ∷ slice_split ends rest.now)
-
-pub cut-first : (ends : ℕ → Bool) (r : Option (Bor (List ℕ))) (parts : List (List ℕ)) (part : List ℕ) → CutTo ends r parts part
-    → (rest : List (List ℕ)) × (parts ≡ part ∷ rest)
-cut-first ends None parts part is = ([], is)
-cut-first ends (Some rest) parts part is = (slice_split ends rest.now, is)
-
-pub cut-whole : (ends : ℕ → Bool) (r : Option (Bor (List ℕ))) (parts : List (List ℕ)) (part : List ℕ) → CutTo ends r parts part
-    → r ≡ None → parts ≡ part ∷ []
-cut-whole ends r parts part is none = subst (λ (o : Option (Bor (List ℕ))). CutTo ends o parts part) none is
-
-pub cut-rest : (ends : ℕ → Bool) (r : Option (Bor (List ℕ))) (rest : Bor (List ℕ)) (parts : List (List ℕ)) (part : List ℕ) → CutTo ends r parts part
-    → r ≡ Some rest → parts ≡ part ∷ slice_split ends rest.now
-cut-rest ends r rest parts part is some = subst (λ (o : Option (Bor (List ℕ))). CutTo ends o parts part) some is
-
-pub empty-none : (n : ℕ) → (n == 0) ≡ true → nat_lt 0 n ≡ false
-empty-none n none = le-ltb 0 n (omega (arith, eqb-true n 0 none))
-
-pub some-byte : (n : ℕ) → (n == 0) ≡ false → nat_lt 0 n ≡ true
-some-byte zero some = absurd (false≢true (sym some))
-some-byte (suc n) some = lt-ltb 0 (suc n) (omega arith)

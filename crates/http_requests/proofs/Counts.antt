@@ -1,15 +1,13 @@
 -- How many bytes are looked at.
-use Rattle.std.proofs.Common.{ℕ, ◌≡◌, ◌*◌, ◌<◌, ◌≤◌, true, false, List, [], ◌++◌, take, drop, sym, ap, ◌∙◌, append-nil, arith, ⊎_elim}
-use Rattle.std.specs.Prelude.{◌==◌}
-use Rattle.std.proofs.lemmas.Bool.{false≢true, cases_Bool, cases_lt, cond-false, ne_eqb}
+use Rattle.std.proofs.Common.{ℕ, ◌≡◌, ◌<◌, ◌≤◌, true, false, List, [], ◌++◌, take, drop, sym, ap, ◌∙◌, append-nil, arith, ⊎_elim}
+use Rattle.std.proofs.lemmas.Bool.{false≢true, cases_Bool, cases_lt}
 use Rattle.std.proofs.lemmas.List.{take-append-le, take_all, take-append-drop, take-take}
 use Rattle.httparse.specs.Grammar.{RequestHead, print_request}
-use Rattle.http_requests.specs.Costs.{head_room, most}
+use Rattle.http_requests.specs.Costs.{head_room}
 use Rattle.http_requests.specs.Items.{HasHead, head_size}
 use Rattle.http_requests.specs.Places.{is_end, place_of}
 use Rattle.http_requests.specs.Readings.{IsBodyAwaited}
 use Rattle.http_requests.specs.declared.next.Next.TheVariants as next
-use Rattle.http_requests.specs.declared.reading.Reading.{Reading}
 use Rattle.http_requests.specs.declared.request.Request.{Request}
 use Rattle.http_words.specs.declared.limits.TheConstants.{MAX_HEAD_BYTES}
 use Rattle.http_requests.proofs.Heads.{HasHead-size, head_size-some}
@@ -45,12 +43,6 @@ first-head held count head has first =
     absurd (false≢true (sym (first size short) ∙ head-ends (take size held) head [] (has.reads.0, front))))
     (λ (long : count ≤ size). long)
     (cases_lt size count)
-
--- a request that takes bytes
-pub whole-most : (held : List ℕ) (reading : Reading) (request : Request) → 0 < request.size
-    → most held reading (next.Request request) ≡ 4 * request.body
-whole-most held reading request some =
-    cond-false (request.size == 0) (4 * head_room held) (4 * request.body) (ne_eqb request.size 0 (λ none. omega (arith, none, some)))
 
 -- the head of an awaited body is held, and has bytes
 pub awaited-room : (request : Request) (held : List ℕ) → IsBodyAwaited request held → (request.body ≤ head_room held) × (0 < request.size)

@@ -93,9 +93,6 @@ pub record IsReadTo (bytes rest : List ℕ) : Type 0 where
   pub opens : Opens bytes items
   pub left : behind bytes items ≡ rest
 
-pub read-nothing : (bytes : List ℕ) → IsReadTo bytes bytes
-read-nothing bytes = record { items = []; opens = tt; left = refl }
-
 -- one item more, that doesn't close
 pub read-more : (bytes rest : List ℕ) (item : Item) → IsReadTo bytes rest → IsNext rest item → item.closes ≡ false → IsReadTo bytes (drop item.size rest)
 read-more bytes rest item so_far next stays = record {

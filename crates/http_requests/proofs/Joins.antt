@@ -4,7 +4,7 @@ use Rattle.std.specs.Prelude.{◌||◌, ◌==◌, bytes_eq}
 use Rattle.std.specs.List.{All, list_any}
 use Rattle.std.specs.Char.{to_ascii_lowercase}
 use Rattle.std.proofs.Math.Bool.{or-false, or-true}
-use Rattle.std.proofs.lemmas.Bool.{cases_Bool, eqb-false, false≢true, ltb-false, lt-ltb, ne_eqb}
+use Rattle.std.proofs.lemmas.Bool.{cases_Bool, eqb-false, false≢true, ltb-false, lt-ltb}
 use Rattle.std.proofs.lemmas.List.{length-map}
 use Rattle.std.proofs.lemmas.Slice.Eq.{bytes_eq-Decides}
 use Rattle.std.proofs.lemmas.List.Elements.{All-tail}
@@ -17,7 +17,7 @@ use Rattle.http_fields.specs.declared.lengths.StatedLength.{StatedLength}
 use Rattle.http_fields.specs.declared.lengths.StatedLength.TheVariants.{Absent, Bytes, TooLong, Malformed}
 use Rattle.httparse.specs.Spans.{IsHeaderWithin, header_bytes}
 use Rattle.httparse.specs.declared.spans.HeaderSpan.{HeaderSpan}
-use Rattle.http_requests.specs.Facts.{IsAsked, facts_of, is_once, joined, seen_both, seen_of, stated_again, stated_both, with_field}
+use Rattle.http_requests.specs.Facts.{IsAsked, facts_of, joined, seen_both, seen_of, stated_again, stated_both, with_field}
 use Rattle.http_requests.specs.declared.facts.Asked.{Asked}
 use Rattle.http_requests.specs.declared.facts.Asked.TheVariants as asked
 use Rattle.http_requests.specs.declared.facts.Facts.{Facts}
@@ -209,15 +209,6 @@ facts-on facts f fields all is =
     joined-assoc facts (facts_of (f ∷ [])) (facts_of fields) ∙ ap (joined facts) (sym (facts-cons f fields)) ∙ is
 
 -- ---- what the facts say
-
-once-is : (n : ℕ) → is_once (seen_of n) ≡ (n == 1)
-once-is zero = refl
-once-is (suc zero) = refl
-once-is (suc (suc n)) = sym (ne_eqb (suc (suc n)) 1 (λ same. omega (arith, same)))
-
-pub host-once : (facts : Facts) (fields : List FieldText) → facts ≡ facts_of fields
-    → is_once facts.hosts ≡ (length (named_values (codes "host") fields) == 1)
-host-once facts fields is = ap (λ (f : Facts). is_once f.hosts) is ∙ once-is (length (named_values (codes "host") fields))
 
 stated_by-within : (malformed long : Bool) (n : ℕ) → (long ≡ false → n ≤ MAX_BODY_BYTES) → StatesWithin (stated_by malformed long n)
 stated_by-within true long n fits = tt

@@ -3,12 +3,10 @@ use Rattle.std.proofs.Common.{ℕ, ◌≡◌, ◌+◌, ◌-◌, ◌*◌, ◌<◌
 use Rattle.std.specs.List.{list_all}
 use Rattle.std.proofs.Math.Seq.{take-append-add}
 use Rattle.std.proofs.lemmas.Bool.{false≢true, cases_Bool, and_parts}
-use Rattle.std.proofs.lemmas.List.{take-append-le, take_all, take-append-drop, length-map, length-take, take-take}
+use Rattle.std.proofs.lemmas.List.{take-append-le, take_all, take-append-drop, length-take, take-take}
 use Rattle.std.proofs.lemmas.List.Folds.{list_all-append}
 use Rattle.httparse.specs.Grammar.{RequestHead, ReadsRequest, HasNoRequest, MayBecomeRequest, print_request}
-use Rattle.httparse.specs.Spans.{RequestOverflows, IsRequestAt, header_bytes, name_and_value}
-use Rattle.httparse.specs.declared.spans.HeaderSpan.{HeaderSpan}
-use Rattle.httparse.specs.declared.spans.RequestSpans.{RequestSpans}
+use Rattle.httparse.specs.Spans.{RequestOverflows}
 use Rattle.httparse.proofs.GrammarLemmas.{ReadsRequest-append}
 use Rattle.http_requests.specs.Items.{HasHead, IsIdle, head_size, is_line_end}
 use Rattle.http_requests.specs.Looks.{IsLook, IsLookThrough, IsTried, feeds}
@@ -120,15 +118,6 @@ pub whole-HasHead : (bytes : List ℕ) (parts : Head) → length bytes ≤ MAX_H
 whole-HasHead bytes parts few at =
     let all : bytes ≡ take (length bytes) bytes = sym (take_all (length bytes) bytes (omega arith)) in
     front-HasHead bytes (length bytes) at.head at.rest few (subst (λ (l : List ℕ). ReadsRequest l at.head at.rest) all at.reads) at.few_fields
-
--- how many fields the parser found
-pub found-few : (bytes : List ℕ) (spans : List HeaderSpan) (found : RequestSpans) (head : RequestHead) → length spans ≤ MAX_FIELDS
-    → IsRequestAt bytes spans found head → length head.fields ≤ MAX_FIELDS
-found-few bytes spans found head room at =
-    let number = ap length at.fields in
-    let covered = length-map (take found.headers spans) (header_bytes bytes) in
-    let named = length-map head.fields name_and_value in
-    omega (arith, number, covered, named, length-take found.headers spans, room)
 
 -- all bytes were looked at
 pub through-lines : (look : Look) (held : List ℕ) → IsLookThrough look held → length held ≤ MAX_HEAD_BYTES → feeds held ≤ look.lines

@@ -88,11 +88,6 @@ line-first at bytes d count some open_ begins first zero below = open_
 line-first at bytes d count some open_ begins first (suc n) below =
     ap is_end (sym (line-begins at bytes d (suc n) some begins (omega arith))) ∙ first (suc n) below
 
--- one byte
-pub place_from-one : (at : Place) (bytes : List ℕ) (d : ℕ) → 0 < length bytes → place_from at (take 1 bytes) ≡ place_behind at (get_or bytes 0 d)
-place_from-one at [] d some = absurd (omega (arith, some))
-place_from-one at (b ∷ bytes) d some = refl
-
 -- the bytes up to some place with the next ones
 pub place_of-add : (bytes : List ℕ) (count room m : ℕ) → m ≤ room
     → place_of (take (count + m) bytes) ≡ place_from (place_of (take count bytes)) (take m (take room (drop count bytes)))

@@ -1,6 +1,6 @@
 //! The text of each reply that answers a request.
 
-ghost use Rattle.farm_wire.specs.Replies.{HasDates};
+ghost use Rattle.farm_laws.specs.Days.{HasDays};
 
 use crate::pages::{
     print_log, print_no_orders, print_order, print_page, print_posted, print_totals,
@@ -16,7 +16,7 @@ use weight_exact::Verdict;
 
 /// Prints the text of a reply.
 pub(crate) fn print_reply(rt: &impl Print, alloc: Global, reply: &Reply) -> io::Result<()>
-    requires { HasDates reply.now }
+    requires { HasDays reply.now }
 {
     print_text(rt, reply_text(alloc, reply))
 }

@@ -1,6 +1,6 @@
 -- Entries that were admitted one after the other, up to one that was not.
 use Rattle.std.proofs.Common.{◌≡◌, ◌≢◌, ℕ, ◌+◌, ◌-◌, ◌<◌, List, [], ◌∷◌, ◌++◌, length, take, drop, get_or, refl, sym, ◌∙◌, ap, subst, arith, append_assoc}
-use Rattle.std.proofs.lemmas.List.{length-append, take_more, take-append-drop, take_at}
+use Rattle.std.proofs.lemmas.List.{length-append, take_more, take-append-drop}
 use Rattle.std.proofs.Math.Seq.{drop-cons}
 use Rattle.std.proofs.Math.Numerals.{add-one}
 use Rattle.farm_core.specs.FarmFaults.{IsUnfit}
@@ -15,11 +15,6 @@ use Rattle.journal_follow.specs.Admitted.{IsHalted, IsStuckAt}
 pub legal-may : (H : List Entry) → IsLegal H → MayBeHeld H
 legal-may [] legal = tt
 legal-may (e ∷ more) legal = legal
-
--- what may be held is legal, where it has an entry
-pub may-legal : (H : List Entry) → H ≢ [] → MayBeHeld H → IsLegal H
-may-legal [] some may = absurd (some refl)
-may-legal (e ∷ more) some may = may
 
 -- with an entry more it is
 pub may-pushed : (H : List Entry) (e : Entry) → MayBeHeld (H ++ e ∷ []) → IsLegal (H ++ e ∷ [])
@@ -104,16 +99,3 @@ stuck-first e more misfit = record {
   fits = tt;
   misfit = misfit;
 }
-
--- what was added can be taken back
-pub halted-back : (H xs K : List Entry) (fault : AdmitFault) → IsHalted H xs K fault → IsLegal H
-    → (length K - length H < length K) × (length K - (length K - length H) ≡ length H) × (take (length H) K ≡ H)
-halted-back [] xs K fault halted legal = absurd legal
-halted-back (e ∷ H) xs K fault halted legal =
-    let size = length-append (e ∷ H) halted.before in
-    let long = ap length halted.added in (
-      omega (arith, size, long),
-      omega (arith, size, long),
-      ap (λ (l : List Entry). take (length (e ∷ H)) l) halted.added
-          ∙ take_at (e ∷ H) halted.before (length (e ∷ H)) refl,
-    )

@@ -18,11 +18,10 @@ use Rattle.journal_follow.specs.Rounds.{GoesOn, IsLast, RoundSays}
 use Rattle.journal_follow.specs.Shown.{IsKept, Shows, ShowsBetween, ShowsDecided, ShowsLeft}
 use Rattle.journal_follow.specs.declared.fault.FollowFault.{FollowFault}
 use Rattle.journal_follow.specs.declared.fault.FollowFault.TheVariants as fault
-use Rattle.journal_follow.specs.Taken.{Answers, HasCause, HasCauseWithin}
+use Rattle.journal_follow.specs.Taken.{Answers}
 use Rattle.journal_follow.specs.declared.following.Followed.{Followed}
 use Rattle.journal_follow.specs.declared.following.Went.{Went}
 use Rattle.journal_follow.specs.declared.following.Went.TheVariants.{On, Whole}
-use Rattle.fault_types.specs.Counts.{Rose}
 
 -- Lists.
 
@@ -328,15 +327,6 @@ later-at : (start now next H : List Entry) (P : Type 0) → IsPrefix now next �
 later-at start now next H P more (inl p) = inl (IsPrefix-trans H now next p more)
 later-at start now next H P more (inr other) = inr other
 
-pub shows-later : (start now next : Held) (bytes : List ℕ) → IsPrefix now.history next.history
-    → ShowsGone start now bytes → ShowsGone start next bytes
-shows-later start now next bytes more shows = (
-  shows.0,
-  shows.1,
-  later-at start.history now.history next.history shows.0 (shows.0 ≡ start.history ++ start.pending) more shows.2,
-  shows.3,
-)
-
 -- the same of the history that is held with what is pending
 pub gone-between : (start now next : Held) (bytes : List ℕ) → IsPrefix now.history next.history
     → ShowsGone start now bytes → ShowsBetween start next bytes
@@ -469,15 +459,3 @@ all-grows start now next reached more =
 pub goes-none : (compared n : ℕ) (now next : Held) (before after : Option (List NetworkEvent))
     → GoesOn compared now next before after n → next.pending ≡ []
 goes-none compared n now next before after goes = goes.takes.5
-
-pub cause-within : {T : Type 0} (r : Result T FollowFault) (first mid last : ℕ) → first ≤ mid → HasCause r mid last
-    → HasCauseWithin r first last
-cause-within (Ok x) first mid last low cause = tt
-cause-within (Err (fault.StoreFault a b)) first mid last low cause =
-    (omega (arith, cause.0, low), cause.1, subst (λ (n : ℕ). Rose n b) (sym cause.0) (subst (λ (n : ℕ). Rose mid n) (sym cause.1) cause.2))
-cause-within (Err (fault.Gap a b)) first mid last low cause = tt
-cause-within (Err (fault.Foreign a)) first mid last low cause = tt
-cause-within (Err (fault.Damaged a)) first mid last low cause = tt
-cause-within (Err fault.NetFault) first mid last low cause = tt
-cause-within (Err (fault.Peer a)) first mid last low cause = tt
-cause-within (Err fault.Memory) first mid last low cause = tt

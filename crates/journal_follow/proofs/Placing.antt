@@ -221,10 +221,6 @@ unopened-repair opening.Memory before found is = subst IsOfRepair (some-same fau
 
 -- Creating.
 
--- a disk that was looked at since
-pub sound-unborn : (disk : DiskState) → IsSound disk → EachImage disk.steps IsUnborn → IsUnborn disk.bytes
-sound-unborn disk sound each = each disk.bytes sound.image
-
 pub rested-unborn : (disk now : DiskState) → now ≡ rested disk → IsSound disk → EachImage disk.steps IsUnborn
     → IsUnbornDisk now
 rested-unborn disk now is sound each = subst IsUnbornDisk (sym is) (record {

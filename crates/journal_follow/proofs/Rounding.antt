@@ -1,5 +1,5 @@
 -- From an ask and what is done with its page to what a round comes to.
-use Rattle.std.proofs.Common.{◌≡◌, ◌≢◌, ◌≤◌, ◌+◌, ◌++◌, inl, inr, ℕ, List, [], length, Option, refl, sym, ◌∙◌, ap, subst, arith}
+use Rattle.std.proofs.Common.{◌≡◌, ◌≢◌, ◌≤◌, ◌+◌, ◌++◌, inl, ℕ, List, [], length, Option, refl, sym, ◌∙◌, ap, subst, arith}
 use Rattle.std.specs.Prelude.{Result, Ok, Err}
 use Rattle.farm_entry.specs.declared.entry.Entry.{Entry}
 use Rattle.farm_entry.specs.declared.limits.TheConstants.{MAX_ENTRIES}
@@ -77,27 +77,6 @@ round-ended compared held before after page (Err f) comes none ended =
       last = answered r.round;
       tells = r.tells;
       ends = (r.is, omega arith, inl (refl, r.page_is ∙ none, ended.0, ended.1));
-    }
-
--- it was not taken
-pub round-missed : (compared : ℕ) (old new : Held) (before after : Option (List NetworkEvent)) (page : List Entry)
-    (f : FollowFault) → AskComesTo (compared + 1) before after (Ok page) → page ≢ [] → (came : Came)
-    → Answers came (Err f) → Takes came (compared + 1) page old new → RoundSays compared old new before after (Err f)
-round-missed compared old new before after page f comes some came answers takes =
-    let r = asked-page compared before after page comes in
-    record {
-      last = answered r.round;
-      tells = r.tells;
-      ends = (
-        r.is,
-        omega arith,
-        inr (
-          λ none. some (sym r.page_is ∙ none),
-          came,
-          subst (λ (l : List Entry). Takes came (compared + 1) l old new) (sym r.page_is) takes,
-          answers,
-        ),
-      );
     }
 
 stored-came : (compared : ℕ) (old new : Held) (page : List Entry) (came : Came) (n : ℕ) → Answers came (Ok n)

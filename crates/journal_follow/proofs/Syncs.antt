@@ -6,13 +6,11 @@ use Rattle.farm_disk.specs.Answers.{after_sync, rested}
 use Rattle.farm_disk.specs.Images.{DiskState, EachImage, IsSettled, LeavesOnly, sync}
 use Rattle.farm_disk.proofs.Moments.{leaves_only-now, leaves_only-rested, leaves_only-start, leaves_only-step, leaves_only-trans, leaves_only-weaker, settled-sync, since_sync-run}
 use Rattle.farm_journal.specs.ReadsOnly.{ReadsOnly}
-use Rattle.farm_journal.specs.Layout.{Opening}
-use Rattle.farm_journal.specs.Opened.{Misses, OpeningCause}
 use Rattle.farm_journal.specs.declared.fault.OpeningFault.{OpeningFault}
 use Rattle.farm_journal.specs.declared.fault.OpeningFault.TheVariants as opening
 use Rattle.farm_journal.proofs.OpeningSteps.{reads-none, reads-rested}
 use Rattle.fault_types.specs.Counts.{Rose, last_count}
-use Rattle.journal_follow.specs.Settled.{OnNoFault, SyncsAndReads, fault_since}
+use Rattle.journal_follow.specs.Settled.{OnNoFault, SyncsAndReads}
 
 -- no sync was done
 pub only-failed : (old new : DiskState) → new ≡ rested old → ReadsOnly old new
@@ -21,13 +19,6 @@ only-failed old new is = reads-rested old old new (reads-none old) is
 pub moment-failed : (old new : DiskState) → new ≡ rested old → (P : List ℕ → Type 0) → EachImage old.steps P
     → LeavesOnly old new P
 moment-failed old new is P each = leaves_only-rested old old new P (leaves_only-start old P each) is
-
--- what opening found is what it found, from earlier on too
-pub misses-since : (o : Opening) (before : ℕ) (f : OpeningFault) → Misses o f → Misses o (fault_since before f)
-misses-since o before opening.Unborn missed = missed
-misses-since o before (opening.Damaged at) missed = missed
-misses-since o before (opening.StoreFault first after) missed = missed
-misses-since o before opening.Memory missed = missed
 
 pub no_fault : (A B : Type 0) (disk : B) (f : OpeningFault) (P : Type 0) → P → OnNoFault {A = A} (Err (disk, f)) P
 no_fault A B disk opening.Unborn P held = held
@@ -51,14 +42,6 @@ rose-later first before now low (inr stands) = ⊎_elim
 pub rose-on : (first mid now : ℕ) → mid ≤ now → now ≤ last_count → Rose first mid → Rose first now
 rose-on first mid now more most (inl rose) = inl (omega arith)
 rose-on first mid now more most (inr stands) = let both : now ≡ last_count = omega arith in inr (stands.0, both)
-
-pub cause-since : (first mid last : ℕ) (f : OpeningFault) → first ≤ mid → OpeningCause f mid last
-    → OpeningCause (fault_since first f) first last
-cause-since first mid last opening.Unborn low cause = tt
-cause-since first mid last (opening.Damaged at) low cause = tt
-cause-since first mid last (opening.StoreFault before after) low cause =
-    (refl, cause.1, rose-later first mid last low cause.2)
-cause-since first mid last opening.Memory low cause = tt
 
 module _ (old mid new : DiskState) (is : mid ≡ after_sync old) (reads : ReadsOnly mid new) where
   steps : mid.steps ≡ sync old.bytes ∷ old.steps

@@ -1,5 +1,5 @@
 -- From a page beside a history to what taking it comes to.
-use Rattle.std.proofs.Common.{◌≡◌, ◌≢◌, inl, inr, ⊎_elim, ◌<◌, ◌≤◌, ◌+◌, ◌-◌, ℕ, zero, suc, Bool, true, true≢false, List, [], ◌∷◌, ◌++◌, length, take, drop, get_or, refl, sym, ◌∙◌, ap, subst, arith, append_assoc}
+use Rattle.std.proofs.Common.{◌≡◌, ◌≢◌, inl, inr, ⊎_elim, ◌<◌, ◌≤◌, ◌+◌, ◌-◌, ℕ, zero, suc, Bool, true≢false, List, [], ◌∷◌, ◌++◌, length, take, drop, get_or, refl, sym, ◌∙◌, ap, subst, arith, append_assoc}
 use Rattle.std.specs.Prelude.{Result, Ok, Err, Some, None, min, slice_get, Option}
 use Rattle.std.proofs.lemmas.Bool.{cases_lt}
 use Rattle.std.proofs.lemmas.List.{append-nil, length-append, length-drop, length-take-le, take-append-drop, take_all, take_at, take_more}
@@ -12,7 +12,7 @@ use Rattle.follow_law.specs.Page.{GoesWith, IsForeignAt, MayBeHeld, entries_past
 use Rattle.follow_law.specs.Taking.{Came, Held, IsDecided, Takes, foreign, gap, stored, undecided, unrepaired, unstored}
 use Rattle.journal_follow.specs.Admitted.{IsStuckAt}
 use Rattle.journal_follow.specs.Inside.{HasCountFrom, IsPast, IsRefused, Repairs, Stores}
-use Rattle.journal_follow.specs.Taken.{Answers, HasCause, IsSoundly}
+use Rattle.journal_follow.specs.Taken.{Answers, HasCause}
 use Rattle.journal_follow.specs.declared.fault.FollowFault.{FollowFault}
 use Rattle.journal_follow.specs.declared.fault.FollowFault.TheVariants as fault
 use Rattle.journal_follow.proofs.Admissions.{split-at}
@@ -283,17 +283,6 @@ module _ (from : ℕ) (page past : List Entry) (old : Held) (one : 1 ≤ from) (
   came-missed tells place new (fault.Gap a b) at more stores = absurd stores
   came-missed tells place new fault.NetFault at more stores = absurd stores
   came-missed tells place new (fault.Peer s) at more stores = absurd stores
-
--- storing finds no damage on a disk that tells
-pub stores-sound : (T : Type 0) (tells : Bool) (place : ℕ) (past H : List Entry) (new : Held) (f : FollowFault)
-    → Stores tells place past H (Err f) new → tells ≡ true → IsSoundly {T = T} (Err f)
-stores-sound T tells place past H new (fault.Damaged o) stores t = true≢false (sym t ∙ stores.0)
-stores-sound T tells place past H new (fault.Foreign p) stores t = tt
-stores-sound T tells place past H new (fault.StoreFault a b) stores t = tt
-stores-sound T tells place past H new fault.Memory stores t = tt
-stores-sound T tells place past H new (fault.Gap a b) stores t = tt
-stores-sound T tells place past H new fault.NetFault stores t = tt
-stores-sound T tells place past H new (fault.Peer s) stores t = tt
 
 -- After a repair.
 

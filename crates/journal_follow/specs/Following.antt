@@ -3,14 +3,15 @@ use Rattle.std.specs.Prelude.{◌≡◌, ◌≢◌, ◌<◌, ◌⊎◌, ◌+◌,
 use Rattle.std.specs.List.{flat_map}
 use Rattle.farm_entry.specs.declared.entry.Entry.{Entry}
 use Rattle.follow_law.specs.Taking.{Came, Held, Takes, stored}
-use Rattle.http_exchange.specs.Exchanges.{Exchange, exchange_events, talked, tell_all, unconnected}
-use Rattle.http_exchange.specs.declared.connection.Exchanged.TheVariants.{Failed}
-use Rattle.list_prefix.specs.Prefix.{IsPrefix}
+use Rattle.http_exchange.specs.Exchanges.{Exchange, IsPut, exchange_events, tell_all}
+use Rattle.http_exchange.specs.Sending.{AreLost, IsTry, Try, sent_of, told_tries, told_try}
+use Rattle.http_exchange.specs.declared.response.Response.{Response}
+use Rattle.http_exchange.specs.declared.sending.Lost.TheVariants as lost_by
+use Rattle.http_exchange.specs.declared.sending.Sent.TheVariants.{Lost}
+use Rattle.http_exchange.specs.declared.sending.TheConstants.{MAX_TRIES}
 use Rattle.net_io.specs.Events.{NetworkEvent}
-use Rattle.journal_follow.specs.Asks.{AreLost, ComesTo, Try, ask_request}
+use Rattle.journal_follow.specs.Asks.{IsAnswered, Reads, ask_request}
 use Rattle.journal_follow.specs.Taken.{Answers}
-use Rattle.journal_follow.specs.declared.asking.TheConstants.{TRIES}
-use Rattle.journal_follow.specs.declared.answer.Said.TheVariants as say
 use Rattle.journal_follow.specs.declared.fault.FollowFault.{FollowFault}
 use Rattle.journal_follow.specs.declared.fault.FollowFault.TheVariants.{Foreign, Gap, Memory, NetFault, Peer}
 use Rattle.journal_follow.specs.declared.following.Followed.{Followed}
@@ -23,9 +24,11 @@ pub record Round : Type 0 where
 
 -- a round that asks for the entries from this one on
 pub record IsRound (from : ℕ) (r : Round) : Type 0 where
-  pub few : length r.lost < TRIES
-  pub were_lost : AreLost from r.lost
-  pub comes : ComesTo from r.answered (say.Page r.page)
+  pub few : length r.lost < MAX_TRIES
+  pub were_lost : AreLost (ask_request from) r.lost
+  pub response : Response
+  pub answers : IsAnswered from r.answered response
+  pub reads : Reads from response (Ok r.page)
 
 -- how many entries are compared once the pages of these rounds were
 abbrev pub compared_after : ℕ → List Round → ℕ
@@ -53,13 +56,6 @@ pub data Last : Type 0 where
   unanswered : List Try → Try → Last
   cut_off : List Try → Option Exchange → Last
 
-abbrev pub told_try : Try → Option (List NetworkEvent) → Option (List NetworkEvent)
-told_try t told = tell_all (exchange_events t.exchange) told
-
-abbrev pub told_tries : List Try → Option (List NetworkEvent) → Option (List NetworkEvent)
-told_tries [] told = told
-told_tries (t ∷ more) told = told_tries more (told_try t told)
-
 abbrev pub told_round : Round → Option (List NetworkEvent) → Option (List NetworkEvent)
 told_round r told = told_try r.answered (told_tries r.lost told)
 
@@ -77,19 +73,19 @@ told_last (answered r) told = told_round r told
 told_last (unanswered lost t) told = told_try t (told_tries lost told)
 told_last (cut_off lost x) told = told_exchange x (told_tries lost told)
 
--- an ask was put, or a prefix of it
-abbrev pub IsPut : (request : List ℕ) → Option Exchange → Type 0
-IsPut request None = ⊤
-IsPut request (Some unconnected) = ⊤
-IsPut request (Some (talked t)) = IsPrefix t.put request
+-- an ask was put, or a prefix of it, or it was not made
+abbrev pub WasPut : (request : List ℕ) → Option Exchange → Type 0
+WasPut request None = ⊤
+WasPut request (Some x) = IsPut request x
 
 -- The last try came to no page, and the ask isn't sent again: something else was answered, or the last of all tries was
 -- lost, by a fault of the network where it met one.
 abbrev pub GivesUp : (from : ℕ) → List Try → Try → FollowFault → Type 0
 GivesUp from lost t (Peer status) =
-    ComesTo from t (say.Other status)
-    ⊎ ((length lost + 1 ≡ TRIES) × ComesTo from t (say.Lost status) × (t.answer ≢ Failed))
-GivesUp from lost t NetFault = (length lost + 1 ≡ TRIES) × (t.answer ≡ Failed)
+    ((response : Response) × IsAnswered from t response × Reads from response (Err (Peer status)))
+    ⊎ ((length lost + 1 ≡ MAX_TRIES) × IsTry (ask_request from) t × (sent_of t.answer ≡ Lost (lost_by.Peer status)))
+GivesUp from lost t NetFault =
+    (length lost + 1 ≡ MAX_TRIES) × IsTry (ask_request from) t × (sent_of t.answer ≡ Lost lost_by.Network)
 GivesUp from lost t fault = ⊥
 
 -- How following ends, where so many entries are compared, by what follows the rounds that were taken. The page of a
@@ -105,11 +101,11 @@ Ends rounds made compared (answered r) held new (Err fault) =
     × (((new ≡ held) × (r.page ≡ []) × (fault ≡ Foreign compared) × (compared < length new.history))
     ⊎ ((r.page ≢ []) × (came : Came) × Takes came (compared + 1) r.page held new × Answers came (Err fault)))
 Ends rounds made compared (unanswered lost t) held new (Err fault) =
-    (new ≡ held) × (made < rounds) × AreLost (compared + 1) lost × (length lost < TRIES)
+    (new ≡ held) × (made < rounds) × AreLost (ask_request (compared + 1)) lost × (length lost < MAX_TRIES)
     × GivesUp (compared + 1) lost t fault
 Ends rounds made compared (cut_off lost x) held new (Err Memory) =
-    (new ≡ held) × (made < rounds) × AreLost (compared + 1) lost × (length lost < TRIES)
-    × IsPut (ask_request (compared + 1)) x
+    (new ≡ held) × (made < rounds) × AreLost (ask_request (compared + 1)) lost × (length lost < MAX_TRIES)
+    × WasPut (ask_request (compared + 1)) x
 Ends rounds made compared last held new answer = ⊥
 
 -- what holds where the leader had no more

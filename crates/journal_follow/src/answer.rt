@@ -1,70 +1,37 @@
-//! What the answer to an ask says.
+//! What a response to an ask says.
 
 ghost use Rattle.std.specs.Prelude.{◌≡◌, ◌↔◌, IfOk, IsTrue, Some, option_map};
 ghost use Rattle.farm_wire.specs.Reading.{object_in};
 ghost use Rattle.serde_json.specs.View.{view};
-ghost use Rattle.journal_follow.specs.Asks.{Says};
+ghost use Rattle.journal_follow.specs.Asks.{Reads};
 ghost use Rattle.journal_follow.specs.Pages.{IsFound, ReadsHex, ReadsText, first_in, text_in};
 
+use crate::FollowFault;
 use entry_codec::{CodecFault, read_entries};
 use farm_entry::Entry;
 use farm_journal::MAX_PAYLOAD;
 use fault_types::Memory;
 use hex::{FromHexError, decode};
-use http_exchange::{Exchanged, Response};
+use http_exchange::{Response, status_number};
+use http_words::StatusCode;
 use item_list::ItemList;
 use serde_json::Value;
 use std::alloc::Global;
 
-/// The status of a page.
-pub(crate) const OK: u16 = 200;
-/// The status of an answer that the leader's journal could not be used for, and of one for which memory ran out.
-pub(crate) const UNAVAILABLE: u16 = 503;
-
-pub(crate) const NO_STORAGE: u16 = 507;
-
 /// The entries of a page.
 pub(crate) type Page = ItemList<Entry>;
 
-/// What the answer to an ask says.
-#[derive(Debug, Drop)]
-pub(crate) enum Said {
-    /// The entries of the leader's history from the one asked for on.
-    Page(Page),
-    /// The ask is lost, with this status, or with 0 where no whole response came.
-    Lost(u16),
-    /// Something that followers aren't answered, with this status.
-    Other(u16),
-}
-
-/// What the answer to an ask for the entries from this one on says.
-pub(crate) fn said_by(alloc: Global, from: u32, answer: &Exchanged) -> Result<Said, Memory>
-    ensures { IfOk result (Says from answer.now) }
-{
-    match answer {
-        Exchanged::Answered(response) => said_in(alloc, from, response),
-        Exchanged::Failed => Ok(Said::Lost(0)),
-        Exchanged::Broken => Ok(Said::Lost(0)),
-    }
-}
-
-/// What a whole response says.
-fn said_in(alloc: Global, from: u32, response: &Response) -> Result<Said, Memory>
-    ensures { IfOk result (Says from (Exchanged.Answered response.now)) }
+/// The entries of the page that a response is to an ask for the entries from this one on.
+pub(crate) fn page_in(alloc: Global, from: u32, response: &Response) -> Result<Page, FollowFault>
+    ensures { Reads from response.now result }
 {
     let status = response.status;
-    if status == UNAVAILABLE {
-        return Ok(Said::Lost(status));
-    }
-    if status == NO_STORAGE {
-        return Ok(Said::Lost(status));
-    }
-    if status != OK {
-        return Ok(Said::Other(status));
+    if status != status_number(StatusCode::Ok) {
+        return Err(FollowFault::Peer(status));
     }
     match page_of(alloc, from, response.body.as_slice())? {
-        Some(entries) => Ok(Said::Page(entries)),
-        None => Ok(Said::Other(status)),
+        Some(entries) => Ok(entries),
+        None => Err(FollowFault::Peer(status)),
     }
 }
 

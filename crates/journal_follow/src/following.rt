@@ -1,8 +1,9 @@
 //! Following a leader.
 
-ghost use Rattle.std.specs.Prelude.{◌≡◌, ◌≤◌, true, length, IsErrOf};
+ghost use Rattle.std.specs.Prelude.{◌≡◌, ◌≤◌, ◌++◌, true, length, IsErrOf};
 ghost use Rattle.fault_types.specs.Counts.{Rose};
 ghost use Rattle.farm_disk.specs.Images.{LeavesOnly};
+ghost use Rattle.follow_law.specs.Page.{MayBeHeld};
 ghost use Rattle.list_prefix.specs.Prefix.{IsPrefix};
 ghost use Rattle.journal_follow.specs.Following.{Follows, IsOfFollowing};
 ghost use Rattle.journal_follow.specs.Rounds.{EndedSays, RoundSays};
@@ -46,6 +47,8 @@ pub fn follow<N: Network, D: Disk>(
     ensures follows { Follows rounds follower.old.held follower.new.held (N.told network.old) (N.told network.new) result }
     // No entry of the history is ever taken back.
     ensures grows { IsPrefix follower.old.held.history follower.new.held.history }
+    // What is held is legal, with all that is pending, whatever the disk tells.
+    ensures legal { MayBeHeld (follower.new.held.history ++ follower.new.held.pending) }
     ensures same { follower.new.tells ≡ follower.old.tells }
     ensures any_moment { follower.old.tells ≡ true
         → LeavesOnly follower.old.disk follower.new.disk
@@ -86,6 +89,7 @@ fn go_round<N: Network, D: Disk>(
 ) -> Result<Went, FollowFault>
     requires within { compared ≤ length follower.old.held.history }
     ensures says { RoundSays compared follower.old.held follower.new.held (N.told network.old) (N.told network.new) result }
+    ensures legal { MayBeHeld (follower.new.held.history ++ follower.new.held.pending) }
     ensures same { follower.new.tells ≡ follower.old.tells }
     ensures any_moment { follower.old.tells ≡ true
         → LeavesOnly follower.old.disk follower.new.disk (ShowsLeft follower.old.held follower.new.held) }

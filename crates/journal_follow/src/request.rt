@@ -1,9 +1,10 @@
 //! The ask for a page, as bytes.
 
-ghost use Rattle.std.specs.Prelude.{◌≡◌, IfOk};
-ghost use Rattle.journal_follow.specs.Asks.{ask_end, ask_request, ask_start};
+ghost use Rattle.std.specs.Prelude.{◌≡◌, ◌++◌, IfOk, decimal};
+ghost use Rattle.journal_follow.specs.Asks.{ask_request, log_path};
 
 use fault_types::Memory;
+use http_exchange::get_request;
 use itoa::Buffer;
 use std::alloc::Global;
 
@@ -11,23 +12,24 @@ use std::alloc::Global;
 pub(crate) fn ask_request(alloc: Global, from: u32) -> Result<Vec<u8>, Memory>
     ensures { IfOk result (λ bytes. bytes.items ≡ ask_request from) }
 {
+    let path = ask_path(alloc, from)?;
+    get_request(alloc, &path)
+}
+
+fn ask_path(alloc: Global, from: u32) -> Result<Vec<u8>, Memory>
+    ensures { IfOk result (λ path. path.items ≡ log_path ++ decimal from) }
+{
     let mut digits = Buffer::new();
     let number = digits.format(from).as_bytes();
-    let mut bytes = Vec::new(alloc);
-    bytes.extend_from_slice(ask_start())?;
-    bytes.extend_from_slice(number)?;
-    bytes.extend_from_slice(ask_end())?;
-    Ok(bytes)
+    let mut path = Vec::new(alloc);
+    path.extend_from_slice(log_path())?;
+    path.extend_from_slice(number)?;
+    Ok(path)
 }
 
-fn ask_start<'p>() -> &'p [u8]
-    ensures { result.now ≡ ask_start }
+/// The path of a page, up to the number of its first entry.
+fn log_path<'p>() -> &'p [u8]
+    ensures { result.now ≡ log_path }
 {
-    b"GET /v1/log/"
-}
-
-fn ask_end<'p>() -> &'p [u8]
-    ensures { result.now ≡ ask_end }
-{
-    b" HTTP/1.1\r\nHost: farm\r\nConnection: close\r\n\r\n"
+    b"/v1/log/"
 }

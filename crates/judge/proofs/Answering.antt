@@ -37,10 +37,6 @@ pub judged_from : (input : List ℕ) (s : Setup) (l : ℕ) (left : List (List �
     → judged input ≡ answered s (budget_text s) at_start l left
 judged_from input s l left opened = ap answer_of opened ∙ answer_of-inquiry_of s (run_lines (suspects s) 0 l left)
 
--- where no search is opened
-pub judged-outside : (input : List ℕ) (l : ℕ) → inquiry (lines input) ≡ Err l → judged input ≡ Err l
-judged-outside input l outside = ap answer_of outside
-
 greatest_by_tests : (seen ended over : Bool) (p : Progress) (run : RunLine) → (seen ≡ true → run.number ≤ p.greatest)
     → (seen ≡ false → p.greatest < run.number)
     → (after_fate (cond seen Repeat (cond ended Late (cond over Over Counted))) p run).greatest

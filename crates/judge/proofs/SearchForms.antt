@@ -57,10 +57,6 @@ pub no_calm : (c d a b t u calm : ℕ) (ws : List ℕ) → is_calm calm ≡ fals
     → search_of c d (a ∷ b ∷ t ∷ u ∷ calm ∷ ws) ≡ None
 no_calm c d a b t u calm ws fails = not_terms c d a b t u calm ws (and_left _ _ (and_right _ _ fails))
 
-pub not_told : (c d a b t u calm : ℕ) (ws : List ℕ) → is_told c d (a / gcd a b) (b / gcd a b) ≡ false
-    → search_of c d (a ∷ b ∷ t ∷ u ∷ calm ∷ ws) ≡ None
-not_told c d a b t u calm ws fails = not_terms c d a b t u calm ws (and_right _ _ fails)
-
 -- the form of what follows terms within their limits
 pub terms_hold : (c d a b t u calm : ℕ) (ws : List ℕ) → are_terms c d a b t u calm ≡ true
     → search_of c d (a ∷ b ∷ t ∷ u ∷ calm ∷ ws) ≡ weights_on (a / gcd a b) (b / gcd a b) c d t u calm ws

@@ -1,5 +1,5 @@
 -- What is kept beside each entry, where the history grows by an entry or loses its last.
-use Rattle.std.proofs.Common.{◌≡◌, ◌≢◌, ℕ, ◌+◌, ◌-◌, ◌<◌, ◌≤◌, List, [], ◌∷◌, ◌++◌, length, take, drop, get_or, slice_get, Some, refl, sym, ap, subst, ◌∙◌, ⊎_elim, arith, length-append}
+use Rattle.std.proofs.Common.{◌≡◌, ◌≢◌, ℕ, ◌+◌, ◌-◌, ◌<◌, ◌≤◌, List, [], ◌∷◌, ◌++◌, length, take, drop, get_or, slice_get, Some, sym, ap, subst, ◌∙◌, ⊎_elim, arith, length-append}
 use Rattle.std.proofs.lemmas.Bool.{cases_lt}
 use Rattle.std.proofs.lemmas.List.{length-take-le, take-append-drop, take-append-le, take_all}
 use Rattle.std.proofs.lemmas.Option.{get_or_from_slice_get}
@@ -72,12 +72,6 @@ beside-push gives H xs e x all is =
           ∙ ap (λ (G : List Entry). Some (gives G)) (sym (take_all (k + 1) (H ++ e ∷ []) (omega (arith, entries))))))
           (cases_lt k (length H));
     }
-
--- beside the first entry
-pub beside-first : {X : Type 0} (gives : List Entry → X) (e : Entry) (x : X) → x ≡ gives (e ∷ []) →
-    AreBeside gives (e ∷ []) (x ∷ [])
-beside-first gives e x is =
-    beside-push gives [] [] e x (record { as_many = refl; each = λ k below. absurd (omega arith) }) is
 
 -- what stands at a place
 pub beside-at : {X : Type 0} (gives : List Entry → X) (H : List Entry) (xs : List X) (k : ℕ) (d : X) → AreBeside gives H xs →

@@ -1,6 +1,6 @@
 //! Connects that are refused for a while.
 
-use crate::networks::{print_talk, print_turns};
+use crate::sockets::{Place, play_sockets};
 use std::alloc::Global;
 use std::cell::Cell;
 use std::io;
@@ -8,12 +8,12 @@ use std::io::{Error, ErrorKind};
 use std::net::{Net, SocketAddr, TcpStream};
 use std::rt::Clock;
 use std::time::Duration;
-use tcp_net::{AnyByte, Limits, TcpNetwork};
 
-/// How long a connection that is made from here may last, in milliseconds.
-const EXCHANGE_MS: u64 = 60_000;
+/// How many connects are refused before one is made.
+const REFUSALS: u64 = 3;
 
-/// A runtime that refuses its first connects, and whose pauses are printed and take no time.
+/// A runtime that refuses its first connects, and after one that it made all others, and whose pauses are printed and
+/// take no time.
 #[derive(Drop)]
 struct Refusing<'a, R> {
     rt: &'a R,
@@ -36,6 +36,7 @@ impl<'a, R: Net> Net for Refusing<'a, R> {
     fn connect_timeout(&self, addr: SocketAddr, timeout: Duration) -> io::Result<R::Stream> {
         let left = self.refusals.get();
         if left == 0 {
+            self.refusals.set(u64::MAX);
             return self.rt.connect_timeout(addr, timeout);
         }
         self.refusals.set(left - 1);
@@ -57,28 +58,16 @@ impl<'a, R: Print + Clock> Clock for Refusing<'a, R> {
     }
 }
 
-/// A connect that is refused three times before a network takes it, and that is made before it is asked for; one that
-/// is refused as often as it is made; and one that fails at once, as its address is none.
-pub(crate) fn print_connects<R: Print + Net<Stream = TcpStream> + Clock>(
+/// The same over a runtime that refuses connects. How many it refused after the one that it made is printed at the end.
+pub(crate) fn play_refusing<R: Print + Net<Stream = TcpStream> + Clock>(
     rt: &R,
     alloc: Global,
+    rest: &str,
 ) -> io::Result<()> {
-    println!(rt; "connects")?;
     let refusing = Refusing {
         rt,
-        refusals: Cell::new(3),
+        refusals: Cell::new(REFUSALS),
     };
-    let limits = Limits::usual(EXCHANGE_MS);
-    let mut listening = TcpNetwork::at(alloc, &refusing, AnyByte, "127.0.0.1:0", limits)?;
-    println!(rt; "  listens {}", listening.listen())?;
-    let address = format!(in alloc; "{}", listening.local_addr()?)?;
-    let mut calling = TcpNetwork::at(alloc, &refusing, AnyByte, &address, limits)?;
-    println!(rt; "  reached {}", calling.reach())?;
-    print_talk(rt, &mut listening, &mut calling)?;
-    refusing.refusals.set(u64::MAX);
-    print_turns(rt, &mut calling, "c")?;
-    println!(rt; "  of {} connects", u64::MAX - refusing.refusals.get())?;
-    let mut nowhere = TcpNetwork::at(alloc, &refusing, AnyByte, "nowhere", limits)?;
-    println!(rt; "  reached {}", nowhere.reach())?;
-    print_turns(rt, &mut nowhere, "c")
+    play_sockets(rt, &Place::of(alloc, &refusing, rest), rest)?;
+    println!(rt; "  of {} connects", u64::MAX - refusing.refusals.get())
 }

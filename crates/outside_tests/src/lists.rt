@@ -1,7 +1,8 @@
 //! Runners and sources of keys.
 
+use crate::texts::{number_of, numbers_of, word};
 use farm_types::{CommitId, ID_BYTES, Key, Name};
-use std::alloc::Global;
+use std::alloc::{AllocError, Global};
 use std::io;
 use std::random::RandomSource;
 use weight_exact::Verdict;
@@ -28,39 +29,48 @@ pub(crate) fn print_answers<R: Print, T: Runner>(
     Ok(())
 }
 
-/// Three verdicts, of which the second call and each past the last have none.
-pub(crate) fn print_runs<R: Print>(rt: &R, alloc: Global) -> io::Result<()> {
-    let verdicts = vec![in alloc; Verdict::Pass, Verdict::Fail, Verdict::Pass]?;
-    let mut runner = ListRunner::of(verdicts, Vec::from_slice(alloc, &[2])?);
-    println!(rt; "runs")?;
-    print_answers(rt, alloc, &mut runner, 6)
+/// The verdicts of a text of letters, `p` for a pass.
+fn verdicts_of(alloc: Global, letters: &str) -> Result<Vec<Verdict>, AllocError> {
+    let mut verdicts = Vec::new(alloc);
+    for letter in letters.bytes() {
+        verdicts.push(if letter == b'p' {
+            Verdict::Pass
+        } else {
+            Verdict::Fail
+        })?;
+    }
+    Ok(verdicts)
 }
 
-/// So many keys of a source.
-fn print_drawn<R: Print, K: KeySource>(rt: &R, keys: &mut K, count: u64) -> io::Result<()> {
-    for _ in 0..count {
+/// A runner in memory.
+pub(crate) fn play_runs<R: Print>(rt: &R, alloc: Global, rest: &str) -> io::Result<()> {
+    let (letters, rest) = word(rest);
+    let (fails, runs) = word(rest);
+    let verdicts = verdicts_of(alloc, letters)?;
+    let mut runner = ListRunner::of(verdicts, numbers_of(alloc, fails)?);
+    print_answers(rt, alloc, &mut runner, number_of(runs))
+}
+
+/// Four keys of a list.
+pub(crate) fn play_keys<R: Print>(rt: &R, alloc: Global, rest: &str) -> io::Result<()> {
+    let mut list = Vec::new(alloc);
+    for digits in rest.split('.') {
+        if let Ok(key) = digits.parse::<u128>() {
+            list.push(Key(key))?;
+        }
+    }
+    let mut keys = ListKeys::of(list);
+    for _ in 0..4 {
         println!(rt; "  {:?}", keys.next())?;
     }
     Ok(())
 }
 
-/// Whether a source's next two keys differ.
-fn differ<K: KeySource>(keys: &mut K) -> bool {
-    let first = keys.next();
-    keys.next() != first
-}
-
-/// Keys of lists, and random ones.
-pub(crate) fn print_keys<R: Print + RandomSource>(rt: &R, alloc: Global) -> io::Result<()> {
-    println!(rt; "keys")?;
-    print_drawn(rt, &mut ListKeys::of(Vec::new(alloc)), 2)?;
-    let mut keys = ListKeys::of(Vec::from_slice(alloc, &[Key(5), Key(u128::MAX)])?);
-    print_drawn(rt, &mut keys, 4)?;
+/// Whether two sources of random keys differ, and each from call to call.
+pub(crate) fn play_random_keys<R: Print + RandomSource>(rt: &R) -> io::Result<()> {
     let mut one = RandomKeys::new(rt)?;
     let mut other = RandomKeys::new(rt)?;
-    println!(rt;
-        "  random keys differ {} {}",
-        differ(&mut one),
-        one.next() != other.next()
-    )
+    let first = one.next();
+    let again = one.next() != first;
+    println!(rt; "  differ {again} {}", other.next() != one.next())
 }

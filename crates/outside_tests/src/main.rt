@@ -1,84 +1,70 @@
-//! Plays links, networks, runners and sources of keys, in memory and over sockets of this machine, and prints what each
-//! call answered; runners by tables and by hosts too. The file `stdout` has what is wanted, written down by hand.
+//! Plays the cases of standard input over links, networks, runners and sources of keys, in memory and over sockets of
+//! this machine, and prints what each call answered. A case is a line: a word, and what it asks for.
+//!
+//! - `memory`, the links that one network in memory is to accept, those that another one is to accept and those that
+//!   it is to connect to, each a list with commas between, or `-`; the calls of the second one that fail, with points
+//!   between; and steps. A link is what its other end sends, the sizes of the pieces and the calls that fail, as
+//!   `abcdef:3.1:2.5`.
+//! - `sockets`, how long a connection may last in milliseconds, and parts with bars between: each is the address of one
+//!   more network, where `here` is the one that is listened at, and its steps. `refusing` is the same over a system
+//!   that refuses the first three connects, and after one that it made all others.
+//! - `runs`, verdicts, the calls that fail, and how many runs; `keys` and keys with points between, of which four are
+//!   drawn; `random_keys`.
+//! - `named` and a word that names a runner; `table` and the text of a table; `hosts`, links as above, and how many
+//!   runs.
+//!
+//! A line that begins with `#` is printed as it is. In texts `\n` and `\r` stand for the ends of lines. Steps are `a`
+//! and `c`, an accept and a connect of the second network; `reach`, a connect that is made before it is asked for; and
+//! `talk`, `silence` and `waiting`, for what both networks do. The file `stdout` has what is wanted, written down by
+//! hand.
 //!
 //! Nothing here waits longer than for the time-out of one read, which is 200 milliseconds.
 #![tactic(auto)]
 
 mod connects;
+mod links;
 mod lists;
 mod networks;
 mod runners;
 mod sockets;
+mod texts;
 
-use link_io::MemLink;
-use lists::{print_keys, print_runs};
-use net_io::MemNetwork;
-use networks::{print_talk, print_turns};
-use runners::print_runners;
-use sockets::print_sockets;
-use std::alloc::{AllocError, Global};
+use connects::play_refusing;
+use links::play_memory;
+use lists::{play_keys, play_random_keys, play_runs};
+use runners::{play_hosts, play_named, play_table};
+use sockets::{Place, play_sockets};
+use std::alloc::Global;
 use std::io;
+use std::net::{Net, TcpStream};
+use std::random::RandomSource;
+use std::rt::Clock;
+use texts::word;
 
-/// A link whose other end has sent a text, in pieces of these sizes, and that fails at these calls.
-fn link_of(
+fn play<R: Print + Net<Stream = TcpStream> + Clock + RandomSource + Copy + Drop>(
+    rt: &R,
     alloc: Global,
-    text: &str,
-    pieces: &[usize],
-    fails: &[u64],
-) -> Result<MemLink, AllocError> {
-    Ok(MemLink::in_pieces(
-        Vec::from_slice(alloc, text.as_bytes())?,
-        Vec::from_slice(alloc, pieces)?,
-        Vec::from_slice(alloc, fails)?,
-    ))
-}
-
-/// A network with a link to accept and one to connect to, whose other ends have sent these texts, and that fails at
-/// these calls.
-fn network_of(
-    alloc: Global,
-    accepts: &[&str],
-    connects: &[&str],
-    fails: &[u64],
-) -> Result<MemNetwork, AllocError> {
-    let mut to_accept = Vec::new(alloc);
-    for text in accepts {
-        to_accept.push(link_of(alloc, text, &[3, 1], &[2, 5])?)?;
+    line: &str,
+) -> io::Result<()> {
+    let (name, rest) = word(line);
+    match name {
+        "memory" => play_memory(rt, alloc, rest),
+        "sockets" => play_sockets(rt, &Place::of(alloc, *rt, rest), rest),
+        "refusing" => play_refusing(rt, alloc, rest),
+        "runs" => play_runs(rt, alloc, rest),
+        "keys" => play_keys(rt, alloc, rest),
+        "random_keys" => play_random_keys(rt),
+        "named" => play_named(rt, rest),
+        "table" => play_table(rt, alloc, rest),
+        "hosts" => play_hosts(rt, alloc, rest),
+        _ => println!(rt; "{line}"),
     }
-    let mut to_connect = Vec::new(alloc);
-    for text in connects {
-        to_connect.push(link_of(alloc, text, &[], &[])?)?;
-    }
-    let fails = Vec::from_slice(alloc, fails)?;
-    Ok(MemNetwork::of(to_accept, to_connect, fails))
-}
-
-/// One network that fails at its second and fifth call, and gives no third link.
-fn print_one(rt: &impl Print, alloc: Global) -> io::Result<()> {
-    let mut network = network_of(alloc, &["abcdef", ""], &["answer"], &[2, 5])?;
-    print_turns(rt, &mut network, "aacacacac")
-}
-
-/// A network that calls another one three times, and has two links for that.
-fn print_calling(rt: &impl Print, alloc: Global, listening: &mut MemNetwork) -> io::Result<()> {
-    let mut calling = network_of(alloc, &[], &["far", "farther"], &[])?;
-    print_talk(rt, listening, &mut calling)?;
-    print_talk(rt, listening, &mut calling)?;
-    print_talk(rt, listening, &mut calling)
-}
-
-/// Two networks, of which one listens for a single link.
-fn print_two(rt: &impl Print, alloc: Global) -> io::Result<()> {
-    let mut listening = network_of(alloc, &["near"], &[], &[])?;
-    print_calling(rt, alloc, &mut listening)
 }
 
 fn main(rt: HostRuntime) -> io::Result<()> {
-    let alloc = rt.alloc();
-    print_one(&rt, alloc)?;
-    print_two(&rt, alloc)?;
-    print_runs(&rt, alloc)?;
-    print_keys(&rt, alloc)?;
-    print_runners(&rt, alloc)?;
-    print_sockets(&rt, alloc)
+    let text = io::read_to_string(rt.alloc(), rt.reader())?;
+    for line in text.as_str().strip_suffix("\n").unwrap_or("").split('\n') {
+        play(&rt, rt.alloc(), line)?;
+    }
+    Ok(())
 }

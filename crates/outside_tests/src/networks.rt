@@ -38,41 +38,56 @@ fn print_link<R: Print, N: Network>(rt: &R, network: &mut N, link: N::End) -> io
     printed
 }
 
-/// Accepts at each `a`, connects at each other letter, uses each link and gives it back, and prints the answers.
-pub(crate) fn print_turns<R: Print, N: Network>(
-    rt: &R,
-    network: &mut N,
-    turns: &str,
-) -> io::Result<()> {
-    for turn in turns.bytes() {
-        if turn == b'a' {
-            match network.accept() {
-                Accepted::Linked(link) => print_link(rt, network, link)?,
-                Accepted::End => println!(rt; "  no more links")?,
-                Accepted::Failed => println!(rt; "  no accept")?,
-            }
-        } else {
-            match network.connect() {
-                Connected::Linked(link) => print_link(rt, network, link)?,
-                Connected::Failed => println!(rt; "  no connect")?,
-            }
+/// Accepts a link or connects to one, uses it and gives it back, and prints the answers.
+fn print_turn<R: Print, N: Network>(rt: &R, network: &mut N, accepts: bool) -> io::Result<()> {
+    if accepts {
+        match network.accept() {
+            Accepted::Linked(link) => print_link(rt, network, link),
+            Accepted::End => println!(rt; "  no more links"),
+            Accepted::Failed => println!(rt; "  no accept"),
         }
-        println!(rt;
-            "{} faults of the network {}",
-            turn as char,
-            network.faults()
-        )?;
+    } else {
+        match network.connect() {
+            Connected::Linked(link) => print_link(rt, network, link),
+            Connected::Failed => println!(rt; "  no connect"),
+        }
+    }
+}
+
+/// Makes a step, and prints the answers.
+fn play_step<R: Print, N: Network>(
+    rt: &R,
+    listening: &mut N,
+    calling: &mut N,
+    step: &str,
+) -> io::Result<()> {
+    match step {
+        "talk" => print_talk(rt, listening, calling),
+        "silence" => print_silence(rt, listening, calling),
+        "waiting" => print_waiting(rt, listening, calling),
+        _ => {
+            print_turn(rt, calling, step == "a")?;
+            println!(rt; "{step} faults of the network {}", calling.faults())
+        }
+    }
+}
+
+/// Makes steps, and prints the answers.
+pub(crate) fn play_steps<R: Print, N: Network>(
+    rt: &R,
+    listening: &mut N,
+    calling: &mut N,
+    steps: &str,
+) -> io::Result<()> {
+    for step in steps.split(' ') {
+        play_step(rt, listening, calling, step)?;
     }
     Ok(())
 }
 
 /// Connects one network to the other one, says something on each side, ends the side that listens first, and prints
 /// what was heard.
-pub(crate) fn print_talk<R: Print, N: Network>(
-    rt: &R,
-    listening: &mut N,
-    calling: &mut N,
-) -> io::Result<()> {
+fn print_talk<R: Print, N: Network>(rt: &R, listening: &mut N, calling: &mut N) -> io::Result<()> {
     match calling.connect() {
         Connected::Linked(link) => {
             let mut link = link;
@@ -107,7 +122,7 @@ fn print_sides<R: Print, N: Network>(
 }
 
 /// Connects and ends that without a byte. An accept gives it all the same, and a take from there finds the end.
-pub(crate) fn print_silence<R: Print, N: Network>(
+fn print_silence<R: Print, N: Network>(
     rt: &R,
     listening: &mut N,
     calling: &mut N,
@@ -135,7 +150,7 @@ pub(crate) fn print_silence<R: Print, N: Network>(
 
 /// One connection says nothing and another one asks twice, each time when it has an answer to what went before; then no
 /// accept follows. The first holds nobody up, the second comes back as a link of its own, and both find the end.
-pub(crate) fn print_waiting<R: Print, N: Network>(
+fn print_waiting<R: Print, N: Network>(
     rt: &R,
     listening: &mut N,
     calling: &mut N,

@@ -1,62 +1,88 @@
-//! Connections over sockets of this machine.
+//! Networks over sockets of this machine.
 
-use crate::connects::print_connects;
-use crate::networks::{print_silence, print_talk, print_turns, print_waiting};
+use crate::networks::play_steps;
+use crate::texts::{number_of, word};
 use std::alloc::Global;
 use std::io;
 use std::net::{Net, TcpStream};
 use std::rt::Clock;
 use tcp_net::{AnyByte, Limits, TcpNetwork};
 
-/// How long a connection that is made from here may last, in milliseconds.
-const EXCHANGE_MS: u64 = 200;
-
-/// The same of one that has to outlast what others do.
-const LONG_EXCHANGE_MS: u64 = 30_000;
-
-/// A network that listens at a port that the system picks, and one that calls there; another one that would listen
-/// there too; one that calls port 0, at which nobody can listen; and connects that are refused.
-pub(crate) fn print_sockets<R: Print + Net<Stream = TcpStream> + Clock + Copy + Drop>(
-    rt: &R,
+/// Where networks stand: the memory, the system, and how long each thing may last.
+#[derive(Drop)]
+pub(crate) struct Place<T: Net + Clock + Copy + Drop> {
     alloc: Global,
-) -> io::Result<()> {
-    println!(rt; "sockets")?;
-    let limits = Limits::usual(EXCHANGE_MS);
-    let mut listening = TcpNetwork::at(alloc, *rt, AnyByte, "127.0.0.1:0", limits)?;
-    println!(rt; "  listens {} {}", listening.listen(), listening.listen())?;
-    let address = format!(in alloc; "{}", listening.local_addr()?)?;
-    let mut calling = TcpNetwork::at(alloc, *rt, AnyByte, &address, limits)?;
-    print_talk(rt, &mut listening, &mut calling)?;
-    print_talk(rt, &mut listening, &mut calling)?;
-    println!(rt; "  nobody answers")?;
-    print_turns(rt, &mut calling, "c")?;
-    println!(rt; "  another one listens")?;
-    print_turns(
-        rt,
-        &mut TcpNetwork::at(alloc, *rt, AnyByte, &address, limits)?,
-        "aa",
-    )?;
-    println!(rt; "  nobody listens")?;
-    print_turns(
-        rt,
-        &mut TcpNetwork::at(alloc, *rt, AnyByte, "127.0.0.1:0", limits)?,
-        "c",
-    )?;
-    print_waits(rt, alloc)?;
-    print_connects(rt, alloc)
+    system: T,
+    limits: Limits,
 }
 
-/// A network that listens, and one that calls there, whose connections wait.
-fn print_waits<R: Print + Net<Stream = TcpStream> + Clock + Copy + Drop>(
+/// A network over sockets.
+type Sockets<T> = TcpNetwork<T, AnyByte>;
+
+impl<T: Net<Stream = TcpStream> + Clock + Copy + Drop> Place<T> {
+    /// With how long a connection may last that is made from here, which is the first word of a text.
+    pub(crate) fn of(alloc: Global, system: T, text: &str) -> Place<T> {
+        let (milliseconds, _) = word(text);
+        Place {
+            alloc,
+            system,
+            limits: Limits::usual(number_of(milliseconds)),
+        }
+    }
+
+    /// A network at an address.
+    fn network(&self, address: &str) -> io::Result<Sockets<T>> {
+        let network = TcpNetwork::at(self.alloc, self.system, AnyByte, address, self.limits)?;
+        Ok(network)
+    }
+}
+
+/// Another network at an address, and its steps, of which the first may make a connect before it is asked for.
+fn play_apart<R: Print, T: Net<Stream = TcpStream> + Clock + Copy + Drop>(
     rt: &R,
-    alloc: Global,
+    place: &Place<T>,
+    listening: &mut Sockets<T>,
+    address: &str,
+    steps: &str,
 ) -> io::Result<()> {
-    println!(rt; "  connections wait")?;
-    let limits = Limits::usual(LONG_EXCHANGE_MS);
-    let mut listening = TcpNetwork::at(alloc, *rt, AnyByte, "127.0.0.1:0", limits)?;
-    println!(rt; "  listens {}", listening.listen())?;
-    let address = format!(in alloc; "{}", listening.local_addr()?)?;
-    let mut calling = TcpNetwork::at(alloc, *rt, AnyByte, &address, limits)?;
-    print_silence(rt, &mut listening, &mut calling)?;
-    print_waiting(rt, &mut listening, &mut calling)
+    let mut calling = place.network(address)?;
+    let steps = match steps.strip_prefix("reach ") {
+        Some(rest) => {
+            println!(rt; "  reached {}", calling.reach())?;
+            rest
+        }
+        None => steps,
+    };
+    play_steps(rt, listening, &mut calling, steps)
+}
+
+/// The parts of a case, beside a network that listens.
+fn play_parts<R: Print, T: Net<Stream = TcpStream> + Clock + Copy + Drop>(
+    rt: &R,
+    place: &Place<T>,
+    listening: &mut Sockets<T>,
+    parts: &str,
+) -> io::Result<()> {
+    println!(rt; "  listens {} {}", listening.listen(), listening.listen())?;
+    let here = format!(in place.alloc; "{}", listening.local_addr()?)?;
+    for part in parts.split('|') {
+        let (address, steps) = word(part);
+        if address == "here" {
+            play_apart(rt, place, listening, here.as_str(), steps)?;
+        } else {
+            play_apart(rt, place, listening, address, steps)?;
+        }
+    }
+    Ok(())
+}
+
+/// A network that listens at a port that the system picks, and others beside it.
+pub(crate) fn play_sockets<R: Print, T: Net<Stream = TcpStream> + Clock + Copy + Drop>(
+    rt: &R,
+    place: &Place<T>,
+    rest: &str,
+) -> io::Result<()> {
+    let (_, parts) = word(rest);
+    let mut listening = place.network("127.0.0.1:0")?;
+    play_parts(rt, place, &mut listening, parts)
 }

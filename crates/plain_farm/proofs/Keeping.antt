@@ -25,14 +25,6 @@ use Rattle.search_laws.proofs.OneMore.{cancelled-same, not_about-cancel, not_abo
 use Rattle.plain_farm.specs.Rows.{AreRows, IsOut, IsTold}
 use Rattle.plain_farm.specs.declared.rows.Row.{Row}
 
--- no rows say nothing
-pub no_rows : (H : List Entry) → AreRows H []
-no_rows H = record {
-  few = omega arith;
-  told = λ o i row there number below is. absurd (omega (arith, below));
-  out = λ i row below is. absurd (omega (arith, below));
-}
-
 -- A search that an entry isn't about.
 pub told-same : (H : List Entry) (e : Entry) (o : Opening) (row : Row) → IsLegal H → Stepped H e.at e.what →
     (IsAbout H e.what o.search → ⊥) → IsTold H o row → IsTold (H ++ e ∷ []) o row

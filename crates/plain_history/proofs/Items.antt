@@ -29,15 +29,6 @@ pub list_any-map : {X Y : Type 0} (p : Y → Bool) (f : X → Y) (xs : List X) �
 list_any-map p f [] = refl
 list_any-map p f (x ∷ xs) = ap (λ b. p (f x) || b) (list_any-map p f xs)
 
-pub filter-map : {X Y : Type 0} (p : Y → Bool) (f : X → Y) (xs : List X) → filter p (map f xs) ≡ map f (filter (λ x. p (f x)) xs)
-filter-map p f [] = refl
-filter-map p f (x ∷ xs) = either (p (f x)) f x (filter p (map f xs)) (filter (λ y. p (f y)) xs) (filter-map p f xs)
-  where
-    either : {X Y : Type 0} (b : Bool) (f : X → Y) (x : X) (ys : List Y) (xs : List X) → ys ≡ map f xs →
-        cond b (f x ∷ ys) ys ≡ map f (cond b (x ∷ xs) xs)
-    either true f x ys xs h = ap (λ zs. f x ∷ zs) h
-    either false f x ys xs h = h
-
 -- how many of what is made of items pass a test
 
 length-kept : {Y : Type 0} (b : Bool) (y : Y) (ys : List Y) → length (cond b (y ∷ ys) ys) ≡ cond b (1 + length ys) (length ys)

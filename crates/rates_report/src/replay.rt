@@ -6,7 +6,7 @@ ghost use Rattle.farm_entry.specs.Legal.{IsLegal};
 ghost use Rattle.farm_entry.specs.Standing.{standing};
 
 use farm_core::{AdmitFault, CoreFault, Farm, Prepared};
-use farm_entry::{Command, Entry, Opening, Reply, Standing, What};
+use farm_entry::{Command, Entry, Opening, Reply, Standing};
 use farm_types::{Memory, Moment};
 use flake_book::FlakeBook;
 use std::alloc::Global;
@@ -37,9 +37,10 @@ fn founded(alloc: Global, entry: &Entry) -> Result<Farm, Memory>
     requires { IsLegal (entry.now ∷ []) }
     ensures { IfOk result (λ farm. farm.history ≡ entry.now ∷ []) }
 {
-    match &entry.what {
-        What::Founded { settings } => Farm::found(alloc, *settings, entry.at),
-        _ => unreachable!(),
+    match Farm::founded_by(alloc, entry) {
+        Ok(farm) => Ok(farm),
+        Err(AdmitFault::Illegal) => unreachable!(),
+        Err(AdmitFault::Memory) => Err(Memory),
     }
 }
 

@@ -25,11 +25,6 @@ earlier_of-assoc None c rest = refl
 earlier_of-assoc (Some best) c None = refl
 earlier_of-assoc (Some best) c (Some other) = ap Some (chosen best c other)
 
--- nothing is left
-pub earlier_of-none : (best : Option Candidate) → earlier_of best None ≡ best
-earlier_of-none None = refl
-earlier_of-none (Some best) = refl
-
 module _ (orders : List Ordered) (c : Candidate) (rest : List Candidate) where
   -- a search whose commit has an order is passed over
   pub earliest-passed : has_order orders c.commit ≡ true → earliest (candidates (c ∷ rest) orders) ≡ earliest (candidates rest orders)

@@ -1,9 +1,8 @@
 -- The orders that items stand for.
-use Rattle.std.proofs.Common.{◌≡◌, ◌≢◌, ◌==◌, ◌+◌, ◌<◌, ℕ, zero, suc, cond, true, false, List, [], ◌∷◌, ◌++◌, length, get_or, ap, sym, subst, ◌∙◌, refl, arith, length-append, ⊎_elim}
+use Rattle.std.proofs.Common.{◌≡◌, ◌≢◌, ◌+◌, ◌<◌, ℕ, zero, suc, true, false, List, [], ◌∷◌, ◌++◌, length, get_or, ap, sym, subst, ◌∙◌, refl, arith, length-append, ⊎_elim}
 use Rattle.std.proofs.lemmas.Bool.{cases_eq, or_parts}
-use Rattle.std.proofs.lemmas.List.Sums.{sum_by-cons}
-use Rattle.std.specs.List.{AllPairs, count_by}
-use Rattle.farm_rules.specs.Orders.{Ordered, has_order, orders_of}
+use Rattle.std.specs.List.{AllPairs}
+use Rattle.farm_rules.specs.Orders.{Ordered, has_order}
 use Rattle.farm_types.proofs.SameValues.{same_id-Decides}
 use Rattle.farm_types.specs.CommitId.{same_id}
 use Rattle.farm_types.specs.declared.commit_id.CommitId.{CommitId}
@@ -11,22 +10,9 @@ use Rattle.revert_orders.specs.Book.{IsOnePerCommit, commits_of, ordered}
 use Rattle.revert_orders.specs.Chains.{orders_in}
 use Rattle.revert_orders.specs.declared.chains.Item.{Item}
 
--- a further item is a further order
-pub orders_in-snoc : (items : List Item) (x : Item) → orders_in (items ++ x ∷ []) ≡ orders_in items ++ ordered x.commit x.day ∷ []
-orders_in-snoc [] x = refl
-orders_in-snoc (y ∷ items) x = ap (λ (rest : List Ordered). ordered y.commit y.day ∷ rest) (orders_in-snoc items x)
-
 pub length-orders_in : (items : List Item) → length (orders_in items) ≡ length items
 length-orders_in [] = refl
 length-orders_in (x ∷ items) = omega (arith, length-orders_in items)
-
--- the orders of a day are the items of that day
-pub count_by-items : (day : ℕ) (items : List Item) → count_by (λ (x : Item). x.day == day) items ≡ orders_of day (orders_in items)
-count_by-items day [] = refl
-count_by-items day (x ∷ items) =
-    sum_by-cons (λ (y : Item). cond (y.day == day) 1 0) x items
-    ∙ (ap (λ (n : ℕ). cond (x.day == day) 1 0 + n) (count_by-items day items)
-    ∙ sym (sum_by-cons (λ (o : Ordered). cond (o.day == day) 1 0) (ordered x.commit x.day) (orders_in items)))
 
 -- orders for commits that differ
 

@@ -1,6 +1,6 @@
 -- What is left of a plan, entry by entry.
 use Rattle.std.proofs.Common.{◌≡◌, ℕ, ◌+◌, ◌<◌, ◌≤◌, List, [], ◌∷◌, ◌++◌, length, take, drop, get_or, Some, refl, ◌∙◌, ap, sym, arith, add-one, ⊎_elim}
-use Rattle.std.proofs.Math.Seq.{take-suc, drop-cons}
+use Rattle.std.proofs.Math.Seq.{drop-cons}
 use Rattle.std.proofs.Math.ListN.{drop_of_length-le}
 use Rattle.std.proofs.lemmas.Bool.{cases_lt}
 use Rattle.std.proofs.lemmas.List.{append-nil, take-append-drop}
@@ -66,15 +66,6 @@ pub first_entry-at : (plan outstanding : List ℕ) (index : ℕ) → index < len
     first_entry (struck plan outstanding) ≡ Some (get_or plan index 0)
 first_entry-at plan outstanding index within left =
     ap (λ (xs : List ℕ). first_entry (struck xs outstanding)) (plan-at plan index within) ∙ left (drop (index + 1) plan)
-
--- and else no entry up to it is left
-pub struck-upto : (plan outstanding : List ℕ) (index : ℕ) → index < length plan →
-    struck (take index plan ++ get_or plan index 0 ∷ []) outstanding ≡ [] →
-    struck (take (index + 1) plan) outstanding ≡ []
-struck-upto plan outstanding index within none =
-    let longer : take (index + 1) plan ≡ take index plan ++ get_or plan index 0 ∷ [] =
-    rw add-one (take-suc plan index 0 within) in
-    ap (λ (xs : List ℕ). struck xs outstanding) longer ∙ none
 
 -- where no entry of the plan is left, nothing is
 pub struck-none_left : (plan outstanding : List ℕ) (index : ℕ) → length plan ≤ index →

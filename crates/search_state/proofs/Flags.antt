@@ -1,7 +1,6 @@
 -- What a standing says of the parts that it is read off, and what they say of it.
-use Rattle.std.proofs.Common.{◌≡◌, ℕ, ◌≤◌, ◌==◌, nat_le, Bool, true, false, ◌&&◌, if◌then◌else◌, List, [], Option, Some, None, refl, sym, ap, subst, ◌∙◌, arith, true≢false}
-use Rattle.std.proofs.lemmas.Bool.Decides.{nat_tests}
-use Rattle.farm_rules.specs.Reruns.{Outcome, confirmed, enough, outcome, verifying, vindicating}
+use Rattle.std.proofs.Common.{◌≡◌, ℕ, ◌≤◌, ◌==◌, Bool, true, false, if◌then◌else◌, List, Option, Some, None, refl, sym, ap, subst, ◌∙◌, true≢false}
+use Rattle.farm_rules.specs.Reruns.{Outcome, confirmed, outcome, verifying, vindicating}
 use Rattle.weight_exact.specs.Share.{reached}
 use Rattle.weight_exact.specs.Weights.{hypotheses}
 use Rattle.weight_exact.specs.declared.run.Run.{Run}
@@ -125,13 +124,3 @@ pub verified-first : (o : Opening) (again : List Run) (runs : List Run) (c : ℕ
     standing_of_reached o again (reached (setup_of o) runs) ≡ Verifying c → 1 ≤ c
 verified-first o again runs c h =
     (IsReached-from_some (setup_of o) runs c (parts-verifying o false false again (reached (setup_of o) runs) c h).bar).first
-
--- before any rerun a suspect is to be verified, where some are asked for
-enough-none : (c asked : ℕ) → 1 ≤ asked → enough c asked [] ≡ false
-enough-none c asked some =
-    let long : nat_le asked 0 ≡ false = grind (arith, nat_tests) in
-    ap (λ (b : Bool). b && nat_le asked 0) long
-
-pub outcome-none : (c asked : ℕ) → 1 ≤ asked → outcome c asked [] ≡ verifying
-outcome-none c asked some =
-    ap (λ (b : Bool). if b then confirmed else verifying) (enough-none c asked some)

@@ -16,23 +16,17 @@ use Rattle.farm_board.proofs.board.Board.TheSendSync as Board
 use Rattle.farm_board.proofs.pass.BoardPass.TheSendSync as BoardPass
 use Rattle.shared_farm.specs.contracts.locked.Locked as Locked
 use Rattle.shared_farm.specs.contracts.farm.SharedFarm as SharedFarm
-use Rattle.shared_farm.specs.contracts.since.StoreSince as StoreSince
 use Rattle.shared_farm.specs.declared.beginning.Beginning as beginning
 
--- the store, what the lock holds, and the shared farm, each over any disk that is `Send`
-since-send : (D B : RattleType) (ghosts : Ghosts D.Denot) (begun : beginning.Ghosts B.Denot) → IsSend D → IsSend B
-    → IsSend (StoreSince.the_row D B ghosts begun)
-since-send D B ghosts begun disk mark =
-    let store = store-send D ghosts disk in search (sendable, crosses) depth 20
-
+-- what the lock holds, and the shared farm, each over any disk that is `Send`
 pub locked-send : (D B : RattleType) (ghosts : Ghosts D.Denot) (begun : beginning.Ghosts B.Denot) → IsSend D → IsSend B
     → IsSend (Locked.the_row D B ghosts begun)
 locked-send D B ghosts begun disk mark =
-    let store = since-send D B ghosts begun disk mark in
+    let store = store-send D ghosts disk in
     search (Board.the_send, Board.the_sync, BoardPass.the_send, sendable, crosses) depth 20
 
-pub shared_farm-sync : (D B : RattleType) (ghosts : Ghosts D.Denot) (begun : beginning.Ghosts B.Denot) → IsSend D → IsSend B
-    → IsSync (SharedFarm.the_row D B ghosts begun)
+pub shared_farm-sync : (D B : RattleType) (ghosts : Ghosts D.Denot) (begun : beginning.Ghosts B.Denot) → IsSend D
+    → IsSend B → IsSync (SharedFarm.the_row D B ghosts begun)
 shared_farm-sync D B ghosts begun disk mark =
     let locked = locked-send D B ghosts begun disk mark in
     search (TurnLock.the_sync, JobTable.the_sync, Errand.the_send, Outcome.the_send, sendable, crosses) depth 20

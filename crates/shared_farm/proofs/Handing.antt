@@ -1,19 +1,19 @@
 -- Those whose errands were taken over, one after the other, and the parts of their asks.
-use Rattle.std.proofs.Common.{◌≡◌, ◌++◌, ◌∷◌, [], List, ℕ, ◌<◌, Bool, true, ◌==◌, Vec, Global, length, get_or, take, drop, arith, sym, refl, ap, ◌∙◌, subst, map, suc, slice_index_or}
+use Rattle.std.proofs.Common.{◌≡◌, ◌++◌, ◌∷◌, [], All, List, ℕ, ◌<◌, Bool, true, ◌==◌, Vec, Global, length, get_or, take, drop, arith, sym, refl, ap, ◌∙◌, subst, map, suc, slice_index_or}
 use Rattle.std.specs.List.{remove}
 use Rattle.std.proofs.lemmas.List.{take_at}
+use Rattle.std.proofs.lemmas.List.Elements.{All-cons, All-nil}
 use Rattle.farm_store.specs.declared.asking.Ask.{Ask}
 use Rattle.std.proofs.lemmas.Bool.Decides.{nat_tests}
 use Rattle.atomic_table.specs.Seated.{TableId}
-use Rattle.farm_disk.specs.declared.disk.Disk as disk
 use Rattle.farm_store.specs.State.{StoreState}
 use Rattle.farm_store.specs.Together.{all_asks}
 use Rattle.farm_store.specs.Answering.{history_after}
 use Rattle.farm_store.specs.declared.asking.Part.{Part}
-use Rattle.std.specs.Prelude.{Option}
 use Rattle.job_table.specs.Jobs.{Jobs}
-use Rattle.shared_farm.specs.Rests.{Begun}
+use Rattle.shared_farm.specs.Errands.{IsErrand, errands_asks}
 use Rattle.shared_farm.specs.Rounds.{AreHelped, IsHelped, IsShared, first_asks}
+use Rattle.shared_farm.specs.declared.errand.Errand.{Errand}
 use Rattle.shared_farm.specs.declared.errand.Helped.{Helped}
 
 -- a list that isn't empty is its first item and the rest
@@ -54,21 +54,40 @@ module _ {K : Type 0} (lock : TableId) (jobs : Jobs K) where
   helped-none (part ∷ parts) [] are none = absurd are
   helped-none (part ∷ parts) (helped ∷ group) are none = absurd (omega (arith, none))
 
+  -- what the parts ask is what the errands ask, of which there are as many
+  pub record AreErrands (parts : List Part) (errands : List Errand) : Type 0 where
+    pub each : All (IsErrand lock) errands
+    pub asks : all_asks parts ≡ errands_asks errands
+    pub count : length errands ≡ length parts
+
+  pub helped-errands : (parts : List Part) (group : List (Helped K)) → AreHelped lock jobs parts group
+      → AreErrands parts (map (λ (h : Helped K). h.taken.job) group)
+  helped-errands [] [] are = record { each = All-nil (IsErrand lock); asks = refl; count = refl }
+  helped-errands [] (h ∷ group) are = absurd are
+  helped-errands (p ∷ parts) [] are = absurd are
+  helped-errands (p ∷ parts) (h ∷ group) are =
+      let rest = helped-errands parts group are.1 in
+      record {
+        each = All-cons (IsErrand lock) h.taken.job (map (λ (k : Helped K). k.taken.job) group) are.0.errand rest.each;
+        asks = ap (λ (l : List Ask). l ++ all_asks parts) are.0.asks
+            ∙ ap (λ (l : List Ask). h.taken.job.asks.items ++ l) rest.asks;
+        count = ap (λ (n : ℕ). suc n) rest.count;
+      }
+
 -- where no part is left, all entries were shown
-pub all-shown : {D : Type 0} (meant : disk.Ghosts D) (begun : Option Begun) (store : StoreState D) (shown : ℕ)
-    (parts : List Part) → IsShared meant begun store shown parts → parts ≡ [] → take shown store.history ≡ store.history
-all-shown meant begun store shown parts s none =
+all-shown : {D : Type 0} (store : StoreState D) (shown : ℕ) (parts : List Part) → IsShared store shown parts
+    → parts ≡ [] → take shown store.history ≡ store.history
+all-shown store shown parts s none =
     sym (s.history ∙ ap (λ (l : List Part). history_after (take shown store.history) (all_asks l)) none)
 
-module _ {K D : Type 0} (lock : TableId) (jobs : Jobs K) (meant : disk.Ghosts D) (begun : Option Begun)
-    (store : StoreState D) (shown : ℕ) (parts : Vec Part Global) (group : Vec (Helped K) Global) where
+module _ {K D : Type 0} (lock : TableId) (jobs : Jobs K) (store : StoreState D) (shown : ℕ) (parts : Vec Part Global)
+    (group : Vec (Helped K) Global) where
   -- where no errand is left, the whole history was shown
-  pub whole-shown : (none : Bool) → IsShared meant begun store shown parts.items
-      → AreHelped lock jobs parts.items group.items → none ≡ (group.len == 0) → none ≡ true
-      → take shown store.history ≡ store.history
+  pub whole-shown : (none : Bool) → IsShared store shown parts.items → AreHelped lock jobs parts.items group.items
+      → none ≡ (group.len == 0) → none ≡ true → take shown store.history ≡ store.history
   whole-shown none shared helped is holds =
       let empty : length group.items ≡ 0 = sym group.ok.0 ∙ grind (arith, nat_tests, is, holds) in
-      all-shown meant begun store shown parts.items shared (helped-none lock jobs parts.items group.items helped empty)
+      all-shown store shown parts.items shared (helped-none lock jobs parts.items group.items helped empty)
 
 -- the parts as they were lent, when they come back
 pub lent-back : (v : Vec Part Global) (new : List Part) → length new ≡ length v.items

@@ -1,28 +1,29 @@
 -- What a caller knows after a turn, from what the lock and the store say.
-use Rattle.std.proofs.Common.{◌≡◌, ◌++◌, List, ℕ, true, ◌+◌, ◌-◌, ◌≤◌, ◌⊎◌, [], Option, Some, IfSome, inl, inr, ⊎_elim, length, take, arith, sym, refl, ap, ◌∙◌, subst, append-nil, length-append, zero, suc}
+use Rattle.std.proofs.Common.{◌≡◌, ◌++◌, List, ℕ, ◌+◌, ◌-◌, ◌≤◌, ◌⊎◌, [], Some, inl, inr, ⊎_elim, length, take, arith, sym, ap, ◌∙◌, subst, append-nil}
 use Rattle.std.specs.Prelude.{Result, Ok, Err}
 use Rattle.farm_store.specs.Answering.{BatchSays, IsUndecided, IsUnrepaired}
 use Rattle.farm_store.specs.declared.asking.CallFault.TheVariants.{Refused, StoreFault, Memory}
 use Rattle.std.specs.List.{range_with_len}
 use Rattle.std.proofs.lemmas.List.{take_all}
+use Rattle.std.proofs.lemmas.List.Elements.{All-nil}
 use Rattle.atomic_table.specs.Seated.{TableId}
 use Rattle.farm_entry.specs.declared.entry.Entry.{Entry}
 use Rattle.farm_entry.specs.Legal.{IsLegal}
 use Rattle.farm_store.specs.Faults.{HasCallCause}
-use Rattle.farm_disk.specs.declared.disk.Disk as disk
 use Rattle.farm_store.specs.State.{StoreState}
-use Rattle.farm_store.specs.declared.asking.Answer.{Answer}
+use Rattle.farm_entry.specs.declared.answer.Answer.{Answer}
 use Rattle.farm_store.specs.declared.asking.Ask.{Ask}
 use Rattle.farm_store.specs.declared.asking.CallFault.{CallFault}
 use Rattle.list_prefix.specs.Prefix.{IsPrefix}
-use Rattle.list_prefix.proofs.Prefixes.{IsPrefix-equal, IsPrefix-length, IsPrefix-same, IsPrefix-trans}
+use Rattle.list_prefix.proofs.Prefixes.{IsPrefix-length, IsPrefix-trans}
 use Rattle.turn_lock.specs.Known.{Before, IsSettled, Known, MayRise, known_after}
 use Rattle.turn_lock.specs.Places.{ArePlaces}
 use Rattle.turn_lock.specs.declared.view.Taken.{Taken}
 use Rattle.turn_lock.proofs.PlaceLists.{ArePlaces-append, ArePlaces-widen}
-use Rattle.shared_farm.specs.Rests.{Begun, CameBy, RecordKeeps, TurnKeeps, TurnLeaves, rest_of}
-use Rattle.shared_farm.specs.Turns.{AreOwn, IsTurn, StaysSettled, TurnSays, own_places}
-use Rattle.shared_farm.proofs.Recorded.{ArePlaces-own_places, IsOwnFrom}
+use Rattle.shared_farm.specs.Answered.{GoesOn, own_places}
+use Rattle.shared_farm.specs.Errands.{IsErrand}
+use Rattle.shared_farm.specs.Turns.{AreOwn, IsTurnBy, KeepsPass, StaysSettled, TurnSays}
+use Rattle.shared_farm.proofs.Recorded.{ArePlaces-own_places, own-places}
 
 -- what a turn of a caller took: a store that went on from what the caller had seen
 pub record IsTaken {D : Type 0} (count : D → ℕ) (old : Known) (held : Before) (found : StoreState D) : Type 0 where
@@ -31,23 +32,13 @@ pub record IsTaken {D : Type 0} (count : D → ℕ) (old : Known) (held : Before
   pub begins : IsPrefix old.seen found.history
   pub faults : old.faults ≤ count found.disk
 
--- what a call of a store left, whatever was asked: a history that went on from a legal one, at whose end stands what
--- was recorded, and nothing pending unless the disk failed
-pub record HasAnswered {D : Type 0} (count : D → ℕ) (found left : StoreState D) : Type 0 where
-  pub legal : IsLegal found.history
-  pub longer : IsPrefix found.history left.history
-  pub room : length found.history + left.recorded ≤ length left.history
-  pub recorded : IsOwnFrom found left
-  pub settled : count found.disk ≡ count left.disk → MayRise (count left.disk) → left.pending ≡ []
-  pub never_falls : count found.disk ≤ count left.disk
-
 -- a turn of a caller, in which a store has answered
 pub record IsServing {D : Type 0} (count : D → ℕ) (old : Known) (held : Before) (found left : StoreState D)
     (own : List ℕ) : Type 0 where
   pub held_is : held.pass ≡ old
   pub places : ArePlaces 0 (length old.seen) old.mine
   pub taken : IsTaken count old held found
-  pub answered : HasAnswered count found left
+  pub answered : GoesOn count found left
   pub own_is : own ≡ own_places left
 
 -- and which was then given back, or went on to another caller
@@ -120,15 +111,15 @@ module _ {D : Type 0} {count : D → ℕ} {old new : Known} {held : Before} {fou
   -- all that is new is the caller's own
   pub served-own : AreOwn old new
   served-own =
-      let own = s.serving.answered.recorded in
+      let grown = s.serving.answered.grown in
       record {
-        repaired = own.repaired;
-        found = subst (λ (t : Taken). (own.repaired ≡ t.entries) ⊎ (own.repaired ≡ t.entries ++ t.pending))
-            (sym took_is) own.found;
-        begins = subst (λ (l : List Entry). IsPrefix own.repaired l) (sym seen_is) own.begins;
+        repaired = grown.repaired;
+        found = subst (λ (t : Taken). (grown.repaired ≡ t.entries) ⊎ (grown.repaired ≡ t.entries ++ t.pending))
+            (sym took_is) grown.found;
+        begins = subst (λ (l : List Entry). IsPrefix grown.repaired l) (sym seen_is) grown.begins;
         mine = subst (λ (l : List Entry). new.mine ≡ old.mine
-            ++ range_with_len (length own.repaired) (length l - length own.repaired)) (sym seen_is)
-            (mine_is ∙ ap (λ (l : List ℕ). old.mine ++ l) own.own);
+            ++ range_with_len (length grown.repaired) (length l - length grown.repaired)) (sym seen_is)
+            (mine_is ∙ ap (λ (l : List ℕ). old.mine ++ l) (own-places found left grown));
       }
 
   pub served-settled : StaysSettled old new
@@ -144,15 +135,16 @@ module _ {D : Type 0} {count : D → ℕ} {old new : Known} {held : Before} {fou
             ∙ ap (λ (l : List Entry). Some l) (s.serving.answered.settled now_is (omega (arith, last, rises))),
       )
 
-  pub served-turn : (asks : List Ask) (result : Result (List Answer) CallFault) → TurnSays asks result found left
-      → HasCallCause result (count found.disk) (count left.disk) → IsTurn count asks result old new
-  served-turn asks result says cause = record {
+  pub served-turn : {T : Type 0} (Says : (x y : StoreState D) → Type 0) (result : Result T CallFault)
+      → Says found left → HasCallCause result (count found.disk) (count left.disk)
+      → IsTurnBy count Says result old new
+  served-turn Says result says cause = record {
     found = found;
     left = left;
     used = ap (λ (k : Known). k.uses) s.new_is ∙ ap (λ (k : Known). k.uses + 1) s.serving.held_is;
     took = took_is;
     settled = s.serving.taken.settled;
-    legal = s.serving.answered.legal;
+    legal = s.serving.answered.found;
     begins = s.serving.taken.begins;
     faults = s.serving.taken.faults;
     says = says;
@@ -178,71 +170,66 @@ module _ {D : Type 0} {count : D → ℕ} {old new : Known} {held : Before} {fou
       (ArePlaces-widen 0 (length old.seen) 0 (length found.history) old.mine (omega arith) le s.serving.places)
       (ArePlaces-own_places found left s.serving.answered.room)))
 
--- what a crash leaves in a turn of a caller
-pub served-keeps : {D : Type 0} (meant : disk.Ghosts D) (begun : Option Begun) {old new : Known} {held : Before}
-    {found left : StoreState D} {own : List ℕ} → IsServed meant.count old new held found left own
-    → (meant.tells found.disk ≡ true → TurnLeaves (rest_of meant found) (rest_of meant left))
-    → IfSome begun (λ b. CameBy meant b found × CameBy meant b left) → TurnKeeps meant begun new
-served-keeps meant begun {found = found} {left = left} s leaves came = record {
-  found = found;
-  left = left;
-  took = ap (λ (k : Known). k.last) s.new_is ∙ s.serving.taken.took;
-  seen = ap (λ (k : Known). k.seen) s.new_is;
-  pending = ap (λ (k : Known). k.pending) s.new_is;
-  faults = ap (λ (k : Known). k.faults) s.new_is;
-  leaves = leaves;
-  came = came;
-}
+  -- what the turn keeps of the pass
+  pub served-keeps : (lock : TableId) → s.lock ≡ lock → KeepsPass lock old new
+  served-keeps lock same =
+      let low = s.serving.taken.faults in
+      let high = s.serving.answered.never_falls in
+      let last : new.faults ≡ count left.disk = ap (λ (k : Known). k.faults) s.new_is in
+      record {
+        ready = record {
+          own = ap (λ (k : Known). k.lock) s.new_is ∙ same;
+          free = ap (λ (k : Known). k.ready) s.new_is;
+        };
+        settled = served-settled;
+        longer = served-longer;
+        legal = subst IsLegal (sym seen_is) s.serving.answered.legal;
+        places = served-places;
+        faults = omega (arith, low, high, last);
+      }
 
--- what is kept of a batch's record, which had no others, is what is kept of its turn
-pub kept-alone : {D : Type 0} (meant : disk.Ghosts D) (begun : Option Begun) (pass : Known) → TurnKeeps meant begun pass
-    → RecordKeeps meant begun pass
-kept-alone meant begun pass k = record {
-  found = k.found;
-  left = k.left;
-  begins = IsPrefix-equal k.found.history pass.last.entries (sym (ap (λ (t : Taken). t.entries) k.took));
-  seen = IsPrefix-equal pass.seen k.left.history k.seen;
-  pending = k.pending;
-  faults = k.faults;
-  leaves = k.leaves;
-  came = k.came;
-}
+-- what is kept of a pass whose turn gave the store back as it was
+pub look-keeps : {D : Type 0} (count : D → ℕ) (old new : Known) (held : Before) (store : StoreState D) (own : List ℕ)
+    (lock : TableId) → held.pass ≡ old → IsTaken count old held store → ArePlaces 0 (length old.seen) old.mine
+    → IsLegal store.history → own ≡ []
+    → new ≡ known_after lock held store.history own (count store.disk) store.pending → KeepsPass lock old new
+look-keeps count old new held store own lock held_is taken places legal none new_is =
+    let seen_is : new.seen ≡ store.history = ap (λ (k : Known). k.seen) new_is in
+    let faults_is : new.faults ≡ count store.disk = ap (λ (k : Known). k.faults) new_is in
+    let mine_is : new.mine ≡ old.mine =
+    ap (λ (k : Known). k.mine) new_is
+    ∙ (ap (λ (k : Known). k.mine ++ own) held_is ∙ ap (λ (l : List ℕ). old.mine ++ l) none ∙ append-nil old.mine) in
+    let le = IsPrefix-length old.seen store.history taken.begins in
+    let low = taken.faults in
+    record {
+      ready = record { own = ap (λ (k : Known). k.lock) new_is; free = ap (λ (k : Known). k.ready) new_is };
+      settled = λ nothing same rises.
+          let none_then : store.pending ≡ [] =
+          taken.settled nothing (same ∙ faults_is) (subst MayRise faults_is rises) in (
+            ap (λ (k : Known). k.last.pending) new_is ∙ ap (λ (t : Taken). t.pending) taken.took ∙ none_then,
+            ap (λ (k : Known). k.pending) new_is ∙ ap (λ (l : List Entry). Some l) none_then,
+          );
+      longer = subst (λ (l : List Entry). IsPrefix old.seen l) (sym seen_is) taken.begins;
+      legal = subst IsLegal (sym seen_is) legal;
+      places = subst (λ (l : List Entry). ArePlaces 0 (length l) new.mine) (sym seen_is)
+          (subst (λ (l : List ℕ). ArePlaces 0 (length store.history) l) (sym mine_is)
+          (ArePlaces-widen 0 (length old.seen) 0 (length store.history) old.mine (omega arith) le places));
+      faults = omega (arith, low, faults_is);
+    }
 
-module _ {D : Type 0} where
-  -- what a call of a store came to is what its turn came to, whose record had no others
+module _ {D : Type 0} (lock : TableId) where
+  -- what a call of a store came to with a batch is what its turn came to, whose record had no others
   pub says-alone : (asks : List Ask) (result : Result (List Answer) CallFault) (old new : StoreState D)
-      → BatchSays asks result old new → TurnSays asks result old new
+      → BatchSays asks result old new → TurnSays lock asks result old new
   says-alone asks (Ok answers) old new says = says
   says-alone asks (Err (Refused cause)) old new says = absurd says
   says-alone asks (Err (StoreFault before after)) old new says = ⊎_elim
       (λ (u : IsUnrepaired old new). inl u)
       (λ (u : IsUndecided asks old new). inr record {
         others = [];
+        posted = All-nil (IsErrand lock);
+        few = omega arith;
         undecided = subst (λ (l : List Ask). IsUndecided l old new) (sym (append-nil asks)) u;
       })
       says
   says-alone asks (Err Memory) old new says = says
-
-length-run : (first count : ℕ) → length (range_with_len first count) ≡ count
-length-run first zero = refl
-length-run first (suc count) = ap suc (length-run (first + 1) count)
-
-no_more : (ps qs : List ℕ) → ps ≡ ps ++ qs → length qs ≡ 0
-no_more ps qs same =
-    let n : length ps ≡ length (ps ++ qs) = ap (λ (l : List ℕ). length l) same in
-    omega (arith, n, length-append ps qs)
-
--- where nothing was pending, a call that told no place left the history as its turn took it
-pub own-unchanged : (old new : Known) → AreOwn old new → new.last.pending ≡ [] → old.mine ≡ new.mine
-    → new.seen ≡ new.last.entries
-own-unchanged old new w none same =
-    let start : w.repaired ≡ new.last.entries = ⊎_elim
-    (λ (e : w.repaired ≡ new.last.entries). e)
-    (λ (e : w.repaired ≡ new.last.entries ++ new.last.pending).
-    e ∙ (ap (λ (l : List Entry). new.last.entries ++ l) none ∙ append-nil new.last.entries))
-    w.found in
-    let first : ℕ = length w.repaired in
-    let count : ℕ = length new.seen - first in
-    let few : length (range_with_len first count) ≡ 0 = no_more old.mine (range_with_len first count) (same ∙ w.mine) in
-    let none_new : count ≡ 0 = sym (length-run first count) ∙ few in
-    IsPrefix-same w.repaired new.seen w.begins (omega (arith, none_new)) ∙ start

@@ -1,5 +1,5 @@
 -- What became of a store by the turns at its farm, and what a crash left meanwhile.
-use Rattle.std.specs.Prelude.{◌≡◌, ◌⊎◌, ◌≤◌, ◌++◌, Bool, true, ℕ, List, [], ◌∷◌, Option, Some, IfSome}
+use Rattle.std.specs.Prelude.{◌≡◌, ◌⊎◌, ◌≤◌, ◌++◌, Bool, true, ℕ, List, [], ◌∷◌}
 use Rattle.farm_disk.specs.Images.{DiskState, LeavesOnly}
 use Rattle.farm_disk.specs.declared.disk.Disk as disk
 use Rattle.farm_entry.specs.declared.entry.Entry.{Entry}
@@ -7,7 +7,6 @@ use Rattle.farm_store.specs.Bytes.{StandsFor}
 use Rattle.farm_store.specs.State.{IsStored, IsWithOrWithout, StoreState}
 use Rattle.fault_types.specs.Counts.{Rose}
 use Rattle.list_prefix.specs.Prefix.{IsPrefix}
-use Rattle.turn_lock.specs.Known.{Known}
 
 -- a store at rest, before a turn or after it: its history, what is pending, what its disk told so far, and how often
 -- the disk has failed
@@ -29,7 +28,8 @@ rest_of meant store = record {
 -- what a crash may leave while one rest becomes the next: the history from before, with or without what was pending
 -- then, or the history from now with all that is pending now
 abbrev pub IsLeftBetween : (old new : Rest) → List ℕ → Type 0
-IsLeftBetween old new bytes = IsWithOrWithout old.history old.pending bytes ⊎ StandsFor (new.history ++ new.pending) bytes
+IsLeftBetween old new bytes =
+    IsWithOrWithout old.history old.pending bytes ⊎ StandsFor (new.history ++ new.pending) bytes
 
 -- One turn that called the store. The history went on; each image of each moment of the turn is one that it may leave,
 -- and each image after it is the history, or it with what is pending. Nothing is pending unless the disk failed in
@@ -57,31 +57,6 @@ pub record CameBy {D : Type 0} (meant : disk.Ghosts D) (begun : Begun) (store : 
   pub same : meant.tells store.disk ≡ begun.tells
   pub turns : List Rest
   pub turned : begun.tells ≡ true → AreTurns begun.store turns (rest_of meant store)
-
--- What a crash leaves in the last turn of a pass, where its disk tells: the store that the turn took is the one found,
--- and the pass has seen the one left. Where it is known what the farm began with, both came from that by turns, so that
--- their disks tell where the one at the beginning did.
-pub record TurnKeeps {D : Type 0} (meant : disk.Ghosts D) (begun : Option Begun) (pass : Known) : Type 0 where
-  pub found : StoreState D
-  pub left : StoreState D
-  pub took : pass.last ≡ record { entries = found.history; count = meant.count found.disk; pending = found.pending }
-  pub seen : pass.seen ≡ left.history
-  pub pending : pass.pending ≡ Some left.pending
-  pub faults : pass.faults ≡ meant.count left.disk
-  pub leaves : meant.tells found.disk ≡ true → TurnLeaves (rest_of meant found) (rest_of meant left)
-  pub came : IfSome begun (λ b. CameBy meant b found × CameBy meant b left)
-
--- The same of a batch, whose record others may share: the store that the turn of all of them took is the one found, and
--- the pass has seen the one left up to its own entries.
-pub record RecordKeeps {D : Type 0} (meant : disk.Ghosts D) (begun : Option Begun) (pass : Known) : Type 0 where
-  pub found : StoreState D
-  pub left : StoreState D
-  pub begins : IsPrefix found.history pass.last.entries
-  pub seen : IsPrefix pass.seen left.history
-  pub pending : pass.pending ≡ Some left.pending
-  pub faults : pass.faults ≡ meant.count left.disk
-  pub leaves : meant.tells found.disk ≡ true → TurnLeaves (rest_of meant found) (rest_of meant left)
-  pub came : IfSome begun (λ b. CameBy meant b found × CameBy meant b left)
 
 -- what a farm begins with that is shared now
 abbrev pub begun_of : {D : Type 0} → disk.Ghosts D → StoreState D → Begun

@@ -1,7 +1,6 @@
 -- What the turns of those go by whose asks were answered together, or are asked one after the other.
-use Rattle.std.specs.Prelude.{◌≡◌, ◌≤◌, ℕ, List, [], ◌∷◌, length, Option, IfSome, take, true, ⊤}
+use Rattle.std.specs.Prelude.{◌≡◌, ◌≤◌, ℕ, List, [], ◌∷◌, length, take, ⊤}
 use Rattle.atomic_table.specs.Seated.{TableId}
-use Rattle.farm_disk.specs.declared.disk.Disk as disk
 use Rattle.farm_entry.specs.Legal.{IsLegal}
 use Rattle.farm_entry.specs.declared.entry.Entry.{Entry}
 use Rattle.farm_store.specs.Answering.{AreAnswers, history_after}
@@ -14,7 +13,6 @@ use Rattle.list_prefix.specs.Prefix.{IsPrefix}
 use Rattle.turn_lock.specs.Known.{Before, IsSettled}
 use Rattle.turn_lock.specs.Places.{ArePlaces}
 use Rattle.shared_farm.specs.Errands.{IsErrand}
-use Rattle.shared_farm.specs.Rests.{Begun, CameBy, TurnLeaves, rest_of}
 use Rattle.shared_farm.specs.declared.errand.Helped.{Helped}
 
 -- a turn just took a store, by a pass that had seen a beginning of its history
@@ -53,15 +51,10 @@ AreAnswered H (part ∷ parts) =
     × AreAnswered (history_after H part.asks.items) parts
 
 -- The record that others share was stored: the store's history is that of the asks of all parts, past the entries that
--- were shown so far, and a turn left it so that found a history which those entries begin with.
-pub record IsShared {D : Type 0} (meant : disk.Ghosts D) (begun : Option Begun) (store : StoreState D) (shown : ℕ)
-    (parts : List Part) : Type 0 where
+-- were shown so far.
+pub record IsShared {D : Type 0} (store : StoreState D) (shown : ℕ) (parts : List Part) : Type 0 where
   pub answered : AreAnswered (take shown store.history) parts
   pub history : store.history ≡ history_after (take shown store.history) (all_asks parts)
   pub within : shown ≤ length store.history
   pub legal : IsLegal (take shown store.history)
   pub decided : store.pending ≡ []
-  pub found : StoreState D
-  pub begins : IsPrefix found.history (take shown store.history)
-  pub leaves : meant.tells found.disk ≡ true → TurnLeaves (rest_of meant found) (rest_of meant store)
-  pub came : IfSome begun (λ b. CameBy meant b found × CameBy meant b store)

@@ -1,5 +1,6 @@
 //! Calls that whoever has the turn makes for those who wait.
-ghost use Rattle.shared_farm.specs.Errands.{IsDone, IsErrand};
+ghost use Rattle.shared_farm.specs.Errands.{IsErrand};
+ghost use Rattle.shared_farm.specs.Outcomes.{IsDone};
 
 use crate::beginning::Beginning;
 use crate::locked::Locked;
@@ -43,7 +44,7 @@ pub struct ByTurns<D, B> {
 impl<D: Disk, B: Beginning> JobRule<FarmLock<D, B>, Errand, Outcome> for ByTurns<D, B> {
     ghost may = { λ key errand. IsErrand key errand };
 
-    ghost says = { λ key errand outcome. IsDone D.Disk B.begun key errand outcome };
+    ghost says = { λ key errand outcome. IsDone D.count key errand outcome };
 }
 
 /// The errands of a farm's callers.

@@ -1,15 +1,14 @@
 //! The shared farm.
-ghost use Rattle.std.specs.Prelude.{◌≡◌, ◌≤◌, ◌<◌, ◌↔◌, ◌+◌, [], ◌∷◌, true, Some, IfOk, IfErr, IfSome, length, max};
+ghost use Rattle.std.specs.Prelude.{◌≡◌, ◌≤◌, ◌<◌, ◌↔◌, ◌+◌, [], true, Some, IfOk, IfErr, IfSome, length, max};
 ghost use Rattle.entry_codec.specs.LogPage.{log_page};
-ghost use Rattle.farm_entry.specs.Legal.{IsLegal};
-ghost use Rattle.farm_store.specs.Answering.{as_batch};
 ghost use Rattle.farm_store.specs.declared.asking.TheConstants.{MAX_BATCH};
 ghost use Rattle.list_prefix.specs.Prefix.{IsPrefix, longer};
 ghost use Rattle.turn_lock.specs.Known.{IsReady, both_pending, no_turn};
 ghost use Rattle.turn_lock.specs.Places.{ArePlaces, both_places};
-ghost use Rattle.shared_farm.specs.Errands.{IsDone, IsErrand};
-ghost use Rattle.shared_farm.specs.Rests.{CameBy, RecordKeeps, TurnKeeps};
-ghost use Rattle.shared_farm.specs.Turns.{AreOwn, EntersInTurn, IsLook, IsTurn, StaysSettled};
+ghost use Rattle.shared_farm.specs.Errands.{IsErrand};
+ghost use Rattle.shared_farm.specs.Outcomes.{IsDone};
+ghost use Rattle.shared_farm.specs.Rests.{CameBy};
+ghost use Rattle.shared_farm.specs.Turns.{AreOwn, EntersInTurn, IsCall, IsLook, IsTurn, KeepsPass};
 
 use crate::beginning::Beginning;
 use crate::errand::{Errands, FarmLock};
@@ -17,8 +16,6 @@ use crate::group_wait::GroupWait;
 use crate::locked::Locked;
 use crate::reader::TotalsReader;
 use crate::sharing::{ask_alone, hand_in};
-use crate::since::StoreSince;
-use farm_board::Board;
 use farm_disk::Disk;
 use farm_entry::{Command, LeasedRun, Reply};
 use farm_store::{Answers, Ask, CallFault, Store};
@@ -26,7 +23,7 @@ use farm_types::{Memory, Moment};
 use job_table::JobTable;
 use std::alloc::Global;
 use std::marker::{Brand, Model};
-use std::sync::{Arc, Wait};
+use std::sync::Wait;
 use turn_lock::{Pass, TurnLock};
 
 /// A farm whose history stands on a disk, for callers in many threads. Contracts see it as the name of its lock, by
@@ -67,16 +64,9 @@ impl<D: Disk, B: Beginning> SharedFarm<D, B> {
         }) }
         ensures back { IfErr result (λ same. same ≡ store) }
     {
-        let Ok((board, posting)) = Board::of(alloc, store.totals(), store.history()) else {
-            return Err(store);
-        };
-        let Ok(board) = Arc::new(alloc, board) else {
-            return Err(store);
-        };
-        let locked = Locked {
-            store: StoreSince::new(store),
-            board,
-            posting,
+        let locked = match Locked::new(alloc, store) {
+            Ok(locked) => locked,
+            Err(store) => return Err(store),
         };
         let locked = match Box::new(alloc, locked) {
             Ok(boxed) => boxed,
@@ -152,20 +142,13 @@ impl<D: Disk, B: Beginning> SharedFarm<D, B> {
         at: Moment,
     ) -> Result<Reply, CallFault>
         requires ready { IsReady self.now pass.old }
-        ensures ready { IsReady self.now pass.new }
-        ensures turn { IsTurn D.count (record { command = command.now; at = at } ∷ []) (as_batch result) pass.old
-            pass.new }
-        ensures keeps { TurnKeeps D.Disk B.begun pass.new }
+        ensures turn { IsCall D.count command.now at result pass.old pass.new }
         ensures own { AreOwn pass.old pass.new }
-        ensures settled { StaysSettled pass.old pass.new }
-        ensures longer { IsPrefix pass.old.seen pass.new.seen }
-        ensures legal { IsLegal pass.new.seen }
-        ensures places { ArePlaces 0 (length pass.new.seen) pass.new.mine }
-        ensures faults { pass.old.faults ≤ pass.new.faults }
+        ensures keeps { KeepsPass self.now pass.old pass.new }
     {
         let mut turn = self.lock.turn(rt, pass);
         let result = turn.value.call(alloc, command, at);
-        turn.own = turn.value.store.own_places();
+        turn.own = turn.value.own_places();
         self.lock.back(turn, pass);
         self.ring_next();
         result
@@ -186,19 +169,13 @@ impl<D: Disk, B: Beginning> SharedFarm<D, B> {
         at: Moment,
     ) -> Result<Option<LeasedRun>, CallFault>
         requires ready { IsReady self.now pass.old }
-        ensures ready { IsReady self.now pass.new }
         ensures turn { EntersInTurn D.count command.now at result pass.old pass.new }
-        ensures keeps { TurnKeeps D.Disk B.begun pass.new }
         ensures own { AreOwn pass.old pass.new }
-        ensures settled { StaysSettled pass.old pass.new }
-        ensures longer { IsPrefix pass.old.seen pass.new.seen }
-        ensures legal { IsLegal pass.new.seen }
-        ensures places { ArePlaces 0 (length pass.new.seen) pass.new.mine }
-        ensures faults { pass.old.faults ≤ pass.new.faults }
+        ensures keeps { KeepsPass self.now pass.old pass.new }
     {
         let mut turn = self.lock.turn(rt, pass);
         let result = turn.value.enter(alloc, command, at);
-        turn.own = turn.value.store.own_places();
+        turn.own = turn.value.own_places();
         self.lock.back(turn, pass);
         self.ring_next();
         result
@@ -223,15 +200,9 @@ impl<D: Disk, B: Beginning> SharedFarm<D, B> {
         requires some { 1 ≤ length asks.old.items }
         requires few { length asks.old.items ≤ MAX_BATCH }
         ensures asks { asks.new.items ≡ asks.old.items }
-        ensures ready { IsReady self.now pass.new }
         ensures turn { IsTurn D.count asks.old.items result pass.old pass.new }
-        ensures keeps { RecordKeeps D.Disk B.begun pass.new }
         ensures own { AreOwn pass.old pass.new }
-        ensures settled { StaysSettled pass.old pass.new }
-        ensures longer { IsPrefix pass.old.seen pass.new.seen }
-        ensures legal { IsLegal pass.new.seen }
-        ensures places { ArePlaces 0 (length pass.new.seen) pass.new.mine }
-        ensures faults { pass.old.faults ≤ pass.new.faults }
+        ensures keeps { KeepsPass self.now pass.old pass.new }
     {
         match &self.errands {
             Some(errands) if self.lock.turns_are_long() => {
@@ -248,13 +219,9 @@ impl<D: Disk, B: Beginning> SharedFarm<D, B> {
     /// A reader of totals, made in a turn that changes nothing: it has seen that turn's history, and so has the pass.
     pub fn reader<R: Wait>(&self, rt: &R, pass: &mut Pass) -> Result<TotalsReader, Memory>
         requires ready { IsReady self.now pass.old }
-        ensures ready { IsReady self.now pass.new }
-        ensures longer { IsPrefix pass.old.seen pass.new.seen }
-        ensures legal { IsLegal pass.new.seen }
         ensures look { IsLook pass.old pass.new }
-        ensures settled { StaysSettled pass.old pass.new }
         ensures mine { pass.new.mine ≡ pass.old.mine }
-        ensures faults { pass.old.faults ≤ pass.new.faults }
+        ensures keeps { KeepsPass self.now pass.old pass.new }
         ensures seen { IfOk result (λ reader. reader ≡ pass.new.seen) }
     {
         let mut turn = self.lock.turn(rt, pass);
@@ -281,15 +248,11 @@ impl<D: Disk, B: Beginning> SharedFarm<D, B> {
     ) -> Result<Vec<u8>, Memory>
         requires ready { IsReady self.now pass.old }
         requires from { 1 ≤ from }
-        ensures ready { IsReady self.now pass.new }
         ensures page { IfOk result (λ bytes. bytes.items ≡ log_page from pass.new.seen) }
         ensures none { IfOk result (λ bytes. (bytes.items ≡ []) ↔ (length pass.new.seen < from)) }
-        ensures longer { IsPrefix pass.old.seen pass.new.seen }
-        ensures legal { IsLegal pass.new.seen }
         ensures look { IsLook pass.old pass.new }
-        ensures settled { StaysSettled pass.old pass.new }
         ensures mine { pass.new.mine ≡ pass.old.mine }
-        ensures faults { pass.old.faults ≤ pass.new.faults }
+        ensures keeps { KeepsPass self.now pass.old pass.new }
     {
         let turn = self.lock.turn(rt, pass);
         let page = turn.value.tail(alloc, from);

@@ -11,8 +11,8 @@
 //! Callers who wait with batches while turns are long share a record (`sharing`): each posts its batch and its pass as
 //! an errand in a table of jobs. Whoever of them has the turn waits a little for those who had the last record
 //! (`group_wait`), takes over the errands of others, answers their asks behind its own, stores the new entries of all
-//! in one record, and gives each errand a turn of its own at its place in the history (`round`). What an errand and its outcome hold
-//! to is `specs/Errands`, what is shared `specs/Rounds`.
+//! in one record, and gives each errand a turn of its own at its place in the history (`round`). What an errand and its
+//! outcome hold to is `specs/Errands` and `specs/Outcomes`, what is shared `specs/Rounds`.
 //!
 //! `SharedFarm::close` gives the store back: its history begins with all that the pass has seen, and its disk's count
 //! of faults is at least what the pass knew of it. Where the call that shares the farm picks its [`Beginning`], it is
@@ -20,8 +20,8 @@
 //!
 //! The crate stands on `farm_store` for the farm, on `turn_lock` for turns and passes, on `job_table` for errands, on
 //! `farm_board` for the totals, and on `entry_codec` for log pages. Contracts see a shared farm as the name of its
-//! lock, and a reader as the history that it has seen; what a turn came to is `IsTurn` of `specs/Turns`. The layers
-//! above may use every name below.
+//! lock, and a reader as the history that it has seen; what a turn came to is `IsCall` and `IsTurn` of `specs/Turns`,
+//! and what it keeps of its pass is `KeepsPass`. The layers above may use every name below.
 #![tactic(auto)]
 
 mod beginning;
@@ -32,7 +32,6 @@ mod locked;
 mod reader;
 mod round;
 mod sharing;
-mod since;
 
 pub use beginning::Beginning;
 pub use farm::SharedFarm;

@@ -1,9 +1,8 @@
 //! What the lock of a shared farm holds.
-ghost use Rattle.std.specs.Prelude.{◌≡◌, ◌≤◌, ◌<◌, ◌↔◌, ◌+◌, [], true, List, ℕ, IfOk, IfSome, length, map};
+ghost use Rattle.std.specs.Prelude.{◌≡◌, ◌≤◌, ◌<◌, ◌↔◌, [], true, IfErr, IfOk, IfSome, length, map};
 ghost use Rattle.std.specs.Arc.{arc_value};
 ghost use Rattle.entry_codec.specs.LogPage.{log_page};
 ghost use Rattle.farm_entry.specs.Legal.{IsLegal};
-ghost use Rattle.farm_entry.specs.declared.entry.Entry.{Entry};
 ghost use Rattle.farm_store.specs.Answering.{BatchSays, CallSays};
 ghost use Rattle.farm_store.specs.Entering.{Enters};
 ghost use Rattle.farm_store.specs.Faults.{HasCallCause};
@@ -11,63 +10,85 @@ ghost use Rattle.farm_store.specs.Sizes.{asks_size};
 ghost use Rattle.farm_store.specs.Together.{TogetherSays, all_asks};
 ghost use Rattle.farm_store.specs.declared.asking.TheConstants.{MAX_BATCH, MAX_RECORD_BYTES};
 ghost use Rattle.list_prefix.specs.Prefix.{IsPrefix};
-ghost use Rattle.turn_lock.specs.Known.{MayRise};
-ghost use Rattle.shared_farm.specs.Rests.{CameBy, TurnLeaves, rest_of};
+ghost use Rattle.shared_farm.specs.Answered.{GoesOn, own_places};
+ghost use Rattle.shared_farm.specs.Rests.{CameBy};
 
 use crate::beginning::Beginning;
 use crate::reader::TotalsReader;
-use crate::since::StoreSince;
 use entry_codec::write_log_page;
 use farm_board::{Board, BoardPass};
 use farm_disk::Disk;
-use farm_entry::{Command, LeasedRun, Reply};
+use farm_entry::{Command, Entry, LeasedRun, Reply};
 use farm_store::{Answers, Ask, CallFault, Part, Store};
 use farm_types::{Memory, Moment};
 use std::alloc::Global;
+use std::marker::{Model, PhantomData};
 use std::sync::Arc;
-use turn_lock::Stands;
+use turn_lock::{Places, Stands};
 
-/// A store and the board of its totals, with the pass that posts them. Between two turns the totals of the whole
-/// history are posted.
+/// A store and the board of its totals, with the pass that posts them. Between two calls the totals of the whole
+/// history are posted. Where it is picked what the farm began with, the store came from that by turns: a lock that
+/// holds a store says no more of it than that there is one. Contracts see it as the store.
 #[derive(Drop)]
 pub struct Locked<D: Disk, B: Beginning> {
-    pub store: StoreSince<D, B>,
-    pub board: Arc<Board, Global>,
-    pub posting: BoardPass,
-    pub ghost posts: { (posting.board ≡ arc_value board) × (posting.posts ≡ true) },
-    pub ghost posted: { posting.seen ≡ store.history },
+    store: Store<D>,
+    board: Arc<Board, Global>,
+    posting: BoardPass,
+    of: PhantomData<B>,
+}
+
+impl<D: Disk, B: Beginning> Model for Locked<D, B> {
+    ghost use Rattle.std.specs.Prelude.{◌≡◌, true, IfSome};
+    ghost use Rattle.std.specs.Arc.{arc_value};
+    ghost use Rattle.farm_store.specs.State.{StoreState};
+    ghost use Rattle.shared_farm.specs.Rests.{CameBy};
+
+    ghost Value = { StoreState D };
+
+    ghost view = { λ l. l.store };
+
+    ghost invariant = { λ l. (l.posting.board ≡ arc_value l.board) × (l.posting.posts ≡ true)
+        × (l.posting.seen ≡ l.store.history) × IfSome B.begun (λ begun. CameBy D.Disk begun l.store) };
 }
 
 impl<D: Disk, B: Beginning> Stands for Locked<D, B> {
-    ghost entries = { λ v. v.store.history };
+    ghost entries = { λ s. s.history };
 
-    ghost count = { λ v. D.count v.store.disk };
+    ghost count = { λ s. D.count s.disk };
 
-    ghost pending = { λ v. v.store.pending };
+    ghost pending = { λ s. s.pending };
 }
 
 impl<D: Disk, B: Beginning> Locked<D, B> {
+    /// A store, whose totals are posted. Running out of memory hands it back.
+    pub fn new(alloc: Global, store: Store<D>) -> Result<Locked<D, B>, Store<D>>
+        requires came { IfSome B.begun (λ begun. CameBy D.Disk begun store) }
+        ensures same { IfOk result (λ locked. locked ≡ store) }
+        ensures back { IfErr result (λ same. same ≡ store) }
+    {
+        let Ok((board, posting)) = Board::of(alloc, store.totals(), store.history()) else {
+            return Err(store);
+        };
+        let Ok(board) = Arc::new(alloc, board) else {
+            return Err(store);
+        };
+        Ok(Locked {
+            store,
+            board,
+            posting,
+            of: PhantomData,
+        })
+    }
+
     /// Answers a command, and posts the totals.
     pub fn call(&mut self, alloc: Global, command: &Command, at: Moment) -> Result<Reply, CallFault>
-        ensures found { IsLegal self.old.store.history }
-        ensures says { CallSays command.now at result self.old.store self.new.store }
-        ensures longer { IsPrefix self.old.store.history self.new.store.history }
-        ensures recorded { length self.old.store.history + self.new.store.recorded ≤ length self.new.store.history }
-        ensures legal { IsLegal self.new.store.history }
-        ensures leaves { D.tells self.old.store.disk ≡ true
-            → TurnLeaves (rest_of D.Disk self.old.store) (rest_of D.Disk self.new.store) }
-        ensures came { IfSome B.begun
-            (λ begun. CameBy D.Disk begun self.old.store × CameBy D.Disk begun self.new.store) }
-        ensures cause { HasCallCause result (D.count self.old.store.disk) (D.count self.new.store.disk) }
-        ensures settled { D.count self.old.store.disk ≡ D.count self.new.store.disk
-            → MayRise (D.count self.new.store.disk) → self.new.store.pending ≡ [] }
-        ensures never_falls { D.count self.old.store.disk ≤ D.count self.new.store.disk }
+        ensures says { CallSays command.now at result self.old self.new }
+        ensures goes_on { GoesOn D.count self.old self.new }
+        ensures cause { HasCallCause result (D.count self.old.disk) (D.count self.new.disk) }
     {
         let _ = self.store.history();
         let result = self.store.call(alloc, command, at);
-        let totals = self.store.totals();
-        self.board
-            .post(&mut self.posting, totals, self.store.history());
+        post(&self.board, &mut self.posting, &self.store);
         result
     }
 
@@ -78,25 +99,13 @@ impl<D: Disk, B: Beginning> Locked<D, B> {
         command: &Command,
         at: Moment,
     ) -> Result<Option<LeasedRun>, CallFault>
-        ensures found { IsLegal self.old.store.history }
-        ensures says { Enters command.now at result self.old.store self.new.store }
-        ensures longer { IsPrefix self.old.store.history self.new.store.history }
-        ensures recorded { length self.old.store.history + self.new.store.recorded ≤ length self.new.store.history }
-        ensures legal { IsLegal self.new.store.history }
-        ensures leaves { D.tells self.old.store.disk ≡ true
-            → TurnLeaves (rest_of D.Disk self.old.store) (rest_of D.Disk self.new.store) }
-        ensures came { IfSome B.begun
-            (λ begun. CameBy D.Disk begun self.old.store × CameBy D.Disk begun self.new.store) }
-        ensures cause { HasCallCause result (D.count self.old.store.disk) (D.count self.new.store.disk) }
-        ensures settled { D.count self.old.store.disk ≡ D.count self.new.store.disk
-            → MayRise (D.count self.new.store.disk) → self.new.store.pending ≡ [] }
-        ensures never_falls { D.count self.old.store.disk ≤ D.count self.new.store.disk }
+        ensures says { Enters command.now at result self.old self.new }
+        ensures goes_on { GoesOn D.count self.old self.new }
+        ensures cause { HasCallCause result (D.count self.old.disk) (D.count self.new.disk) }
     {
         let _ = self.store.history();
         let result = self.store.enter(alloc, command, at);
-        let totals = self.store.totals();
-        self.board
-            .post(&mut self.posting, totals, self.store.history());
+        post(&self.board, &mut self.posting, &self.store);
         result
     }
 
@@ -104,25 +113,13 @@ impl<D: Disk, B: Beginning> Locked<D, B> {
     pub fn call_batch(&mut self, alloc: Global, asks: &[Ask]) -> Result<Answers, CallFault>
         requires some { 1 ≤ length asks.now }
         requires few { length asks.now ≤ MAX_BATCH }
-        ensures found { IsLegal self.old.store.history }
-        ensures says { BatchSays asks.now result self.old.store self.new.store }
-        ensures longer { IsPrefix self.old.store.history self.new.store.history }
-        ensures recorded { length self.old.store.history + self.new.store.recorded ≤ length self.new.store.history }
-        ensures legal { IsLegal self.new.store.history }
-        ensures leaves { D.tells self.old.store.disk ≡ true
-            → TurnLeaves (rest_of D.Disk self.old.store) (rest_of D.Disk self.new.store) }
-        ensures came { IfSome B.begun
-            (λ begun. CameBy D.Disk begun self.old.store × CameBy D.Disk begun self.new.store) }
-        ensures cause { HasCallCause result (D.count self.old.store.disk) (D.count self.new.store.disk) }
-        ensures settled { D.count self.old.store.disk ≡ D.count self.new.store.disk
-            → MayRise (D.count self.new.store.disk) → self.new.store.pending ≡ [] }
-        ensures never_falls { D.count self.old.store.disk ≤ D.count self.new.store.disk }
+        ensures says { BatchSays asks.now result self.old self.new }
+        ensures goes_on { GoesOn D.count self.old self.new }
+        ensures cause { HasCallCause result (D.count self.old.disk) (D.count self.new.disk) }
     {
         let _ = self.store.history();
         let result = self.store.call_batch(alloc, asks);
-        let totals = self.store.totals();
-        self.board
-            .post(&mut self.posting, totals, self.store.history());
+        post(&self.board, &mut self.posting, &self.store);
         result
     }
 
@@ -130,51 +127,61 @@ impl<D: Disk, B: Beginning> Locked<D, B> {
     pub fn call_together(&mut self, alloc: Global, parts: &mut [Part]) -> Result<(), CallFault>
         requires some { 1 ≤ length (all_asks parts.old) }
         requires fits { asks_size (all_asks parts.old) ≤ MAX_RECORD_BYTES }
-        ensures found { IsLegal self.old.store.history }
-        ensures says { TogetherSays parts.old parts.new result self.old.store self.new.store }
+        ensures says { TogetherSays parts.old parts.new result self.old self.new }
         ensures asks { map (λ part. part.asks) parts.new ≡ map (λ part. part.asks) parts.old }
-        ensures longer { IsPrefix self.old.store.history self.new.store.history }
-        ensures legal { IsLegal self.new.store.history }
-        ensures leaves { D.tells self.old.store.disk ≡ true
-            → TurnLeaves (rest_of D.Disk self.old.store) (rest_of D.Disk self.new.store) }
-        ensures came { IfSome B.begun
-            (λ begun. CameBy D.Disk begun self.old.store × CameBy D.Disk begun self.new.store) }
-        ensures cause { HasCallCause result (D.count self.old.store.disk) (D.count self.new.store.disk) }
-        ensures never_falls { D.count self.old.store.disk ≤ D.count self.new.store.disk }
+        ensures goes_on { GoesOn D.count self.old self.new }
+        ensures cause { HasCallCause result (D.count self.old.disk) (D.count self.new.disk) }
     {
         let _ = self.store.history();
         let result = self.store.call_together(alloc, parts);
-        let totals = self.store.totals();
-        self.board
-            .post(&mut self.posting, totals, self.store.history());
+        post(&self.board, &mut self.posting, &self.store);
         result
+    }
+
+    /// The history, without what is pending.
+    pub fn history(&self) -> &[Entry]
+        ensures value { result.now ≡ self.now.history }
+        ensures legal { IsLegal self.now.history }
+    {
+        self.store.history()
+    }
+
+    /// How many entries the last call recorded for its asks.
+    pub fn recorded(&self) -> usize
+        ensures { result ≡ self.now.recorded }
+    {
+        self.store.recorded()
+    }
+
+    /// The places in the history of the entries that the last call recorded for its asks.
+    pub fn own_places(&self) -> Places
+        requires { self.now.recorded ≤ length self.now.history }
+        ensures { result ≡ own_places self.now }
+    {
+        let recorded = self.recorded();
+        Places::run(self.history().len() - recorded, recorded)
     }
 
     /// The bytes of a log page of the history.
     pub fn tail(&self, alloc: Global, from: u32) -> Result<Vec<u8>, Memory>
         requires { 1 ≤ from }
-        ensures legal { IsLegal self.now.store.history }
-        ensures page { IfOk result (λ bytes. bytes.items ≡ log_page from self.now.store.history) }
-        ensures none { IfOk result (λ bytes. (bytes.items ≡ []) ↔ (length self.now.store.history < from)) }
+        ensures legal { IsLegal self.now.history }
+        ensures page { IfOk result (λ bytes. bytes.items ≡ log_page from self.now.history) }
+        ensures none { IfOk result (λ bytes. (bytes.items ≡ []) ↔ (length self.now.history < from)) }
     {
         write_log_page(alloc, self.store.history(), from)
     }
 
     /// A reader that has seen the whole history.
     pub fn reader(&mut self) -> Result<TotalsReader, Memory>
-        ensures same { self.new.store ≡ self.old.store }
-        ensures legal { IsLegal self.new.store.history }
-        ensures seen { IfOk result (λ reader. reader ≡ self.new.store.history) }
+        ensures same { self.new ≡ self.old }
+        ensures legal { IsLegal self.new.history }
+        ensures seen { IfOk result (λ reader. reader ≡ self.new.history) }
     {
-        let Locked {
-            store,
-            board,
-            posting,
-        } = self;
-        let _ = store.history();
-        match Arc::try_clone(board) {
+        let _ = self.store.history();
+        match Arc::try_clone(&self.board) {
             Ok(mine) => Ok(TotalsReader {
-                pass: board.split(posting),
+                pass: self.board.split(&mut self.posting),
                 board: mine,
             }),
             Err(_) => Err(Memory),
@@ -183,14 +190,26 @@ impl<D: Disk, B: Beginning> Locked<D, B> {
 
     /// The store again.
     pub fn into_store(self) -> Store<D>
-        ensures same { result ≡ self.store }
+        ensures same { result ≡ self }
         ensures came { IfSome B.begun (λ begun. CameBy D.Disk begun result) }
     {
         let Locked {
             store,
             board: _,
             posting: _,
+            of: _,
         } = self;
-        store.into_store()
+        store
     }
+}
+
+/// Posts the totals of a store's history, by the pass that posts.
+fn post<D: Disk>(board: &Arc<Board, Global>, posting: &mut BoardPass, store: &Store<D>)
+    requires own { posting.old.board ≡ arc_value board.now }
+    requires posts { posting.old.posts ≡ true }
+    requires longer { IsPrefix posting.old.seen store.now.history }
+    ensures posted { posting.new ≡ record { board = arc_value board.now; posts = true; seen = store.now.history } }
+    ensures legal { IsLegal store.now.history }
+{
+    board.post(posting, store.totals(), store.history());
 }

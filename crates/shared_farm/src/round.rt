@@ -28,16 +28,16 @@ pub fn share_out<D: Disk, B: Beginning>(
     requires key { errands.now.key ≡ lock.now }
     requires own { turn.before.pass.lock ≡ lock.now }
     requires out { pass.old.ready ≡ false }
-    requires grown { IsPrefix turn.before.taken.entries (take shown turn.value.value.store.history) }
-    requires faults { turn.before.taken.count ≤ D.count turn.value.value.store.disk }
+    requires grown { IsPrefix turn.before.taken.entries (take shown turn.value.value.history) }
+    requires faults { turn.before.taken.count ≤ D.count turn.value.value.disk }
     requires settled { IsSettled (Some turn.before.taken.pending) turn.before.taken.count
-        (D.count turn.value.value.store.disk) turn.value.value.store.pending }
+        (D.count turn.value.value.disk) turn.value.value.pending }
     requires places { ArePlaces (length turn.before.taken.entries)
-        (length (take shown turn.value.value.store.history)) turn.own }
-    requires shared { IsShared D.Disk B.begun turn.value.value.store shown parts.old.items }
+        (length (take shown turn.value.value.history)) turn.own }
+    requires shared { IsShared turn.value.value shown parts.old.items }
     requires helped { AreHelped lock.now errands.now parts.old.items group.old.items }
-    ensures pass { pass.new ≡ known_after lock.now turn.before (take shown turn.value.value.store.history) turn.own
-        (D.count turn.value.value.store.disk) turn.value.value.store.pending }
+    ensures pass { pass.new ≡ known_after lock.now turn.before (take shown turn.value.value.history) turn.own
+        (D.count turn.value.value.disk) turn.value.value.pending }
     ensures all { group.new.items ≡ [] }
 {
     if group.is_empty() {
@@ -76,14 +76,14 @@ pub fn ask_each<D: Disk, B: Beginning>(
     requires key { errands.now.key ≡ lock.now }
     requires own { turn.before.pass.lock ≡ lock.now }
     requires out { pass.old.ready ≡ false }
-    requires grown { IsPrefix turn.before.taken.entries turn.value.value.store.history }
-    requires faults { turn.before.taken.count ≤ D.count turn.value.value.store.disk }
+    requires grown { IsPrefix turn.before.taken.entries turn.value.value.history }
+    requires faults { turn.before.taken.count ≤ D.count turn.value.value.disk }
     requires settled { IsSettled (Some turn.before.taken.pending) turn.before.taken.count
-        (D.count turn.value.value.store.disk) turn.value.value.store.pending }
-    requires places { ArePlaces (length turn.before.taken.entries) (length turn.value.value.store.history) turn.own }
+        (D.count turn.value.value.disk) turn.value.value.pending }
+    requires places { ArePlaces (length turn.before.taken.entries) (length turn.value.value.history) turn.own }
     requires helped { AreHelped lock.now errands.now parts.old.items group.old.items }
-    ensures pass { pass.new ≡ known_after lock.now turn.before turn.value.value.store.history turn.own
-        (D.count turn.value.value.store.disk) turn.value.value.store.pending }
+    ensures pass { pass.new ≡ known_after lock.now turn.before turn.value.value.history turn.own
+        (D.count turn.value.value.disk) turn.value.value.pending }
     ensures all { group.new.items ≡ [] }
 {
     if group.is_empty() {
@@ -99,10 +99,10 @@ pub fn ask_each<D: Disk, B: Beginning>(
         answers: _,
         end: _,
     } = parts.remove(0);
-    let shown = turn.value.store.history().len();
+    let shown = turn.value.history().len();
     let mut turn = lock.hand_on(turn, pass, &mut next, shown);
     let result = turn.value.call_batch(alloc, &asks);
-    turn.own = turn.value.store.own_places();
+    turn.own = turn.value.own_places();
     ask_each(lock, errands, alloc, turn, &mut next, parts, group);
     errands.answer(
         taken,

@@ -6,7 +6,8 @@ ghost use Rattle.farm_store.specs.Together.{all_asks};
 ghost use Rattle.farm_store.specs.declared.asking.TheConstants.{MAX_BATCH, MAX_BATCH_BYTES, MAX_RECORD_BYTES};
 ghost use Rattle.std.specs.Vec.{vec_capacity};
 ghost use Rattle.turn_lock.specs.Known.{IsReady};
-ghost use Rattle.shared_farm.specs.Errands.{HadTurn, IsDone, IsErrand};
+ghost use Rattle.shared_farm.specs.Errands.{IsErrand};
+ghost use Rattle.shared_farm.specs.Outcomes.{HadTurn, IsDone};
 ghost use Rattle.shared_farm.specs.Rounds.{AreHelped, IsJustTaken, first_asks};
 ghost use Rattle.shared_farm.specs.declared.sharing.TheConstants.{MOST_PARTS};
 
@@ -44,7 +45,7 @@ pub fn hand_in<R: Wait, D: Disk, B: Beginning>(
     requires some { 1 ≤ length asks.old.items }
     requires few { length asks.old.items ≤ MAX_BATCH }
     ensures asks { asks.new.items ≡ asks.old.items }
-    ensures had { HadTurn D.Disk B.begun lock.now asks.old.items result pass.old pass.new }
+    ensures had { HadTurn D.count lock.now asks.old.items result pass.old pass.new }
 {
     let errand = Errand {
         pass: pass.take(),
@@ -71,7 +72,7 @@ fn run<R: Wait, D: Disk, B: Beginning>(
 ) -> Outcome
     requires key { errands.now.key ≡ lock.now }
     requires errand { IsErrand lock.now errand }
-    ensures { IsDone D.Disk B.begun lock.now errand result }
+    ensures { IsDone D.count lock.now errand result }
 {
     if lock.is_free() {
         return run_now(rt, lock, errands, waits, alloc, errand);
@@ -94,7 +95,7 @@ fn wait_for<R: Wait, D: Disk, B: Beginning>(
     requires key { errands.now.key ≡ lock.now }
     requires table { posted.table ≡ errands.now }
     requires errand { IsErrand lock.now posted.job }
-    ensures { IsDone D.Disk B.begun lock.now posted.job result }
+    ensures { IsDone D.count lock.now posted.job result }
 {
     let mut held = posted;
     for _ in rt.forever() {
@@ -144,7 +145,7 @@ fn run_now<R: Wait, D: Disk, B: Beginning>(
 ) -> Outcome
     requires key { errands.now.key ≡ lock.now }
     requires errand { IsErrand lock.now errand }
-    ensures { IsDone D.Disk B.begun lock.now errand result }
+    ensures { IsDone D.count lock.now errand result }
 {
     let outcome = run_with_others(rt, lock, errands, waits, alloc, errand);
     errands.ring_next();
@@ -162,11 +163,11 @@ pub fn ask_alone<R: Wait, D: Disk, B: Beginning>(
     requires ready { IsReady lock.now pass.old }
     requires some { 1 ≤ length asks.now }
     requires few { length asks.now ≤ MAX_BATCH }
-    ensures { HadTurn D.Disk B.begun lock.now asks.now result pass.old pass.new }
+    ensures { HadTurn D.count lock.now asks.now result pass.old pass.new }
 {
     let mut turn = lock.turn(rt, pass);
     let result = turn.value.call_batch(alloc, asks);
-    turn.own = turn.value.store.own_places();
+    turn.own = turn.value.own_places();
     lock.back(turn, pass);
     result
 }
@@ -179,7 +180,7 @@ fn run_alone<R: Wait, D: Disk, B: Beginning>(
     errand: Errand,
 ) -> Outcome
     requires { IsErrand lock.now errand }
-    ensures { IsDone D.Disk B.begun lock.now errand result }
+    ensures { IsDone D.count lock.now errand result }
 {
     let Errand { mut pass, asks } = errand;
     let result = ask_alone(rt, lock, alloc, &mut pass, &asks);
@@ -197,7 +198,7 @@ fn run_with_others<R: Wait, D: Disk, B: Beginning>(
 ) -> Outcome
     requires key { errands.now.key ≡ lock.now }
     requires errand { IsErrand lock.now errand }
-    ensures { IsDone D.Disk B.begun lock.now errand result }
+    ensures { IsDone D.count lock.now errand result }
 {
     let Ok(mut parts) = Vec::with_capacity(alloc, MOST_PARTS) else {
         return run_alone(rt, lock, alloc, errand);
@@ -242,6 +243,7 @@ fn take_over<D: Disk, B: Beginning>(
     requires room { (MOST_PARTS ≤ vec_capacity parts.old) × (MOST_PARTS ≤ vec_capacity group.old) }
     ensures helped { (later : List Part) × (parts.new.items ≡ parts.old.items ++ later)
         × AreHelped errands.now.key errands.now later group.new.items }
+    ensures few { length parts.new.items ≤ MOST_PARTS }
     ensures fits { asks_size (all_asks parts.new.items) ≤ MAX_RECORD_BYTES }
 {
     let mut bytes = first_bytes;
@@ -275,19 +277,20 @@ fn share<D: Disk, B: Beginning>(
     requires own { turn.before.pass.lock ≡ lock.now }
     requires out { pass.old.ready ≡ false }
     requires some { 1 ≤ length (first_asks parts.items) }
+    requires few { length parts.items ≤ MOST_PARTS }
     requires fits { asks_size (all_asks parts.items) ≤ MAX_RECORD_BYTES }
     requires helped { AreHelped lock.now errands.now (drop 1 parts.items) group.items }
-    requires begins { IsJustTaken D.count turn.before turn.value.value.store }
+    requires begins { IsJustTaken D.count turn.before turn.value.value }
     requires nothing { turn.own ≡ [] }
     ensures asks { result.0.items ≡ first_asks parts.items }
-    ensures had { HadTurn D.Disk B.begun lock.now (first_asks parts.items) result.1 turn.before.pass pass.new }
+    ensures had { HadTurn D.count lock.now (first_asks parts.items) result.1 turn.before.pass pass.new }
 {
     let mut turn = turn;
     let mut parts = parts;
     let mut group = group;
     let result = turn.value.call_together(alloc, &mut parts);
-    let start = turn.value.store.history().len() - turn.value.store.recorded();
-    waits.note(errands, parts.len(), turn.value.store.recorded());
+    let start = turn.value.history().len() - turn.value.recorded();
+    waits.note(errands, parts.len(), turn.value.recorded());
     let Part { asks, answers, end } = parts.remove(0);
     match result {
         Ok(()) => {

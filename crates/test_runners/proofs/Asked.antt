@@ -1,7 +1,6 @@
 -- What a host that was asked says.
-use Rattle.std.proofs.Common.{◌≡◌, ℕ, Bool, List, [], Option, Some, None, inr, refl, sym, ap, ◌∙◌}
+use Rattle.std.proofs.Common.{◌≡◌, ℕ, Bool, List, Option, Some, None, inr, refl, ap, ◌∙◌}
 use Rattle.std.specs.Io.KnownBytes.{append_known}
-use Rattle.std.proofs.lemmas.List.{append-nil}
 use Rattle.weight_exact.specs.declared.run.Verdict.{Verdict}
 use Rattle.test_runners.specs.Host.{IsAsked, Says}
 
@@ -14,4 +13,4 @@ known-over before mid after taken kept took = took ∙ ap (λ (k : Option (List 
 pub asked-says : (question taken : List ℕ) (ended : Bool) (count : ℕ) (said : Option Verdict) →
     Says taken ended count said → IsAsked question question taken ended count said
 asked-says question taken ended count (Some verdict) says = (refl, says)
-asked-says question taken ended count None says = (([], sym (append-nil question)), inr says)
+asked-says question taken ended count None says = inr (refl, says)

@@ -11,19 +11,6 @@ use Rattle.test_runners.specs.Tables.{is_row_of, verdict_in}
 use Rattle.test_runners.specs.declared.row.Row.{Row}
 use Rattle.test_runners.proofs.Tables.{verdict-behind, verdict-here}
 
--- before the first row is linked
-pub linked-none : (homes heads next : List ℕ) → length next ≡ length homes →
-    ((b : ℕ) → b < length heads → get_or heads b 0 ≡ length homes) → IsLinked homes (length homes) heads next
-linked-none homes heads next count ends = record {
-  head = λ b low. record {
-    later = omega (arith, ends b low);
-    others = λ j from below. absurd (omega (arith, from, below, ends b low));
-    there = λ inside. absurd (omega (arith, inside, ends b low));
-  };
-  behind = λ i from low. absurd (omega (arith, from, low));
-  count = count;
-}
-
 -- a place of another bucket in front changes nothing
 first-past : (homes : List ℕ) (b i at : ℕ) → get_or homes i 0 ≢ b → IsFirst homes b (i + 1) at → IsFirst homes b i at
 first-past homes b i at other f = record {

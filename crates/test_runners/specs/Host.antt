@@ -37,11 +37,13 @@ abbrev pub Says : (taken : List ℕ) → (ended : Bool) → (count : ℕ) → Op
 Says taken ended count said = (IsAnswer taken ended × (said ≡ answer_of taken)) ⊎ ((1 ≤ count) × (said ≡ line_of taken))
 
 -- What a host said that was asked over a connection, where so much was put and taken, and that failed so often. The
--- whole question was put, and the answer says a verdict; or the answer says none, or not the whole question was put
+-- whole question was put, and the answer says a verdict, or none; or not the whole question was put, and nothing was
+-- taken
 abbrev pub IsAsked : (question sent taken : List ℕ) → (ended : Bool) → (count : ℕ) → Option Verdict → Type 0
 IsAsked question sent taken ended count (Some verdict) = (sent ≡ question) × Says taken ended count (Some verdict)
 IsAsked question sent taken ended count None =
-    IsPrefix sent question × ((length sent < length question) ⊎ Says taken ended count None)
+    (IsPrefix sent question × (length sent < length question) × (taken ≡ []))
+    ⊎ ((sent ≡ question) × Says taken ended count None)
 
 -- what a host said that was asked over a connection of its own, which was made or not
 abbrev pub SaysOver : (question : List ℕ) → Exchange → Option Verdict → Type 0

@@ -5,7 +5,7 @@ use Rattle.std.specs.Option.{option_and_then, option_or}
 use Rattle.std.proofs.lemmas.Bool.{cases_eq}
 use Rattle.std.proofs.lemmas.Option.{none-some}
 use Rattle.active_order.specs.Order.{has}
-use Rattle.active_order.proofs.Lists.{has-here, has-rest, has-there}
+use Rattle.active_order.proofs.Lists.{has-rest}
 use Rattle.decision_laws.specs.Turns.{ComesBefore}
 use Rattle.decision_laws.proofs.Turns.{the_turn}
 use Rattle.farm_entry.specs.Due.{due, due_at, due_runs, next_run, soonest}
@@ -167,13 +167,6 @@ none-along H m (s ∷ rest) h t has_t =
     (λ (same : t ≡ s). ap (λ (n : ℕ). due_in_search H n m) same ∙ parts.0)
     (λ (ne : t ≢ s). none-along H m rest parts.1 t (sym (has-rest t s rest ne) ∙ has_t))
     (cases_eq t s)
-
-along-none : (H : List Entry) (m : ℕ) (order : List ℕ) →
-    ((t : ℕ) → has t order ≡ true → due_in_search H t m ≡ None) → first_due H m order ≡ None
-along-none H m [] all = refl
-along-none H m (s ∷ rest) all =
-    ap (λ (n : Option DueRun). option_or n (first_due H m rest)) (all s (has-here s s rest refl))
-    ∙ along-none H m rest (λ t has_t. all t (has-there t s rest has_t))
 
 undue : (H : List Entry) (m : ℕ) (order : List ℕ) (o : Opening) (n : Option DueRun) → IsLegal H →
     IsTurnOrder H order → ((t : ℕ) → has t order ≡ true → due_in_search H t m ≡ None) → Contains (openings H) o →

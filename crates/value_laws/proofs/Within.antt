@@ -1,6 +1,5 @@
 -- Numbers of settings are within the limits.
-use Rattle.std.proofs.Common.{◌≡◌, ℕ, ℤ, ◌≤◌, ◌≤ℤ◌, ◌&&◌, Bool, true, nat_le, if◌then◌else◌, Option, Some, None, refl, sym, ap, ◌∙◌, arith, rules}
-use Rattle.std.proofs.lemmas.Bool.Decides.{nat_tests}
+use Rattle.std.proofs.Common.{◌≡◌, ℕ, ℤ, None, rules}
 use Rattle.farm_entry.specs.Limits.{IsDailyLimit, IsLeaseTime, IsZone}
 use Rattle.farm_entry.specs.Settings.{settings_fault}
 

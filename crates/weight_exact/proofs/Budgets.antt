@@ -1,5 +1,5 @@
 -- The budget: the number of runs that fit in 128 bits.
-use Rattle.std.proofs.Common.{◌≡◌, ℕ, zero, suc, ◌+◌, ◌*◌, ◌^◌, ◌<◌, ◌≤◌, Bool, true, false, nat_lt, sym, ◌∙◌, ap, ◌↔◌, arith, ⊎_elim, mul-le-mul_left, mul-le-mul_right, le_antisymm, ltb-true, lt-ltb}
+use Rattle.std.proofs.Common.{◌≡◌, ℕ, zero, suc, ◌*◌, ◌^◌, ◌<◌, ◌≤◌, Bool, true, false, nat_lt, sym, ◌∙◌, ap, arith, ⊎_elim, mul-le-mul_left, mul-le-mul_right, le_antisymm, ltb-true, lt-ltb}
 use Rattle.std.proofs.Math.Nat.{pow-le-pow_left, pow-le-pow_right}
 use Rattle.std.proofs.lemmas.Bool.{cases_Bool, cases_lt, false≢true}
 use Rattle.weight_exact.specs.Factors.{greatest_factor}
@@ -14,14 +14,6 @@ Fits-fewer prior_total f runs fewer some less fits =
     let g = greatest_factor f in
     let powers : g ^ fewer ≤ g ^ runs = pow-le-pow_right some less in
     let products : prior_total * g ^ fewer ≤ prior_total * g ^ runs = mul-le-mul_left prior_total powers in
-    omega arith
-
--- what fits, fits with a smaller total prior weight
-pub Fits-smaller : (prior_total smaller : ℕ) (f : Factors) (runs : ℕ) → smaller ≤ prior_total →
-    Fits prior_total f runs → Fits smaller f runs
-Fits-smaller prior_total smaller f runs less fits =
-    let power = greatest_factor f ^ runs in
-    let products : smaller * power ≤ prior_total * power = mul-le-mul_right power less in
     omega arith
 
 -- fewer than 128 runs fit
@@ -93,28 +85,3 @@ IsBudget-is prior_total f runs some two budget =
     let none : Fits prior_total f 0 = Fits-fewer prior_total f runs 0 (omega arith) (omega arith) budget.fits in
     IsBudget_once prior_total f runs (budget_of prior_total f) budget
     (IsBudget-budget_of prior_total f some two none)
-
--- the budget is fewer than 128 runs
-pub IsBudget_few : (prior_total : ℕ) (f : Factors) (runs : ℕ) → 1 ≤ prior_total → 2 ≤ greatest_factor f →
-    IsBudget prior_total f runs → runs < 128
-IsBudget_few prior_total f runs some two budget = Fits_few prior_total f runs some two budget.fits
-
--- what fits is what is within the budget
-pub Fits-within : (prior_total : ℕ) (f : Factors) (budget runs : ℕ) → 1 ≤ greatest_factor f →
-    IsBudget prior_total f budget → Fits prior_total f runs ↔ (runs ≤ budget)
-Fits-within prior_total f budget runs some is =
-    (λ fits. is.greatest runs fits, λ within. Fits-fewer prior_total f budget runs some within is.fits)
-
--- the number whose successor no longer fits is the budget
-pub IsBudget-from_next : (prior_total : ℕ) (f : Factors) (runs : ℕ) → 1 ≤ greatest_factor f →
-    Fits prior_total f runs → ¬ Fits prior_total f (runs + 1) → IsBudget prior_total f runs
-IsBudget-from_next prior_total f runs some fits over =
-    record {
-      fits = fits;
-      greatest = λ more more_fits.
-          ⊎_elim
-          (λ (above : runs < more).
-          absurd (over (Fits-fewer prior_total f more (runs + 1) some (omega arith) more_fits)))
-          (λ (within : more ≤ runs). within)
-          (cases_lt runs more);
-    }

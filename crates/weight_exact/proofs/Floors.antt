@@ -272,21 +272,3 @@ load_push_pass-le f runs r never is =
     ))
     (λ (below : r.position ≤ floor f runs). omega (arith, load_push_pass_below f runs r never is below))
     (cases_lt (floor f runs) r.position)
-
-load_push_by_verdict : (f : Factors) (runs : List Run) (r : Run) → f.pass_in ≡ 0 → (v : Verdict) → r.verdict ≡ v →
-    load f (runs ++ r ∷ []) ≤ load f runs + 1
-load_push_by_verdict f runs r never Pass is = omega (arith, load_push_pass-le f runs r never is)
-load_push_by_verdict f runs r never Fail is =
-    ⊎_elim
-    (λ (above : floor f runs < r.position). omega (arith, load_push_fail_above f runs r is above))
-    (λ (below : r.position ≤ floor f runs). omega (arith, load_push_fail_below f runs r never is below))
-    (cases_lt (floor f runs) r.position)
-
--- one run more adds at most one to the load
-pub load_push-le : (f : Factors) (runs : List Run) (r : Run) → load f (runs ++ r ∷ []) ≤ load f runs + 1
-load_push-le f runs r =
-    ⊎_elim
-    (λ (never : f.pass_in ≡ 0).
-    load_push_by_verdict f runs r never r.verdict refl)
-    (λ (may : 0 < f.pass_in). omega (arith, load_push_may_miss f runs r may))
-    (eq-zero-or-pos f.pass_in)

@@ -34,17 +34,6 @@ weight_push s runs r i =
     rw (likelihood_push s.factors i runs r)
     (sym (mul_assoc (prior s i) (likelihood s.factors i runs) (factor s.factors i r)))
 
--- one list of runs after another multiplies each weight by the likelihood of the second
-pub weight-append : (s : Setup) (runs more : List Run) (i : ℕ) →
-    weight s (runs ++ more) i ≡ weight s runs i * likelihood s.factors i more
-weight-append s runs more i =
-    rw (likelihood-append s.factors i runs more)
-    (sym (mul_assoc (prior s i) (likelihood s.factors i runs) (likelihood s.factors i more)))
-
--- a fail multiplies a hypothesis up to its position, whose culprit is in the tree, by the number of a fail inside
-pub factor_fail_in : (f : Factors) (i : ℕ) (r : Run) → r.verdict ≡ Fail → i ≤ r.position → factor f i r ≡ f.fail_in
-factor_fail_in f i r is within = let test : nat_le i r.position ≡ true = le-leb i r.position within in rw (is, test)
-
 -- and one above its position, whose culprit is out, by the number of a fail outside
 pub factor_fail_out : (f : Factors) (i : ℕ) (r : Run) → r.verdict ≡ Fail → r.position < i → factor f i r ≡ f.fail_out
 factor_fail_out f i r is above = let test : nat_le i r.position ≡ false = lt-leb i r.position above in rw (is, test)

@@ -71,12 +71,6 @@ five_fit x p q r s n hx hp hq hr hs h =
 pub pow_le_mono : (b m n : ℕ) → 0 < b → m ≤ n → b ^ m ≤ b ^ n
 pow_le_mono b m n h le = pow-le-pow_right h le
 
--- a power to a smaller exponent stays below what the greater one does, at base 0 too
-pub pow_below : (b m n most : ℕ) → m ≤ n → 1 < most → b ^ n < most → b ^ m < most
-pow_below zero zero n most le one h = one
-pow_below zero (suc m) n most le one h = rw (pow_small 0 (suc m) (omega arith) (omega arith)) (omega arith)
-pow_below (suc b) m n most le one h = omega (arith, pow_le_mono (suc b) m n (omega arith) le, h)
-
 -- a power below the next one after b ^ n has an exponent of at most n
 pub below_next_power : (b n e most : ℕ) → 2 ≤ b → most ≤ b * b ^ n → b ^ e < most → e ≤ n
 below_next_power b n e most two over h =

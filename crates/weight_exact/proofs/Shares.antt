@@ -221,13 +221,5 @@ is_at_bar-mul_right k t u whole w some =
     (λ h. is_at_bar-true t u whole w (both.0 (at_bar-from_test t u (whole * k) (w * k) h)))
     (λ h. is_at_bar-true t u (whole * k) (w * k) (both.1 (at_bar-from_test t u whole w h)))
 
-pub is_at_bar-scaled : (t u v whole w other : ℕ) → 1 ≤ whole → 1 ≤ other → v * other ≡ w * whole →
-    is_at_bar t u whole v ≡ is_at_bar t u other w
-is_at_bar-scaled t u v whole w other some_whole some_other same =
-    let both = at_bar-scaled t u v whole w other some_whole some_other same in
-    same_tests (is_at_bar t u whole v) (is_at_bar t u other w)
-    (λ h. is_at_bar-true t u other w (both.0 (at_bar-from_test t u whole v h)))
-    (λ h. is_at_bar-true t u whole v (both.1 (at_bar-from_test t u other w h)))
-
 pub is_at_bar-mul_left : (k t u whole w : ℕ) → 1 ≤ k → is_at_bar t u (k * whole) (k * w) ≡ is_at_bar t u whole w
 is_at_bar-mul_left k t u whole w some = rw (mul_comm k w, mul_comm k whole) (is_at_bar-mul_right k t u whole w some)

@@ -78,11 +78,6 @@ sum_to-zero w (suc n) none =
     let here : w (suc n) ≡ 0 = none (suc n) (omega arith) (omega arith) in
     omega arith
 
--- members that are 0 up to m leave the sum of those above m
-pub sum_to_above : (w : ℕ → ℕ) (m k : ℕ) → ((i : ℕ) → 1 ≤ i → i ≤ m → w i ≡ 0) →
-    sum_to w (m + k) ≡ sum_to (λ i. w (m + i)) k
-sum_to_above w m k none = omega (arith, sum_to-add w m k, sum_to-zero w m none)
-
 -- the number at index i + 1 of a list is the number at index i of its rest
 slice_index-cons : (x : ℕ) (xs : List ℕ) (i : ℕ) → 1 ≤ i → slice_index (x ∷ xs) (1 + i - 1) ≡ slice_index xs (i - 1)
 slice_index-cons x xs zero low = absurd (omega arith)

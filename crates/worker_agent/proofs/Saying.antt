@@ -1,166 +1,245 @@
 -- From the sending of a request to what a step says.
-use Rattle.std.proofs.Common.{◌≡◌, ℕ, Bool, List, [], Option, Some, None, Result, Ok, Err, refl, sym, ap, subst, ◌∙◌, inl, inr}
-use Rattle.std.specs.Prelude.{◌==◌, ◌||◌, true, false, if◌then◌else◌, IsErrOf}
+use Rattle.std.proofs.Common.{◌≡◌, ◌≢◌, ℕ, Bool, List, Option, Some, None, Result, Ok, Err, refl, sym, ap, subst, ◌∙◌}
+use Rattle.std.specs.Prelude.{◌==◌, true, false, if◌then◌else◌, IsErrOf}
+use Rattle.fault_types.specs.declared.memory.Memory as want
 use Rattle.farm_types.specs.declared.key.Key.{Key}
-use Rattle.http_exchange.specs.Exchanges.{AnsweredBy, Exchange}
-use Rattle.http_exchange.specs.declared.connection.Exchanged.{Exchanged}
-use Rattle.http_exchange.specs.declared.connection.Exchanged.TheVariants.{Answered, Broken, Failed}
+use Rattle.http_exchange.proofs.Sendings.{put-tried}
+use Rattle.http_exchange.specs.Exchanges.{Exchange, IsPut, exchange_events, tell_all}
+use Rattle.http_exchange.specs.Sending.{IsTry, SendsOnce, Try, sent_of}
+use Rattle.http_exchange.specs.Statuses.{status_number}
+use Rattle.http_exchange.specs.declared.response.Response.{Response}
+use Rattle.http_exchange.specs.declared.sending.Lost as sending
+use Rattle.http_exchange.specs.declared.sending.Lost.TheVariants as lost
+use Rattle.http_exchange.specs.declared.sending.Sent.{Sent}
+use Rattle.http_exchange.specs.declared.sending.Sent.TheVariants as came
+use Rattle.http_words.specs.declared.status_code.StatusCode.TheVariants as status
 use Rattle.link_io.specs.Telling.{add_told}
 use Rattle.net_io.specs.Events.{NetworkEvent}
 use Rattle.weight_exact.specs.declared.run.Verdict.{Verdict}
 use Rattle.worker_core.specs.declared.action.Action.{Action}
 use Rattle.worker_core.specs.declared.action.Action.TheVariants.{Draw, AskLease, RunTest, SendReport, Stop}
+use Rattle.worker_core.specs.declared.event.Event.{Event}
 use Rattle.worker_core.specs.declared.event.Event.TheVariants as event
-use Rattle.worker_io.specs.Runs.{Asked, OnRunFailed, asked}
+use Rattle.worker_io.specs.Runs.{Asked, asked}
 use Rattle.worker_io.specs.declared.runner.Ran as runner
 use Rattle.worker_io.specs.declared.runner.Ran.TheVariants as ran_is
 use Rattle.worker_wire.specs.Answers.{lease_reading, tells_no_run}
 use Rattle.worker_wire.specs.Requests.{lease_request, report_request}
 use Rattle.worker_wire.specs.declared.answer.AnswerFault.{AnswerFault}
 use Rattle.worker_wire.specs.declared.answer.LeaseAnswer.{LeaseAnswer}
-use Rattle.worker_agent.proofs.Suiting.{both-of}
-use Rattle.worker_agent.specs.Agent.{AsksRunner, Fits, Holds, IsAgent, IsTest, Sends, StepSays}
-use Rattle.worker_agent.specs.Came.{lease_by, lease_came, lost_by, refused_by, report_came, run_came}
-use Rattle.worker_agent.specs.Steps.{AgentState, Does, Step, agent_after, came_of, drew, ran, sent}
+use Rattle.worker_agent.specs.Agent.{AsksRunner, Holds, IsAgent, IsTest, StepSays}
+use Rattle.worker_agent.specs.Replies.{is_network, lease_by, lease_event, lease_held, lease_reply, lease_with, leased_event, lost_status, refused_by, report_event, run_event}
+use Rattle.worker_agent.specs.Steps.{AgentState, Does, Step, agent_after, drew, event_of, lease_after, ran, sent}
 use Rattle.worker_agent.specs.Told.{Told}
-use Rattle.worker_agent.specs.Work.{IsEndedBy, IsPut, Last, Tries, cut_off, ended_by, nothing}
-use Rattle.worker_agent.specs.declared.came.Came.{Came}
-use Rattle.worker_agent.specs.declared.came.Came.TheVariants as came
-use Rattle.worker_agent.specs.declared.came.TheConstants.{OK, CONFLICT, UNAVAILABLE, NO_STORAGE}
-use Rattle.worker_agent.specs.declared.send.Sent.{Sent}
+use Rattle.worker_agent.specs.Work.{IsEndedBy, Last, Tries, cut_off, ended_by, nothing}
 use Rattle.worker_agent.specs.declared.worked.WorkFault.{WorkFault}
 use Rattle.worker_agent.specs.declared.worked.WorkFault.TheVariants.{Memory, NetFault, Peer, RunnerFault}
 
 abbrev pub told_of : Option (List NetworkEvent) → Option (List Asked) → Option (List Key) → Told
 told_of network runner keys = record { network = network; runner = runner; keys = keys }
 
--- the request of an action, and how its answer is read
-pub record IsAsked (worker : List ℕ) (last : Option Action) (request : List ℕ) (reads : Exchanged → Result Came WorkFault) : Type 0 where
-  pub does : (lease : Option LeaseAnswer) (x : Exchange) (answer : Exchanged) → AnsweredBy request x (Ok answer) →
-      Does worker last lease (sent x answer)
-  pub comes : (x : Exchange) (answer : Exchanged) → came_of last (sent x answer) ≡ reads answer
+-- the request of an action, what comes of it, and which lease is held then
+pub record IsAsked (worker : List ℕ) (last : Option Action) (request : List ℕ) (reads : Sent → Result Event WorkFault)
+    (keeps : Sent → Option LeaseAnswer → Option LeaseAnswer) : Type 0 where
+  pub does : (lease : Option LeaseAnswer) (t : Try) → IsTry request t → Does worker last lease (sent t)
+  pub comes : (t : Try) → event_of last (sent t) ≡ reads (sent_of t.answer)
+  pub holds : (t : Try) (held : Option LeaseAnswer) → lease_after last (sent t) held ≡ keeps (sent_of t.answer) held
   pub tries : (x : Exchange) → IsPut request x → Tries worker last x
 
+abbrev pub as_held : Sent → Option LeaseAnswer → Option LeaseAnswer
+as_held s held = held
+
 pub asks-lease : (worker : List ℕ) (last : Option Action) (key : Key) → last ≡ Some (AskLease key) →
-    IsAsked worker last (lease_request key worker) lease_came
+    IsAsked worker last (lease_request key worker) lease_event lease_held
 asks-lease worker last key is =
-    subst (λ (l : Option Action). IsAsked worker l (lease_request key worker) lease_came) (sym is)
-    (record { does = λ lease x answer by. by; comes = λ x answer. refl; tries = λ x put. put })
+    subst (λ (l : Option Action). IsAsked worker l (lease_request key worker) lease_event lease_held) (sym is)
+    (record { does = λ lease t by. by; comes = λ t. refl; holds = λ t held. refl; tries = λ x put. put })
 
 pub asks-report : (worker : List ℕ) (last : Option Action) (run : ℕ) (verdict : Verdict) → last ≡ Some (SendReport run verdict) →
-    IsAsked worker last (report_request run verdict) report_came
+    IsAsked worker last (report_request run verdict) report_event as_held
 asks-report worker last run verdict is =
-    subst (λ (l : Option Action). IsAsked worker l (report_request run verdict) report_came) (sym is)
-    (record { does = λ lease x answer by. by; comes = λ x answer. refl; tries = λ x put. put })
+    subst (λ (l : Option Action). IsAsked worker l (report_request run verdict) report_event as_held) (sym is)
+    (record { does = λ lease t by. by; comes = λ t. refl; holds = λ t held. refl; tries = λ x put. put })
 
-pub asked-err : (A : Type 0) (worker : List ℕ) (agent now : AgentState) (request : List ℕ) (reads : Exchanged → Result Came WorkFault)
-    (before after : Option (List NetworkEvent)) (r : Option (List Asked)) (k : Option (List Key)) (fault : WorkFault) →
-    IsAsked worker agent.core.last request reads → Sends request reads before after (Err fault) →
+-- memory ran out for a request
+pub asked-none : (A : Type 0) (worker : List ℕ) (agent now : AgentState) (told : Told) →
+    StepSays {A = A} worker agent now told told (Err Memory)
+asked-none A worker agent now told = (nothing, tt, refl)
+
+-- memory ran out for its answer
+pub asked-short : (A : Type 0) (worker : List ℕ) (agent now : AgentState) (request : List ℕ) (reads : Sent → Result Event WorkFault)
+    (keeps : Sent → Option LeaseAnswer → Option LeaseAnswer) (before after : Option (List NetworkEvent)) (r : Option (List Asked))
+    (k : Option (List Key)) (memory : want.Memory) → IsAsked worker agent.core.last request reads keeps →
+    SendsOnce request before after (Err memory) →
+    StepSays {A = A} worker agent now (told_of before r k) (told_of after r k) (Err Memory)
+asked-short A worker agent now request reads keeps before after r k memory asked once =
+    (cut_off once.0, asked.tries once.0 once.2, ap (λ (n : Option (List NetworkEvent)). told_of n r k) once.1)
+
+-- its answer ends the work
+pub asked-err : (A : Type 0) (worker : List ℕ) (agent now : AgentState) (request : List ℕ) (reads : Sent → Result Event WorkFault)
+    (keeps : Sent → Option LeaseAnswer → Option LeaseAnswer) (before after : Option (List NetworkEvent)) (r : Option (List Asked))
+    (k : Option (List Key)) (s : Sent) (fault : WorkFault) → IsAsked worker agent.core.last request reads keeps →
+    SendsOnce request before after (Ok s) → (fault ≢ Memory → reads s ≡ Err fault) →
     StepSays {A = A} worker agent now (told_of before r k) (told_of after r k) (Err fault)
-asked-err A worker agent now request reads before after r k Memory asked (inl same) =
-    (nothing, tt, ap (λ (n : Option (List NetworkEvent)). told_of n r k) same)
-asked-err A worker agent now request reads before after r k Memory asked (inr s) =
-    (cut_off s.0, asked.tries s.0 s.2, ap (λ (n : Option (List NetworkEvent)). told_of n r k) s.1)
-asked-err A worker agent now request reads before after r k NetFault asked s = (
-  ended_by (sent s.0 s.1),
-  (asked.does agent.lease s.0 s.1 s.3, asked.comes s.0 s.1 ∙ s.4),
-  ap (λ (n : Option (List NetworkEvent)). told_of n r k) s.2,
-)
-asked-err A worker agent now request reads before after r k RunnerFault asked s = (
-  ended_by (sent s.0 s.1),
-  (asked.does agent.lease s.0 s.1 s.3, asked.comes s.0 s.1 ∙ s.4),
-  ap (λ (n : Option (List NetworkEvent)). told_of n r k) s.2,
-)
-asked-err A worker agent now request reads before after r k (Peer status) asked s = (
-  ended_by (sent s.0 s.1),
-  (asked.does agent.lease s.0 s.1 s.3, asked.comes s.0 s.1 ∙ s.4),
-  ap (λ (n : Option (List NetworkEvent)). told_of n r k) s.2,
-)
+asked-err A worker agent now request reads keeps before after r k s fault asked once is = by fault is
+  where
+    ends : (f : WorkFault) → reads s ≡ Err f → Does worker agent.core.last agent.lease (sent once.0)
+        × (event_of agent.core.last (sent once.0) ≡ Err f)
+    ends f e = (asked.does agent.lease once.0 once.2, asked.comes once.0 ∙ ap reads (sym once.3) ∙ e)
 
-pub asked-ok : {A : Type 0} (worker : List ℕ) (agent now : AgentState) (request : List ℕ) (reads : Exchanged → Result Came WorkFault)
-    (before after : Option (List NetworkEvent)) (r : Option (List Asked)) (k : Option (List Key)) (done : A) (s : Sent) →
-    IsAsked worker agent.core.last request reads → Sends request reads before after (Ok s) → now ≡ agent_after agent s.came s.faulted →
+    tells : told_of after r k ≡ told_of (tell_all (exchange_events once.0.exchange) before) r k
+    tells = ap (λ (n : Option (List NetworkEvent)). told_of n r k) once.1
+
+    by : (f : WorkFault) → (f ≢ Memory → reads s ≡ Err f) →
+        StepSays {A = A} worker agent now (told_of before r k) (told_of after r k) (Err f)
+    by Memory e = (cut_off once.0.exchange, asked.tries once.0.exchange (put-tried request once.0.exchange once.0.answer once.2), tells)
+    by NetFault e = (ended_by (sent once.0), ends NetFault (e (λ x. cc)), tells)
+    by RunnerFault e = (ended_by (sent once.0), ends RunnerFault (e (λ x. cc)), tells)
+    by (Peer status) e = (ended_by (sent once.0), ends (Peer status) (e (λ x. cc)), tells)
+
+-- the work goes on
+pub asked-ok : {A : Type 0} (worker : List ℕ) (agent now : AgentState) (request : List ℕ) (reads : Sent → Result Event WorkFault)
+    (keeps : Sent → Option LeaseAnswer → Option LeaseAnswer) (before after : Option (List NetworkEvent)) (r : Option (List Asked))
+    (k : Option (List Key)) (done : A) (s : Sent) (e : Event) → IsAsked worker agent.core.last request reads keeps →
+    SendsOnce request before after (Ok s) → reads s ≡ Ok e → now ≡ agent_after agent (keeps s agent.lease) e (is_network s) →
     StepSays {A = A} worker agent now (told_of before r k) (told_of after r k) (Ok done)
-asked-ok worker agent now request reads before after r k done s asked h is = (
-  sent h.0 h.1,
-  s.came,
+asked-ok worker agent now request reads keeps before after r k done s e asked once comes is = (
+  sent once.0,
+  e,
   record {
-    does = asked.does agent.lease h.0 h.1 h.3;
-    comes = asked.comes h.0 h.1 ∙ h.4;
-    after_is = is ∙ ap (λ (b : Bool). agent_after agent s.came b) h.5;
+    does = asked.does agent.lease once.0 once.2;
+    comes = asked.comes once.0 ∙ ap reads (sym once.3) ∙ comes;
+    after_is = is ∙ ap (λ (x : Sent). agent_after agent (keeps x agent.lease) e (is_network x)) once.3
+        ∙ ap (λ (l : Option LeaseAnswer). agent_after agent l e (is_network (sent_of once.0.answer)))
+        (sym (asked.holds once.0 agent.lease));
   },
-  ap (λ (n : Option (List NetworkEvent)). told_of n r k) h.2,
+  ap (λ (n : Option (List NetworkEvent)). told_of n r k) once.1,
 )
 
-pub asked-fits : (worker : List ℕ) (last : Option Action) (request : List ℕ) (reads : Exchanged → Result Came WorkFault)
-    (before after : Option (List NetworkEvent)) (s : Sent) → IsAsked worker last request reads →
-    Sends request reads before after (Ok s) → Fits last s.came
-asked-fits worker last request reads before after s asked h =
-    (both-of worker last None (sent h.0 h.1) s.came (asked.does None h.0 h.1 h.3) (asked.comes h.0 h.1 ∙ h.4)).fits
+-- what a step says that asked for a run, by what the request came to
+
+pub reply-ends : (A : Type 0) (worker : List ℕ) (agent now : AgentState) (request : List ℕ) (before after : Option (List NetworkEvent))
+    (r : Option (List Asked)) (k : Option (List Key)) (s : Sent) (response : Response) (fault : WorkFault) →
+    IsAsked worker agent.core.last request lease_event lease_held → SendsOnce request before after (Ok s) →
+    s ≡ came.Answered response → (fault ≢ Memory → lease_reply response ≡ Err fault) →
+    StepSays {A = A} worker agent now (told_of before r k) (told_of after r k) (Err fault)
+reply-ends A worker agent now request before after r k s response fault asked once is ends =
+    asked-err A worker agent now request lease_event lease_held before after r k s fault asked once
+    (λ n. ap lease_event is ∙ ap leased_event (ends n))
+
+pub some-says : {A : Type 0} (worker : List ℕ) (agent now : AgentState) (request : List ℕ) (before after : Option (List NetworkEvent))
+    (r : Option (List Asked)) (k : Option (List Key)) (done : A) (s : Sent) (response : Response) (lease : LeaseAnswer) →
+    IsAsked worker agent.core.last request lease_event lease_held → SendsOnce request before after (Ok s) →
+    s ≡ came.Answered response → lease_reply response ≡ Ok (Some lease) →
+    now ≡ agent_after agent (Some lease) (event.Leased lease.run) false →
+    StepSays {A = A} worker agent now (told_of before r k) (told_of after r k) (Ok done)
+some-says worker agent now request before after r k done s response lease asked once is says now_is =
+    asked-ok worker agent now request lease_event lease_held before after r k done s (event.Leased lease.run) asked once
+    (ap lease_event is ∙ ap leased_event says)
+    (now_is
+    ∙ sym (ap (λ (x : Result (Option LeaseAnswer) WorkFault).
+    agent_after agent (lease_with x agent.lease) (event.Leased lease.run) false) says)
+    ∙ sym (ap (λ (x : Sent). agent_after agent (lease_held x agent.lease) (event.Leased lease.run) (is_network x)) is))
+
+pub none-says : {A : Type 0} (worker : List ℕ) (agent now : AgentState) (request : List ℕ) (before after : Option (List NetworkEvent))
+    (r : Option (List Asked)) (k : Option (List Key)) (done : A) (s : Sent) (response : Response) →
+    IsAsked worker agent.core.last request lease_event lease_held → SendsOnce request before after (Ok s) →
+    s ≡ came.Answered response → lease_reply response ≡ Ok None → now ≡ agent_after agent agent.lease event.Nothing false →
+    StepSays {A = A} worker agent now (told_of before r k) (told_of after r k) (Ok done)
+none-says worker agent now request before after r k done s response asked once is says now_is =
+    asked-ok worker agent now request lease_event lease_held before after r k done s event.Nothing asked once
+    (ap lease_event is ∙ ap leased_event says)
+    (now_is
+    ∙ sym (ap (λ (x : Result (Option LeaseAnswer) WorkFault).
+    agent_after agent (lease_with x agent.lease) event.Nothing false) says)
+    ∙ sym (ap (λ (x : Sent). agent_after agent (lease_held x agent.lease) event.Nothing (is_network x)) is))
+
+pub lost-says : {A : Type 0} (worker : List ℕ) (agent now : AgentState) (request : List ℕ) (before after : Option (List NetworkEvent))
+    (r : Option (List Asked)) (k : Option (List Key)) (done : A) (s : Sent) (by : sending.Lost) →
+    IsAsked worker agent.core.last request lease_event lease_held → SendsOnce request before after (Ok s) →
+    s ≡ came.Lost by → now ≡ agent_after agent agent.lease (event.Lost (lost_status by)) (is_network s) →
+    StepSays {A = A} worker agent now (told_of before r k) (told_of after r k) (Ok done)
+lost-says worker agent now request before after r k done s by asked once is now_is =
+    asked-ok worker agent now request lease_event lease_held before after r k done s (event.Lost (lost_status by)) asked once
+    (ap lease_event is)
+    (now_is
+    ∙ sym (ap (λ (x : Sent). agent_after agent (lease_held x agent.lease) (event.Lost (lost_status by)) (is_network s)) is))
+
+-- a request that was lost by the network
+pub network-is : (s : Sent) → is_network s ≡ true → s ≡ came.Lost lost.Network
+network-is (came.Answered response) is = cc
+network-is (came.Lost lost.Network) is = refl
+network-is (came.Lost (lost.Peer status)) is = cc
 
 -- the answer to a request ends the work by its status alone
 
-abbrev pub IsOrPeer : Result Came WorkFault → Type 0
-IsOrPeer (Ok came) = Unit {0}
+abbrev pub IsOrPeer : {A : Type 0} → Result A WorkFault → Type 0
+IsOrPeer (Ok event) = Unit {0}
 IsOrPeer (Err (Peer status)) = Unit {0}
 IsOrPeer (Err fault) = ⊥
 
-lost-peer : (lost : Bool) (status : ℕ) (came : Came) → IsOrPeer (if lost then Ok came else Err (Peer status))
-lost-peer true status came = tt
-lost-peer false status came = tt
+read-peer : (status : ℕ) (reading : Result LeaseAnswer AnswerFault) → IsOrPeer (lease_by status reading)
+read-peer status (Ok lease) = tt
+read-peer status (Err fault) = tt
 
-read-peer : (reading : Result LeaseAnswer AnswerFault) → IsOrPeer (lease_by reading)
-read-peer (Ok lease) = tt
-read-peer (Err fault) = tt
+refused-peer : (status : ℕ) (no_run : Bool) → IsOrPeer (refused_by status no_run)
+refused-peer status true = tt
+refused-peer status false = tt
 
-refused-peer : (no_run : Bool) → IsOrPeer (refused_by no_run)
-refused-peer true = tt
-refused-peer false = tt
-
-if-peer : (b : Bool) (x y : Result Came WorkFault) → IsOrPeer x → IsOrPeer y → IsOrPeer (if b then x else y)
+if-peer : {A : Type 0} (b : Bool) (x y : Result A WorkFault) → IsOrPeer {A = A} x → IsOrPeer {A = A} y →
+    IsOrPeer {A = A} (if b then x else y)
 if-peer true x y p q = p
 if-peer false x y p q = q
 
-lost_by-peer : (status : ℕ) → IsOrPeer (lost_by status)
-lost_by-peer status = lost-peer (status == UNAVAILABLE || status == NO_STORAGE) status _
+reply-peer : (r : Response) → IsOrPeer (lease_reply r)
+reply-peer r =
+    if-peer (r.status == status_number status.Ok) (lease_by r.status (lease_reading r.body)) _
+    (read-peer r.status (lease_reading r.body))
+    (if-peer (r.status == status_number status.Conflict) (refused_by r.status (tells_no_run r.body)) (Err (Peer r.status))
+    (refused-peer r.status (tells_no_run r.body)) tt)
 
-pub lease-peer : (answer : Exchanged) → IsOrPeer (lease_came answer)
-lease-peer (Answered r) =
-    if-peer (r.status == OK) (lease_by (lease_reading r.body)) _ (read-peer (lease_reading r.body))
-    (if-peer (r.status == CONFLICT) (refused_by (tells_no_run r.body)) (lost_by r.status) (refused-peer (tells_no_run r.body))
-    (lost_by-peer r.status))
-lease-peer Failed = tt
-lease-peer Broken = tt
+leased-peer : (reply : Result (Option LeaseAnswer) WorkFault) → IsOrPeer reply → IsOrPeer (leased_event reply)
+leased-peer (Ok (Some lease)) is = tt
+leased-peer (Ok None) is = tt
+leased-peer (Err (Peer status)) is = tt
+leased-peer (Err Memory) is = absurd is
+leased-peer (Err NetFault) is = absurd is
+leased-peer (Err RunnerFault) is = absurd is
 
-pub report-peer : (answer : Exchanged) → IsOrPeer (report_came answer)
-report-peer (Answered r) = if-peer (r.status == OK) _ (lost_by r.status) tt (lost_by-peer r.status)
-report-peer Failed = tt
-report-peer Broken = tt
+lease-peer : (s : Sent) → IsOrPeer (lease_event s)
+lease-peer (came.Answered r) = leased-peer (lease_reply r) (reply-peer r)
+lease-peer (came.Lost by) = tt
+
+report-peer : (s : Sent) → IsOrPeer (report_event s)
+report-peer (came.Answered r) = if-peer (r.status == status_number status.Ok) (Ok event.Noted) (Err (Peer r.status)) tt tt
+report-peer (came.Lost by) = tt
 
 -- no step is ended by a fault of the network: the request is lost then
 
-run-not-net : (answer : runner.Ran) → run_came answer ≡ Err NetFault → ⊥
+run-not-net : (answer : runner.Ran) → run_event answer ≡ Err NetFault → ⊥
 run-not-net (ran_is.Verdict verdict) e = cc
 run-not-net ran_is.Failed e = cc
 
-comes-not-net : (last : Option Action) (step : Step) → came_of last step ≡ Err NetFault → ⊥
+comes-not-net : (last : Option Action) (step : Step) → event_of last step ≡ Err NetFault → ⊥
 comes-not-net None (drew key) e = cc
-comes-not-net None (sent x answer) e = cc
+comes-not-net None (sent t) e = cc
 comes-not-net None (ran asked) e = cc
 comes-not-net (Some Draw) (drew key) e = cc
-comes-not-net (Some Draw) (sent x answer) e = cc
+comes-not-net (Some Draw) (sent t) e = cc
 comes-not-net (Some Draw) (ran asked) e = cc
 comes-not-net (Some (AskLease key)) (drew k) e = cc
-comes-not-net (Some (AskLease key)) (sent x answer) e = subst IsOrPeer e (lease-peer answer)
+comes-not-net (Some (AskLease key)) (sent t) e =
+    subst (λ (r : Result Event WorkFault). IsOrPeer r) e (lease-peer (sent_of t.answer))
 comes-not-net (Some (AskLease key)) (ran asked) e = cc
 comes-not-net (Some (RunTest run)) (drew key) e = cc
-comes-not-net (Some (RunTest run)) (sent x answer) e = cc
+comes-not-net (Some (RunTest run)) (sent t) e = cc
 comes-not-net (Some (RunTest run)) (ran asked) e = run-not-net asked.answer e
 comes-not-net (Some (SendReport run verdict)) (drew key) e = cc
-comes-not-net (Some (SendReport run verdict)) (sent x answer) e = subst IsOrPeer e (report-peer answer)
+comes-not-net (Some (SendReport run verdict)) (sent t) e =
+    subst (λ (r : Result Event WorkFault). IsOrPeer r) e (report-peer (sent_of t.answer))
 comes-not-net (Some (SendReport run verdict)) (ran asked) e = cc
 comes-not-net (Some (Stop end)) (drew key) e = cc
-comes-not-net (Some (Stop end)) (sent x answer) e = cc
+comes-not-net (Some (Stop end)) (sent t) e = cc
 comes-not-net (Some (Stop end)) (ran asked) e = cc
 
 ended-not-net : (worker : List ℕ) (agent : AgentState) (last : Last) → IsEndedBy worker agent last NetFault → ⊥
@@ -177,68 +256,77 @@ says-not-net {A = A} worker agent now before after result says is =
 
 -- a key
 
+drew-comes : (last : Option Action) (key : Key) → event_of last (drew key) ≡ Ok (event.Drew key)
+drew-comes None key = refl
+drew-comes (Some Draw) key = refl
+drew-comes (Some (AskLease k)) key = refl
+drew-comes (Some (RunTest run)) key = refl
+drew-comes (Some (SendReport run verdict)) key = refl
+drew-comes (Some (Stop end)) key = refl
+
+drew-keeps : (last : Option Action) (key : Key) (held : Option LeaseAnswer) → lease_after last (drew key) held ≡ held
+drew-keeps None key held = refl
+drew-keeps (Some Draw) key held = refl
+drew-keeps (Some (AskLease k)) key held = refl
+drew-keeps (Some (RunTest run)) key held = refl
+drew-keeps (Some (SendReport run verdict)) key held = refl
+drew-keeps (Some (Stop end)) key held = refl
+
 pub drew-ok : {A : Type 0} (worker : List ℕ) (agent now : AgentState) (before after : Option (List Key)) (n : Option (List NetworkEvent))
     (r : Option (List Asked)) (done : A) (key : Key) → agent.core.last ≡ Some Draw → after ≡ add_told key before →
-    now ≡ agent_after agent (came.Event (event.Drew key)) false →
+    now ≡ agent_after agent agent.lease (event.Drew key) false →
     StepSays {A = A} worker agent now (told_of n r before) (told_of n r after) (Ok done)
 drew-ok worker agent now before after n r done key is told now_is = (
   drew key,
-  came.Event (event.Drew key),
+  event.Drew key,
   record {
     does = subst (λ (l : Option Action). Does worker l agent.lease (drew key)) (sym is) tt;
-    comes = ap (λ (l : Option Action). came_of l (drew key)) is;
-    after_is = now_is;
+    comes = drew-comes agent.core.last key;
+    after_is = now_is ∙ ap (λ (l : Option LeaseAnswer). agent_after agent l (event.Drew key) false)
+        (sym (drew-keeps agent.core.last key agent.lease));
   },
   ap (λ (k : Option (List Key)). told_of n r k) told,
 )
 
 -- the runner
 
-test-comes : (last : Option Action) (a : Asked) → IsTest last → came_of last (ran a) ≡ run_came a.answer
+test-comes : (last : Option Action) (a : Asked) → IsTest last → event_of last (ran a) ≡ run_event a.answer
 test-comes (Some (RunTest run)) asked test = refl
 test-comes last asked test = absurd test
 
-ran-comes : (last : Option Action) (a : Asked) (answer : runner.Ran) (came : Result Came WorkFault) → IsTest last →
-    a.answer ≡ answer → run_came answer ≡ came → came_of last (ran a) ≡ came
-ran-comes last a answer came test same is = test-comes last a test ∙ ap run_came same ∙ is
+test-keeps : (last : Option Action) (a : Asked) (held : Option LeaseAnswer) → IsTest last → lease_after last (ran a) held ≡ held
+test-keeps (Some (RunTest run)) asked held test = refl
+test-keeps last asked held test = absurd test
 
-pub ran-fits : (last : Option Action) (lease : Option LeaseAnswer) (before after : Option (List Asked)) (answer : runner.Ran) (c : Came) →
-    IsTest last → AsksRunner last lease before after answer → run_came answer ≡ Ok c → Fits last c
-ran-fits last lease before after answer c test asks is =
-    (both-of [] last lease (ran asks.0) c (asks.3 []) (ran-comes last asks.0 answer (Ok c) test asks.2 is)).fits
+ran-comes : (last : Option Action) (a : Asked) (answer : runner.Ran) → IsTest last → a.answer ≡ answer →
+    event_of last (ran a) ≡ run_event answer
+ran-comes last a answer test same = test-comes last a test ∙ ap run_event same
 
 pub ran-ok : {A : Type 0} (worker : List ℕ) (agent now : AgentState) (before after : Option (List Asked)) (n : Option (List NetworkEvent))
-    (k : Option (List Key)) (done : A) (answer : runner.Ran) (c : Came) → IsTest agent.core.last →
-    AsksRunner agent.core.last agent.lease before after answer → run_came answer ≡ Ok c → now ≡ agent_after agent c false →
+    (k : Option (List Key)) (done : A) (verdict : Verdict) → IsTest agent.core.last →
+    AsksRunner agent.core.last agent.lease before after (ran_is.Verdict verdict) →
+    now ≡ agent_after agent agent.lease (event.Ran verdict) false →
     StepSays {A = A} worker agent now (told_of n before k) (told_of n after k) (Ok done)
-ran-ok worker agent now before after n k done answer c test asks is now_is = (
+ran-ok worker agent now before after n k done verdict test asks now_is = (
   ran asks.0,
-  c,
+  event.Ran verdict,
   record {
     does = asks.3 worker;
-    comes = ran-comes agent.core.last asks.0 answer (Ok c) test asks.2 is;
-    after_is = now_is;
+    comes = ran-comes agent.core.last asks.0 (ran_is.Verdict verdict) test asks.2;
+    after_is = now_is ∙ ap (λ (l : Option LeaseAnswer). agent_after agent l (event.Ran verdict) false)
+        (sym (test-keeps agent.core.last asks.0 agent.lease test));
   },
   ap (λ (r : Option (List Asked)). told_of n r k) asks.1,
 )
 
 pub ran-err : (A : Type 0) (worker : List ℕ) (agent now : AgentState) (before after : Option (List Asked)) (n : Option (List NetworkEvent))
-    (k : Option (List Key)) (fault : WorkFault) (answer : runner.Ran) → IsTest agent.core.last →
-    AsksRunner agent.core.last agent.lease before after answer → run_came answer ≡ Err fault →
-    StepSays {A = A} worker agent now (told_of n before k) (told_of n after k) (Err fault)
-ran-err A worker agent now before after n k fault (ran_is.Verdict verdict) test asks is = absurd (cc is)
-ran-err A worker agent now before after n k Memory ran_is.Failed test asks is = absurd (cc is)
-ran-err A worker agent now before after n k NetFault ran_is.Failed test asks is = absurd (cc is)
-ran-err A worker agent now before after n k (Peer status) ran_is.Failed test asks is = absurd (cc is)
-ran-err A worker agent now before after n k RunnerFault ran_is.Failed test asks is = (
+    (k : Option (List Key)) → IsTest agent.core.last → AsksRunner agent.core.last agent.lease before after ran_is.Failed →
+    StepSays {A = A} worker agent now (told_of n before k) (told_of n after k) (Err RunnerFault)
+ran-err A worker agent now before after n k test asks = (
   ended_by (ran asks.0),
-  (asks.3 worker, ran-comes agent.core.last asks.0 ran_is.Failed (Err RunnerFault) test asks.2 is),
+  (asks.3 worker, ran-comes agent.core.last asks.0 ran_is.Failed test asks.2),
   ap (λ (r : Option (List Asked)). told_of n r k) asks.1,
 )
-
-pub failed-rose : (answer : runner.Ran) (fault : WorkFault) (P : Type 0) → run_came answer ≡ Err fault → OnRunFailed answer P → P
-failed-rose (ran_is.Verdict verdict) fault P is rose = absurd (cc is)
-failed-rose ran_is.Failed fault P is rose = rose
 
 test-does : (worker : List ℕ) (last : Option Action) (held : Option LeaseAnswer) (lease : LeaseAnswer) (answer : runner.Ran) →
     IsTest last → Holds last held → held ≡ Some lease → Does worker last held (ran (asked lease.test lease.commit answer))

@@ -1,132 +1,94 @@
 -- What comes of a step suits the action that it was done for.
-use Rattle.std.proofs.Common.{◌≡◌, ◌≢◌, ◌<◌, ◌==◌, ◌||◌, ℕ, Bool, true, false, if◌then◌else◌, List, [], append-nil, Option, Some, None, Result, Ok, Err, sym, subst, ◌∙◌, inr}
-use Rattle.fault_types.specs.declared.memory.Memory as want
+use Rattle.std.proofs.Common.{◌≡◌, ◌<◌, ◌==◌, ℕ, Bool, true, false, if◌then◌else◌, List, Option, Some, None, Result, Ok, Err, sym, subst}
 use Rattle.farm_types.specs.declared.key.Key.{Key}
-use Rattle.http_exchange.specs.Exchanges.{AnsweredBy, Exchange, exchange_events, talked, tell_all, unconnected}
-use Rattle.http_exchange.specs.declared.connection.Exchanged.{Exchanged}
-use Rattle.http_exchange.specs.declared.connection.Exchanged.TheVariants.{Answered, Broken, Failed}
-use Rattle.net_io.specs.Events.{NetworkEvent}
+use Rattle.http_exchange.specs.Sending.{sent_of}
+use Rattle.http_exchange.specs.Statuses.{status_number}
+use Rattle.http_exchange.specs.declared.sending.Sent.{Sent}
+use Rattle.http_exchange.specs.declared.sending.Sent.TheVariants as came
+use Rattle.http_words.specs.declared.status_code.StatusCode.TheVariants as status
 use Rattle.weight_exact.specs.declared.run.Verdict.{Verdict}
 use Rattle.worker_core.specs.Core.{IsCore}
 use Rattle.worker_core.specs.declared.action.Action.{Action}
 use Rattle.worker_core.specs.declared.action.Action.TheVariants.{Draw, AskLease, RunTest, SendReport, Stop}
-use Rattle.worker_core.specs.declared.event.Event.TheVariants.{Drew, Nothing, Ran, Noted, Lost}
+use Rattle.worker_core.specs.declared.event.Event.{Event}
+use Rattle.worker_core.specs.declared.event.Event.TheVariants.{Drew, Leased, Nothing, Ran, Noted, Lost}
 use Rattle.worker_io.specs.declared.runner.Ran as runner
 use Rattle.worker_io.specs.declared.runner.Ran.TheVariants as answer
-use Rattle.worker_wire.specs.Answers.{lease_reading, tells_no_run}
-use Rattle.worker_wire.specs.declared.answer.AnswerFault.{AnswerFault}
 use Rattle.worker_wire.specs.declared.answer.LeaseAnswer.{LeaseAnswer}
 use Rattle.worker_agent.proofs.Measure.{Suits, less, work_left}
-use Rattle.worker_agent.specs.Agent.{Fits, Sends}
-use Rattle.worker_agent.specs.Came.{event_of, lease_by, lease_came, refused_by, report_came, run_came}
-use Rattle.worker_agent.specs.Steps.{AgentState, Does, IsStep, Step, came_of, drew, ran, sent}
-use Rattle.worker_agent.specs.Work.{IsPut}
-use Rattle.worker_agent.specs.declared.came.Came.{Came}
-use Rattle.worker_agent.specs.declared.came.Came.TheVariants as came
-use Rattle.worker_agent.specs.declared.came.TheConstants.{OK, CONFLICT, UNAVAILABLE, NO_STORAGE}
+use Rattle.worker_agent.specs.Agent.{IsOther}
+use Rattle.worker_agent.specs.Replies.{lease_event, lease_reply, leased_event, lost_status, report_event, run_event}
+use Rattle.worker_agent.specs.Steps.{AgentState, Does, IsStep, Step, drew, event_of, ran, sent}
 use Rattle.worker_agent.specs.declared.worked.WorkFault.{WorkFault}
-use Rattle.worker_agent.specs.declared.worked.WorkFault.TheVariants.{Memory, NetFault, Peer, RunnerFault}
-
--- both facts on what came
-pub record Both (last : Option Action) (c : Came) : Type 0 where
-  pub suits : Suits last (event_of c)
-  pub fits : Fits last c
+use Rattle.worker_agent.specs.declared.worked.WorkFault.TheVariants.{Peer}
 
 -- an answer that is Ok
-abbrev pub ok_of : Came → Result Came WorkFault
-ok_of c = Ok c
+abbrev pub ok_of : Event → Result Event WorkFault
+ok_of event = Ok event
 
-given : (last : Option Action) (c d : Came) → Both last c → ok_of c ≡ ok_of d → Both last d
-given last c d both same = let is : c ≡ d = cc in subst (λ (x : Came). Both last x) is both
+given : (last : Option Action) (event other : Event) → Suits last event → ok_of event ≡ ok_of other → Suits last other
+given last event other suits same = let is : event ≡ other = cc in subst (λ (e : Event). Suits last e) is suits
 
-lost-both : (key : Key) (status : ℕ) (b : Bool) (c : Came) →
-    (if b then ok_of (came.Event (Lost status)) else Err (Peer status)) ≡ Ok c → Both (Some (AskLease key)) c
-lost-both key status true c e = given _ (came.Event (Lost status)) c (record { suits = tt; fits = tt }) e
-lost-both key status false c e = absurd (cc e)
+leased-suits : (key : Key) (reply : Result (Option LeaseAnswer) WorkFault) (event : Event) → leased_event reply ≡ Ok event →
+    Suits (Some (AskLease key)) event
+leased-suits key (Ok (Some lease)) event e = given (Some (AskLease key)) (Leased lease.run) event tt e
+leased-suits key (Ok None) event e = given (Some (AskLease key)) Nothing event tt e
+leased-suits key (Err fault) event e = absurd (cc e)
 
-read-both : (key : Key) (reading : Result LeaseAnswer AnswerFault) (c : Came) → lease_by reading ≡ Ok c → Both (Some (AskLease key)) c
-read-both key (Ok lease) c e = given _ (came.Lease lease) c (record { suits = tt; fits = tt }) e
-read-both key (Err fault) c e = absurd (cc e)
+lease-suits : (key : Key) (s : Sent) (event : Event) → lease_event s ≡ Ok event → Suits (Some (AskLease key)) event
+lease-suits key (came.Answered r) event e = leased-suits key (lease_reply r) event e
+lease-suits key (came.Lost lost) event e = given (Some (AskLease key)) (Lost (lost_status lost)) event tt e
 
-refused-both : (key : Key) (no_run : Bool) (c : Came) → refused_by no_run ≡ Ok c → Both (Some (AskLease key)) c
-refused-both key true c e = given _ (came.Event Nothing) c (record { suits = tt; fits = tt }) e
-refused-both key false c e = absurd (cc e)
+-- an event that a report comes to
+pub record IsOfReport (run : ℕ) (verdict : Verdict) (event : Event) : Type 0 where
+  pub suits : Suits (Some (SendReport run verdict)) event
+  pub other : IsOther event
 
-answer-both : (key : Key) (ok conflict lost : Bool) (reading : Result LeaseAnswer AnswerFault) (no_run : Bool) (status : ℕ) (c : Came) →
-    (if ok then lease_by reading else if conflict then refused_by no_run
-    else (if lost then ok_of (came.Event (Lost status)) else Err (Peer status))) ≡ Ok c →
-    Both (Some (AskLease key)) c
-answer-both key true conflict lost reading no_run status c e = read-both key reading c e
-answer-both key false true lost reading no_run status c e = refused-both key no_run c e
-answer-both key false false lost reading no_run status c e = lost-both key status lost c e
+reported : (run : ℕ) (verdict : Verdict) (event other : Event) → IsOfReport run verdict event → ok_of event ≡ ok_of other →
+    IsOfReport run verdict other
+reported run verdict event other of same =
+    let is : event ≡ other = cc in subst (λ (e : Event). IsOfReport run verdict e) is of
 
-lease-both : (key : Key) (answer : Exchanged) (c : Came) → lease_came answer ≡ Ok c → Both (Some (AskLease key)) c
-lease-both key (Answered r) c e =
-    answer-both key (r.status == OK) (r.status == CONFLICT) (r.status == UNAVAILABLE || r.status == NO_STORAGE)
-    (lease_reading r.body) (tells_no_run r.body) r.status c e
-lease-both key Failed c e = given _ (came.Event (Lost 0)) c (record { suits = tt; fits = tt }) e
-lease-both key Broken c e = given _ (came.Event (Lost 0)) c (record { suits = tt; fits = tt }) e
+noted-is : (run : ℕ) (verdict : Verdict) (ok : Bool) (status : ℕ) (event : Event) →
+    (if ok then ok_of Noted else Err (Peer status)) ≡ Ok event → IsOfReport run verdict event
+noted-is run verdict true status event e = reported run verdict Noted event (record { suits = tt; other = tt }) e
+noted-is run verdict false status event e = absurd (cc e)
 
-noted-both : (run : ℕ) (verdict : Verdict) (ok lost : Bool) (status : ℕ) (c : Came) →
-    (if ok then ok_of (came.Event Noted) else (if lost then ok_of (came.Event (Lost status)) else Err (Peer status))) ≡ Ok c →
-    Both (Some (SendReport run verdict)) c
-noted-both run verdict true lost status c e = given _ (came.Event Noted) c (record { suits = tt; fits = tt }) e
-noted-both run verdict false true status c e = given _ (came.Event (Lost status)) c (record { suits = tt; fits = tt }) e
-noted-both run verdict false false status c e = absurd (cc e)
+pub report-is : (run : ℕ) (verdict : Verdict) (s : Sent) (event : Event) → report_event s ≡ Ok event → IsOfReport run verdict event
+report-is run verdict (came.Answered r) event e = noted-is run verdict (r.status == status_number status.Ok) r.status event e
+report-is run verdict (came.Lost lost) event e =
+    reported run verdict (Lost (lost_status lost)) event (record { suits = tt; other = tt }) e
 
-report-both : (run : ℕ) (verdict : Verdict) (answer : Exchanged) (c : Came) → report_came answer ≡ Ok c →
-    Both (Some (SendReport run verdict)) c
-report-both run verdict (Answered r) c e =
-    noted-both run verdict (r.status == OK) (r.status == UNAVAILABLE || r.status == NO_STORAGE) r.status c e
-report-both run verdict Failed c e = given _ (came.Event (Lost 0)) c (record { suits = tt; fits = tt }) e
-report-both run verdict Broken c e = given _ (came.Event (Lost 0)) c (record { suits = tt; fits = tt }) e
+run-suits : (run : ℕ) (said : runner.Ran) (event : Event) → run_event said ≡ Ok event → Suits (Some (RunTest run)) event
+run-suits run (answer.Verdict verdict) event e = given (Some (RunTest run)) (Ran verdict) event tt e
+run-suits run answer.Failed event e = absurd (cc e)
 
-run-both : (run : ℕ) (said : runner.Ran) (c : Came) → run_came said ≡ Ok c → Both (Some (RunTest run)) c
-run-both run (answer.Verdict verdict) c e = given _ (came.Event (Ran verdict)) c (record { suits = tt; fits = tt }) e
-run-both run answer.Failed c e = absurd (cc e)
-
-pub both-of : (worker : List ℕ) (last : Option Action) (lease : Option LeaseAnswer) (step : Step) (c : Came) → Does worker last lease step →
-    came_of last step ≡ Ok c → Both last c
-both-of worker None lease step c does e = absurd does
-both-of worker (Some Draw) lease (drew key) c does e = given _ (came.Event (Drew key)) c (record { suits = tt; fits = tt }) e
-both-of worker (Some Draw) lease (sent x said) c does e = absurd does
-both-of worker (Some Draw) lease (ran asked) c does e = absurd does
-both-of worker (Some (AskLease key)) lease (drew k) c does e = absurd does
-both-of worker (Some (AskLease key)) lease (sent x said) c does e = lease-both key said c e
-both-of worker (Some (AskLease key)) lease (ran asked) c does e = absurd does
-both-of worker (Some (RunTest run)) None step c does e = absurd does
-both-of worker (Some (RunTest run)) (Some lease) (drew key) c does e = absurd does
-both-of worker (Some (RunTest run)) (Some lease) (sent x said) c does e = absurd does
-both-of worker (Some (RunTest run)) (Some lease) (ran asked) c does e = run-both run asked.answer c e
-both-of worker (Some (SendReport run verdict)) lease (drew key) c does e = absurd does
-both-of worker (Some (SendReport run verdict)) lease (sent x said) c does e = report-both run verdict said c e
-both-of worker (Some (SendReport run verdict)) lease (ran asked) c does e = absurd does
-both-of worker (Some (Stop end)) lease step c does e = absurd does
+suits-of : (worker : List ℕ) (last : Option Action) (lease : Option LeaseAnswer) (step : Step) (event : Event) →
+    Does worker last lease step → event_of last step ≡ Ok event → Suits last event
+suits-of worker None lease step event does e = absurd does
+suits-of worker (Some Draw) lease (drew key) event does e = given (Some Draw) (Drew key) event tt e
+suits-of worker (Some Draw) lease (sent t) event does e = absurd does
+suits-of worker (Some Draw) lease (ran asked) event does e = absurd does
+suits-of worker (Some (AskLease key)) lease (drew k) event does e = absurd does
+suits-of worker (Some (AskLease key)) lease (sent t) event does e = lease-suits key (sent_of t.answer) event e
+suits-of worker (Some (AskLease key)) lease (ran asked) event does e = absurd does
+suits-of worker (Some (RunTest run)) None step event does e = absurd does
+suits-of worker (Some (RunTest run)) (Some lease) (drew key) event does e = absurd does
+suits-of worker (Some (RunTest run)) (Some lease) (sent t) event does e = absurd does
+suits-of worker (Some (RunTest run)) (Some lease) (ran asked) event does e = run-suits run asked.answer event e
+suits-of worker (Some (SendReport run verdict)) lease (drew key) event does e = absurd does
+suits-of worker (Some (SendReport run verdict)) lease (sent t) event does e =
+    (report-is run verdict (sent_of t.answer) event e).suits
+suits-of worker (Some (SendReport run verdict)) lease (ran asked) event does e = absurd does
+suits-of worker (Some (Stop end)) lease step event does e = absurd does
 
 -- a step makes what is left to do less
-pub less-left : (worker : List ℕ) (agent : AgentState) (step : Step) (c : Came) (next : AgentState) →
-    IsCore agent.core.left agent.core.lost agent.core.last → IsStep worker agent step c next →
+pub less-left : (worker : List ℕ) (agent : AgentState) (step : Step) (event : Event) (next : AgentState) →
+    IsCore agent.core.left agent.core.lost agent.core.last → IsStep worker agent step event next →
     work_left next.core.left next.core.lost next.core.last < work_left agent.core.left agent.core.lost agent.core.last
-less-left worker agent step c next core is =
-    let both = both-of worker agent.core.last agent.lease step c is.does is.comes in
+less-left worker agent step event next core is =
     subst
     (λ (s : AgentState). work_left s.core.left s.core.lost s.core.last < work_left agent.core.left agent.core.lost agent.core.last)
     (sym is.after_is)
-    (less agent.core.left agent.core.lost agent.core.last (event_of c) core both.suits)
-
--- The sending of a request.
-
-pub put-of : (request : List ℕ) (x : Exchange) (came : Result Exchanged want.Memory) → AnsweredBy request x came → IsPut request x
-put-of request unconnected came is = tt
-put-of request (talked t) (Ok (Answered response)) is = ([], sym is.1 ∙ sym (append-nil t.put))
-put-of request (talked t) (Ok Failed) is = is.1
-put-of request (talked t) (Ok Broken) is = ([], sym is.1 ∙ sym (append-nil t.put))
-put-of request (talked t) (Err memory) is = is
-
-pub sends-err : (request : List ℕ) (reads : Exchanged → Result Came WorkFault) (before after : Option (List NetworkEvent)) (x : Exchange)
-    (answer : Exchanged) (fault : WorkFault) → after ≡ tell_all (exchange_events x) before → AnsweredBy request x (Ok answer) →
-    (fault ≢ Memory → reads answer ≡ Err fault) → Sends request reads before after (Err fault)
-sends-err request reads before after x answer Memory told is reading = inr (x, told, put-of request x (Ok answer) is)
-sends-err request reads before after x answer NetFault told is reading = (x, answer, told, is, reading (λ e. cc))
-sends-err request reads before after x answer RunnerFault told is reading = (x, answer, told, is, reading (λ e. cc))
-sends-err request reads before after x answer (Peer status) told is reading = (x, answer, told, is, reading (λ e. cc))
+    (less agent.core.left agent.core.lost agent.core.last event core
+    (suits-of worker agent.core.last agent.lease step event is.does is.comes))

@@ -1,10 +1,6 @@
 -- What is kept of a worker between its steps, and what a step of it says.
 use Rattle.std.specs.Prelude.{◌≡◌, ◌-◌, ℕ, List, Option, Some, None, Result, Ok, Err, ⊤}
-use Rattle.std.specs.Prelude.{◌⊎◌}
-use Rattle.http_exchange.specs.Exchanges.{AnsweredBy, Exchange, exchange_events, tell_all}
-use Rattle.http_exchange.specs.declared.connection.Exchanged.{Exchanged}
 use Rattle.link_io.specs.Telling.{add_told}
-use Rattle.net_io.specs.Events.{NetworkEvent}
 use Rattle.worker_core.specs.declared.action.Action.{Action}
 use Rattle.worker_core.specs.declared.action.Action.TheVariants.{AskLease, RunTest, Stop}
 use Rattle.worker_core.specs.declared.event.Event.{Event}
@@ -12,15 +8,11 @@ use Rattle.worker_core.specs.declared.event.Event.TheVariants.{Leased}
 use Rattle.worker_io.specs.Runs.{Asked}
 use Rattle.worker_io.specs.declared.runner.Ran.{Ran}
 use Rattle.worker_wire.specs.declared.answer.LeaseAnswer.{LeaseAnswer}
-use Rattle.worker_agent.specs.Steps.{AgentState, Does, IsStep, Step, is_failed, ran}
+use Rattle.worker_agent.specs.Steps.{AgentState, Does, IsStep, Step, ran}
 use Rattle.worker_agent.specs.Told.{Told, told_step}
-use Rattle.worker_agent.specs.Work.{GivesUp, IsDone, IsEndedBy, IsPut, Last, told_last}
-use Rattle.worker_agent.specs.declared.came.Came.{Came}
-use Rattle.worker_agent.specs.declared.came.Came.TheVariants as came
-use Rattle.worker_agent.specs.declared.send.Sent.{Sent}
+use Rattle.worker_agent.specs.Work.{GivesUp, IsDone, IsEndedBy, Last, told_last}
 use Rattle.worker_agent.specs.declared.worked.Worked.{Worked}
 use Rattle.worker_agent.specs.declared.worked.WorkFault.{WorkFault}
-use Rattle.worker_agent.specs.declared.worked.WorkFault.TheVariants.{Memory}
 
 -- where a test is to be run, the lease of the run is held
 abbrev pub Holds : Option Action → Option LeaseAnswer → Type 0
@@ -38,11 +30,10 @@ abbrev pub IsOther : Event → Type 0
 IsOther (Leased run) = ⊥
 IsOther event = ⊤
 
--- a lease comes where one was asked for
-abbrev pub Fits : Option Action → Came → Type 0
-Fits (Some (AskLease key)) (came.Lease lease) = ⊤
-Fits last (came.Lease lease) = ⊥
-Fits last (came.Event event) = IsOther event
+-- a lease is asked for
+abbrev pub AsksLease : Option Action → Type 0
+AsksLease (Some (AskLease key)) = ⊤
+AsksLease last = ⊥
 
 -- something is left to do
 abbrev pub IsActive : Option Action → Type 0
@@ -54,18 +45,6 @@ abbrev pub IsTest : Option Action → Type 0
 IsTest (Some (RunTest run)) = ⊤
 IsTest last = ⊥
 
--- what the sending of a request says, whose answers are read so
-abbrev pub Sends : (request : List ℕ) → (Exchanged → Result Came WorkFault) → (before after : Option (List NetworkEvent)) →
-    Result Sent WorkFault → Type 0
-Sends request reads before after (Ok sent) =
-    (x : Exchange) × (answer : Exchanged) × (after ≡ tell_all (exchange_events x) before) × AnsweredBy request x (Ok answer)
-    × (reads answer ≡ Ok sent.came) × (sent.faulted ≡ is_failed answer)
-Sends request reads before after (Err Memory) =
-    (after ≡ before) ⊎ ((x : Exchange) × (after ≡ tell_all (exchange_events x) before) × IsPut request x)
-Sends request reads before after (Err fault) =
-    (x : Exchange) × (answer : Exchanged) × (after ≡ tell_all (exchange_events x) before) × AnsweredBy request x (Ok answer)
-    × (reads answer ≡ Err fault)
-
 -- the runner ran the test of the lease that is held, and answered so
 abbrev pub AsksRunner : Option Action → Option LeaseAnswer → (before after : Option (List Asked)) → Ran → Type 0
 AsksRunner last lease before after answer =
@@ -76,7 +55,7 @@ AsksRunner last lease before after answer =
 abbrev pub StepSays : {A : Type 0} → (worker : List ℕ) → (agent now : AgentState) → (before after : Told) → Result A WorkFault →
     Type 0
 StepSays worker agent now before after (Ok done) =
-    (step : Step) × (came : Came) × IsStep worker agent step came now × (after ≡ told_step step before)
+    (step : Step) × (event : Event) × IsStep worker agent step event now × (after ≡ told_step step before)
 StepSays worker agent now before after (Err fault) =
     (last : Last) × IsEndedBy worker agent last fault × (after ≡ told_last last before)
 

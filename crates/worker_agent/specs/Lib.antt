@@ -1,4 +1,4 @@
-pub mod Came
+pub mod Replies
 pub mod Steps
 pub mod Told
 pub mod Work

@@ -19,7 +19,7 @@ told_exchange x told = record told { network = tell_all (exchange_events x) told
 -- one step more
 abbrev pub told_step : Step → Told → Told
 told_step (drew key) told = record told { keys = add_told key told.keys }
-told_step (sent x answer) told = told_exchange x told
+told_step (sent t) told = told_exchange t.exchange told
 told_step (ran asked) told = record told { runner = add_told asked told.runner }
 
 -- several steps more

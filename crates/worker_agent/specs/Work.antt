@@ -1,7 +1,6 @@
 -- What the work of a worker comes to.
-use Rattle.std.specs.Prelude.{◌≡◌, ◌⊎◌, ℕ, Bool, true, false, List, ◌∷◌, map, Option, Some, Result, Ok, Err, ⊤}
-use Rattle.http_exchange.specs.Exchanges.{Exchange, talked, unconnected}
-use Rattle.list_prefix.specs.Prefix.{IsPrefix}
+use Rattle.std.specs.Prelude.{◌≡◌, ◌⊎◌, ℕ, Bool, true, false, List, ◌∷◌, Option, Some, Result, Ok, Err, ⊤}
+use Rattle.http_exchange.specs.Exchanges.{Exchange, IsPut}
 use Rattle.worker_core.specs.Leases.{leases_taken}
 use Rattle.worker_core.specs.Reports.{reports_noted}
 use Rattle.worker_core.specs.Steps.{core_start}
@@ -11,10 +10,8 @@ use Rattle.worker_core.specs.declared.action.End.TheVariants as end
 use Rattle.worker_core.specs.declared.event.Event.{Event}
 use Rattle.worker_core.specs.declared.event.Event.TheVariants.{Begin}
 use Rattle.worker_wire.specs.Requests.{lease_request, report_request}
-use Rattle.worker_agent.specs.Came.{event_of}
-use Rattle.worker_agent.specs.Steps.{AgentState, AreSteps, Does, Step, agent_start, came_of}
+use Rattle.worker_agent.specs.Steps.{AgentState, AreSteps, Does, Step, agent_start, event_of}
 use Rattle.worker_agent.specs.Told.{Told, told_exchange, told_step, told_steps}
-use Rattle.worker_agent.specs.declared.came.Came.{Came}
 use Rattle.worker_agent.specs.declared.worked.Worked.{Worked}
 use Rattle.worker_agent.specs.declared.worked.WorkFault.{WorkFault}
 use Rattle.worker_agent.specs.declared.worked.WorkFault.TheVariants.{Memory, NetFault, Peer}
@@ -32,10 +29,6 @@ told_last (ended_by step) told = told_step step told
 told_last (cut_off x) told = told_exchange x told
 
 -- the request of an action was put, or a prefix of it
-abbrev pub IsPut : (request : List ℕ) → Exchange → Type 0
-IsPut request unconnected = ⊤
-IsPut request (talked t) = IsPrefix t.put request
-
 abbrev pub Tries : (worker : List ℕ) → Option Action → Exchange → Type 0
 Tries worker (Some (AskLease key)) x = IsPut (lease_request key worker) x
 Tries worker (Some (SendReport run verdict)) x = IsPut (report_request run verdict) x
@@ -48,7 +41,7 @@ IsEndedBy worker agent nothing Memory = ⊤
 IsEndedBy worker agent (cut_off x) Memory = Tries worker agent.core.last x
 IsEndedBy worker agent (ended_by step) Memory = ⊥
 IsEndedBy worker agent (ended_by step) fault =
-    Does worker agent.core.last agent.lease step × (came_of agent.core.last step ≡ Err fault)
+    Does worker agent.core.last agent.lease step × (event_of agent.core.last step ≡ Err fault)
 IsEndedBy worker agent last fault = ⊥
 
 -- a worker that gave up a request is answered by a fault of the network where the last try met one, else by the status
@@ -59,31 +52,31 @@ GivesUp agent NetFault =
 GivesUp agent (Peer status) = (agent.core.last ≡ Some (Stop (end.Peer status))) × (agent.faulted ≡ false)
 GivesUp agent fault = ⊥
 
--- the events that a worker was told
-abbrev pub events_of : List Came → List Event
-events_of cames = Begin ∷ map event_of cames
+-- the events that a worker was told: that it begins, and what came of its steps
+abbrev pub events_of : List Event → List Event
+events_of events = Begin ∷ events
 
 -- why a worker is done
 abbrev pub IsDone : Option Action → (idle : Bool) → Type 0
 IsDone last true = last ≡ Some (Stop end.Idle)
 IsDone last false = last ≡ Some (Stop end.Limit)
 
--- how the work ends after steps of which these came
-abbrev pub Ends : (worker : List ℕ) → (runs : ℕ) → List Came → AgentState → Last → Result Worked WorkFault → Type 0
-Ends worker runs cames agent nothing (Ok worked) =
+-- how the work ends after steps of which this came
+abbrev pub Ends : (worker : List ℕ) → (runs : ℕ) → List Event → AgentState → Last → Result Worked WorkFault → Type 0
+Ends worker runs events agent nothing (Ok worked) =
     IsDone agent.core.last worked.idle
-    × (worked.leased ≡ leases_taken (core_start runs) (events_of cames))
-    × (worked.reported ≡ reports_noted (core_start runs) (events_of cames))
-Ends worker runs cames agent last (Ok worked) = ⊥
-Ends worker runs cames agent last (Err fault) = IsEndedBy worker agent last fault ⊎ ((last ≡ nothing) × GivesUp agent fault)
+    × (worked.leased ≡ leases_taken (core_start runs) (events_of events))
+    × (worked.reported ≡ reports_noted (core_start runs) (events_of events))
+Ends worker runs events agent last (Ok worked) = ⊥
+Ends worker runs events agent last (Err fault) = IsEndedBy worker agent last fault ⊎ ((last ≡ nothing) × GivesUp agent fault)
 
 -- The work of a worker of this name that is to take so many leases: it begins, takes its steps one after the other,
 -- and ends. What the network, the runner and the source of keys tell of it is just that
 pub record Works (worker : List ℕ) (runs : ℕ) (before after : Told) (result : Result Worked WorkFault) : Type 0 where
   pub steps : List Step
-  pub cames : List Came
+  pub events : List Event
   pub agent : AgentState
   pub last : Last
-  pub are : AreSteps worker (agent_start runs) steps cames agent
+  pub are : AreSteps worker (agent_start runs) steps events agent
   pub tells : after ≡ told_last last (told_steps steps before)
-  pub ends : Ends worker runs cames agent last result
+  pub ends : Ends worker runs events agent last result

@@ -6,21 +6,20 @@ ghost use Rattle.link_io.specs.Telling.{add_told};
 ghost use Rattle.net_io.specs.Events.{NetworkEvent};
 ghost use Rattle.worker_core.specs.Core.{IsCore};
 ghost use Rattle.worker_io.specs.Runs.{Asked, OnRunFailed};
-ghost use Rattle.worker_agent.specs.Agent.{AsksRunner, Finishes, Fits, IsActive, IsTest, StepSays};
-ghost use Rattle.worker_agent.specs.Came.{event_of, lease_held};
+ghost use Rattle.worker_agent.specs.Agent.{AsksLease, AsksRunner, Finishes, IsActive, IsOther, IsTest, StepSays};
 ghost use Rattle.worker_agent.specs.Steps.{agent_after, agent_start};
 
-use crate::came::run_came;
-use crate::send::{send_lease, send_report};
-use crate::{Came, WorkFault, Worked};
+use crate::reply::{is_network, lease_reply, lost_status, report_event};
+use crate::{WorkFault, Worked};
 use farm_types::{Key, Name};
+use http_exchange::{Sent, send_once};
 use net_io::Network;
 use std::alloc::Global;
 use std::marker::Model;
 use weight_exact::Verdict;
 use worker_core::{Action, End, Event, WorkerCore};
 use worker_io::{KeySource, Ran, Runner};
-use worker_wire::LeaseAnswer;
+use worker_wire::{LeaseAnswer, lease_request, report_request};
 
 /// A worker that has begun: its core with the action that is to be done, the lease that it had last, and whether its
 /// last request met a fault of the network.
@@ -102,9 +101,9 @@ impl Agent {
     fn draw<Q: KeySource>(&mut self, keys: &mut Q)
         requires { self.old.core.last ≡ Some Action.Draw }
         ensures drew { (key : Key) × (Q.told keys.new ≡ add_told key (Q.told keys.old))
-            × (self.new ≡ agent_after self.old (Came.Event (Event.Drew key)) false) }
+            × (self.new ≡ agent_after self.old self.old.lease (Event.Drew key) false) }
     {
-        self.note(Came::Event(Event::Drew(keys.next())), false);
+        self.note(Event::Drew(keys.next()), false);
     }
 
     fn ask_lease<N: Network>(
@@ -122,9 +121,25 @@ impl Agent {
         ensures unfailed { IsErrOf result WorkFault.RunnerFault → ⊥ }
         ensures never_falls { N.count network.old ≤ N.count network.new }
     {
-        let sent = send_lease(alloc, network, key, worker)?;
-        self.note(sent.came, sent.faulted);
-        Ok(())
+        let request = lease_request(alloc, key, worker)?;
+        let sent = send_once(alloc, network, &request)?;
+        let faulted = is_network(&sent);
+        match sent {
+            Sent::Answered(response) => match lease_reply(alloc, &response)? {
+                Some(lease) => {
+                    self.hold(lease);
+                    Ok(())
+                }
+                None => {
+                    self.note(Event::Nothing, false);
+                    Ok(())
+                }
+            },
+            Sent::Lost(lost) => {
+                self.note(Event::Lost(lost_status(lost)), faulted);
+                Ok(())
+            }
+        }
     }
 
     fn report<N: Network>(
@@ -142,8 +157,10 @@ impl Agent {
         ensures unfailed { IsErrOf result WorkFault.RunnerFault → ⊥ }
         ensures never_falls { N.count network.old ≤ N.count network.new }
     {
-        let sent = send_report(alloc, network, run, verdict)?;
-        self.note(sent.came, sent.faulted);
+        let request = report_request(alloc, run, verdict)?;
+        let sent = send_once(alloc, network, &request)?;
+        let event = report_event(&sent)?;
+        self.note(event, is_network(&sent));
         Ok(())
     }
 
@@ -156,10 +173,13 @@ impl Agent {
         ensures failed { IsErrOf result WorkFault.RunnerFault → Rose (R.count runner.old) (R.count runner.new) }
         ensures never_falls { R.count runner.old ≤ R.count runner.new }
     {
-        let ran = self.ask_runner(runner);
-        let came = run_came(ran)?;
-        self.note(came, false);
-        Ok(())
+        match self.ask_runner(runner) {
+            Ran::Verdict(verdict) => {
+                self.note(Event::Ran(verdict), false);
+                Ok(())
+            }
+            Ran::Failed => Err(WorkFault::RunnerFault),
+        }
     }
 
     /// Has the test of its lease run.
@@ -175,30 +195,24 @@ impl Agent {
         }
     }
 
-    /// Goes on by what came of the action.
-    fn note(&mut self, came: Came, faulted: bool)
-        requires { Fits self.old.core.last came }
-        ensures { self.new ≡ agent_after self.old came faulted }
+    /// Goes on by what came of the action, which brings no lease.
+    fn note(&mut self, event: Event, faulted: bool)
+        requires { IsOther event }
+        ensures { self.new ≡ agent_after self.old self.old.lease event faulted }
     {
-        let event = self.hold(came);
         self.action = self.core.step(event);
         self.faulted = faulted;
     }
 
-    /// Keeps the lease that came, if one did. Answers what the core is told.
-    fn hold(&mut self, came: Came) -> Event
-        requires { Fits self.old.core.last came }
-        ensures event { result ≡ event_of came }
-        ensures held { self.new ≡ record self.old { lease = lease_held came self.old.lease } }
+    /// Keeps the lease that was asked for, and goes on by it.
+    fn hold(&mut self, lease: LeaseAnswer)
+        requires { AsksLease self.old.core.last }
+        ensures { self.new ≡ agent_after self.old (Some lease) (Event.Leased lease.run) false }
     {
-        match came {
-            Came::Lease(lease) => {
-                let run = lease.run;
-                self.lease = Some(lease);
-                Event::Leased(run)
-            }
-            Came::Event(event) => event,
-        }
+        let run = lease.run;
+        self.lease = Some(lease);
+        self.action = self.core.step(Event::Leased(run));
+        self.faulted = false;
     }
 
     /// What a worker that has stopped so answers, which was to take so many leases.

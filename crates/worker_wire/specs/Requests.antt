@@ -1,5 +1,5 @@
 -- The requests of a worker, in the bytes of HTTP (RFC 9112).
-use Rattle.std.specs.Prelude.{ℕ, List, [], ◌∷◌, ◌++◌, length, codes, decimal}
+use Rattle.std.specs.Prelude.{ℕ, List, [], ◌∷◌, ◌++◌, codes, decimal}
 use Rattle.std.specs.Int.{to_be_bytes, w128}
 use Rattle.uuid.specs.Text.{hyphenated_text, lower}
 use Rattle.serde_json.specs.Data.{Data, string}
@@ -7,25 +7,8 @@ use Rattle.serde_json.specs.Written.{compact_text}
 use Rattle.farm_types.specs.declared.key.Key.{Key}
 use Rattle.farm_wire.specs.Members.{object_with}
 use Rattle.farm_wire.specs.Replies.{verdict_word}
+use Rattle.http_exchange.specs.Requests.{post_request}
 use Rattle.weight_exact.specs.declared.run.Verdict.{Verdict}
-
--- a text and its line end
-abbrev pub line : List ℕ → List ℕ
-line text = text ++ 13 ∷ 10 ∷ []
-
--- what stands before the path of a request, between that and the length of its body, and between that and the body
-unfoldable pub request_method : List ℕ
-request_method = codes "POST "
-
-unfoldable pub request_lines : List ℕ
-request_lines = line (codes " HTTP/1.1") ++ line (codes "Host: farm") ++ codes "Content-Length: "
-
-unfoldable pub request_end : List ℕ
-request_end = line [] ++ line (codes "Connection: close") ++ line []
-
--- a request that sends a body to a path, on a connection that closes then
-abbrev pub request_bytes : (path body : List ℕ) → List ℕ
-request_bytes path body = request_method ++ path ++ request_lines ++ decimal (length body) ++ request_end ++ body
 
 -- a key as it is sent: a UUID in its hyphenated form, in lower case
 abbrev pub key_text : Key → List ℕ
@@ -39,7 +22,7 @@ lease_data key worker = object_with ((codes "key", string key) ∷ (codes "worke
 
 -- the request for a run, under a key, by the worker of this name
 abbrev pub lease_request : Key → (worker : List ℕ) → List ℕ
-lease_request key worker = request_bytes lease_path (compact_text (lease_data (key_text key) worker))
+lease_request key worker = post_request lease_path (compact_text (lease_data (key_text key) worker))
 
 unfoldable pub runs_path : List ℕ
 runs_path = codes "/v1/runs/"
@@ -52,4 +35,4 @@ report_data verdict = object_with ((codes "verdict", string (verdict_word verdic
 
 -- the request that reports the verdict of a run
 abbrev pub report_request : (run : ℕ) → Verdict → List ℕ
-report_request run verdict = request_bytes (runs_path ++ decimal run ++ report_end) (compact_text (report_data verdict))
+report_request run verdict = post_request (runs_path ++ decimal run ++ report_end) (compact_text (report_data verdict))

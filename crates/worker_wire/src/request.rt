@@ -2,11 +2,12 @@
 
 ghost use Rattle.std.specs.Prelude.{◌≡◌, ◌++◌, IfOk, decimal, string_bytes};
 ghost use Rattle.serde_json.specs.Written.{compact_text};
-ghost use Rattle.worker_wire.specs.Requests.{lease_data, lease_path, lease_request, report_data, report_end, report_request, request_bytes, runs_path};
+ghost use Rattle.worker_wire.specs.Requests.{lease_data, lease_path, lease_request, report_data, report_end, report_request, runs_path};
 
 use crate::body::{lease_body, report_body};
 use crate::lines;
 use farm_types::{Key, Memory, Name};
+use http_exchange::post_request;
 use itoa::Buffer;
 use std::alloc::Global;
 use weight_exact::Verdict;
@@ -16,7 +17,7 @@ pub fn lease_request(alloc: Global, key: Key, worker: &Name) -> Result<Vec<u8>, 
     ensures { IfOk result (λ bytes. bytes.items ≡ lease_request key worker.now) }
 {
     let body = lease_body(alloc, key, worker)?;
-    request(alloc, lines::lease_path(), body.as_bytes())
+    post_request(alloc, lines::lease_path(), body.as_bytes())
 }
 
 /// The request that reports the verdict of a run.
@@ -25,7 +26,7 @@ pub fn report_request(alloc: Global, run: u32, verdict: Verdict) -> Result<Vec<u
 {
     let path = report_path(alloc, run)?;
     let body = report_body(alloc, verdict)?;
-    request(alloc, &path, body.as_bytes())
+    post_request(alloc, &path, body.as_bytes())
 }
 
 fn report_path(alloc: Global, run: u32) -> Result<Vec<u8>, Memory>
@@ -38,19 +39,4 @@ fn report_path(alloc: Global, run: u32) -> Result<Vec<u8>, Memory>
     path.extend_from_slice(number)?;
     path.extend_from_slice(lines::report_end())?;
     Ok(path)
-}
-
-fn request(alloc: Global, path: &[u8], body: &[u8]) -> Result<Vec<u8>, Memory>
-    ensures { IfOk result (λ bytes. bytes.items ≡ request_bytes path.now body.now) }
-{
-    let mut digits = Buffer::new();
-    let size = digits.format(body.len()).as_bytes();
-    let mut bytes = Vec::new(alloc);
-    bytes.extend_from_slice(lines::request_method())?;
-    bytes.extend_from_slice(path)?;
-    bytes.extend_from_slice(lines::request_lines())?;
-    bytes.extend_from_slice(size)?;
-    bytes.extend_from_slice(lines::request_end())?;
-    bytes.extend_from_slice(body)?;
-    Ok(bytes)
 }

@@ -24,8 +24,8 @@ loop-place-preserved g c =
     record {
       within = omega arith;
       gathered =
-          alike-step c.args.requests.now c.loop-place.place (said c.args.says.now) start mid _ last c.loop-place-test.true
-          c.loop-place.invariant.gathered c.in_ok-put_behind.ensures.says;
+          alike-step c.args.requests.now c.loop-place.place (said c.args.says.now) start mid _ last
+          c.loop-place-test.true c.loop-place.invariant.gathered c.in_ok-put_behind.ensures.says;
       aside = c.in_ok-put_behind.ensures.aside ∙ c.loop-place.invariant.aside;
       never_falls = omega (arith, c.in_ok-put_behind.ensures.never_falls, c.loop-place.invariant.never_falls);
     }

@@ -8,7 +8,8 @@ abbrev pub invariant-loop-place : goal.invariant-loop-place
 invariant-loop-place g l = record {
   within : l.place ≤ length l.requests;
   gathered : IsGathered (requests_bytes (take l.place l.requests) (alike (said l.says) (take l.place l.requests)))
-      (record { sent = g.K.Sink.written l.fn.link; held = [] }) (record { sent = g.K.Sink.written l.link; held = l.out });
+      (record { sent = g.K.Sink.written l.fn.link; held = [] })
+      (record { sent = g.K.Sink.written l.link; held = l.out });
   aside : g.K.Sink.aside l.link ≡ g.K.Sink.aside l.fn.link;
   never_falls : g.K.Sink.count l.fn.link ≤ g.K.Sink.count l.link;
 }

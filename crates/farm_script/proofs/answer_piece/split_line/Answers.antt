@@ -7,13 +7,16 @@ use Rattle.farm_script.proofs.answer_piece.split_line.Goals as goal
 pub returns-in-Some-clause-ended : goal.returns-in-Some-clause-ended
 returns-in-Some-clause-ended c line =
     let found = c.in-Some.ensures in
-    ended_after-at line c.args.bytes.now c.in-Some.end found.0.high (eqb-true _ _ found.1) (λ k below e. found.0.before k (omega arith) below (eq-eqb _ _ e))
-    ∙ ap (λ rest. (line ++ take c.in-Some.end c.args.bytes.now) ∷ ended_after [] rest) (sym (after_feed c.args.bytes.now c.in-Some.end))
+    ended_after-at line c.args.bytes.now c.in-Some.end found.0.high (eqb-true _ _ found.1)
+    (λ k below e. found.0.before k (omega arith) below (eq-eqb _ _ e))
+    ∙ ap (λ rest. (line ++ take c.in-Some.end c.args.bytes.now) ∷ ended_after [] rest)
+    (sym (after_feed c.args.bytes.now c.in-Some.end))
 
 pub returns-in-Some-clause-rest : goal.returns-in-Some-clause-rest
 returns-in-Some-clause-rest c line =
     let found = c.in-Some.ensures in
-    rest_after-at line c.args.bytes.now c.in-Some.end found.0.high (eqb-true _ _ found.1) (λ k below e. found.0.before k (omega arith) below (eq-eqb _ _ e))
+    rest_after-at line c.args.bytes.now c.in-Some.end found.0.high (eqb-true _ _ found.1)
+    (λ k below e. found.0.before k (omega arith) below (eq-eqb _ _ e))
     ∙ ap (λ rest. rest_after [] rest) (sym (after_feed c.args.bytes.now c.in-Some.end))
 
 pub returns-in-None-clause-ended : goal.returns-in-None-clause-ended

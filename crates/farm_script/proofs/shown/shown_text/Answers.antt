@@ -14,7 +14,8 @@ loop-before-preserved g c =
     let k = c.loop-before.before in
     let line = shown_line (reply.Farm (totals H)) in
     let more = shown_opening H (opening_numbered H (k + 1)) in
-    let below : k < length (openings H) = omega (arith, c.loop-before-test.true, c.searches_count-count.ensures.count) in
+    let below : k < length (openings H) =
+    omega (arith, c.loop-before-test.true, c.searches_count-count.ensures.count) in
     record {
       kept = c.push_search.ensures.kept ∙ c.loop-before.invariant.kept;
       text = c.in_ok-push_search.ensures.text

@@ -4,7 +4,7 @@ use Rattle.std.specs.Prelude.{IfErr, Result}
 use Rattle.std.proofs.lemmas.Result.{err_from_is_err_and}
 use Rattle.farm_core.specs.FarmView.{FarmView}
 use Rattle.farm_store.specs.Admitted.{IsMisfit}
-use Rattle.farm_store.specs.declared.admitting.Misfit.{Misfit}
+use Rattle.farm_core.specs.declared.farm.AdmitFault.{AdmitFault}
 use Rattle.farm_store.proofs.GoingOn.{begun-whole, empty-by, misfit-empty, misfit-first, misfit-rest, removed-first, some-by}
 use Rattle.farm_store.proofs.admitting.begin.Goals as goal
 
@@ -24,13 +24,13 @@ returns-in_err-farm-clause-misfit c =
     let m = c.in_err-farm.field-0.0 in
     let which = p.2 in
     let same : m ≡ p.0 = cc in
-    subst (λ (r : Result FarmView Misfit). IfErr r (IsMisfit c.args.payload.now [])) (sym p.1)
-    (subst (λ (y : Misfit). IsMisfit c.args.payload.now [] y) same
-    (misfit-first c.args.payload.now entries c.remove.new.self.items c.remove.result m
+    subst (λ (r : Result FarmView AdmitFault). IfErr r (IsMisfit c.args.payload.now [])) (sym p.1)
+    (subst (λ (y : AdmitFault). IsMisfit c.args.payload.now [] y) same
+    (misfit-first c.args.payload.now entries c.remove-first.new.self.items c.remove-first.result m
     c.in_ok-entries.ensures.spelled c.in_ok-entries.ensures.is
-    (removed-first entries c.remove.result some c.remove.ensures.value
-    ∙ ap (λ l. c.remove.result ∷ l) (sym c.remove.ensures.items))
-    c.in_err-farm.ensures.misfit))
+    (removed-first entries c.remove-first.result some c.remove-first.ensures.value
+    ∙ ap (λ l. c.remove-first.result ∷ l) (sym c.remove-first.ensures.items))
+    c.in_err-farm.ensures.illegal))
 
 pub returns-in_err-admit_all-clause-misfit : goal.returns-in_err-admit_all-clause-misfit
 returns-in_err-admit_all-clause-misfit c =
@@ -41,22 +41,24 @@ returns-in_err-admit_all-clause-misfit c =
     let m = c.in_err-admit_all.field-0.0 in
     let which = p.2 in
     let same : m ≡ p.0 = cc in
-    subst (λ (r : Result FarmView Misfit). IfErr r (IsMisfit c.args.payload.now [])) (sym p.1)
-    (subst (λ (y : Misfit). IsMisfit c.args.payload.now [] y) same
-    (misfit-rest c.args.payload.now entries c.remove.new.self.items c.in_ok-farm.farm.history c.remove.result m
+    subst (λ (r : Result FarmView AdmitFault). IfErr r (IsMisfit c.args.payload.now [])) (sym p.1)
+    (subst (λ (y : AdmitFault). IsMisfit c.args.payload.now [] y) same
+    (misfit-rest c.args.payload.now entries c.remove-first.new.self.items c.in_ok-farm.farm.history
+    c.admit_all.new.self.history c.remove-first.result m
     c.in_ok-entries.ensures.spelled c.in_ok-entries.ensures.is
-    (removed-first entries c.remove.result some c.remove.ensures.value
-    ∙ ap (λ l. c.remove.result ∷ l) (sym c.remove.ensures.items))
-    c.in_ok-farm.ensures.founded c.in_err-admit_all.ensures.misfit))
+    (removed-first entries c.remove-first.result some c.remove-first.ensures.value
+    ∙ ap (λ l. c.remove-first.result ∷ l) (sym c.remove-first.ensures.items))
+    (ap (λ (f : FarmView). f.history) c.in_ok-farm.ensures.founded) c.in_err-admit_all.ensures.halted))
 
 pub returns-clause-farm : goal.returns-clause-farm
 returns-clause-farm c =
     let entries = c.in_ok-entries.entries.items in
     let some : 0 < length entries = some-by entries c.in_ok-entries.entries.len c.is_empty.result
     c.in_ok-entries.entries.ok.0 c.is_empty.ensures c.if-is_empty.false in
-    begun-whole c.args.payload.now entries c.remove.new.self.items c.in_ok-farm.farm.history
-    c.admit_all.new.farm.history c.remove.result
+    begun-whole c.args.payload.now entries c.remove-first.new.self.items c.in_ok-farm.farm.history
+    c.admit_all.new.self.history c.remove-first.result
     c.in_ok-entries.ensures.spelled c.in_ok-entries.ensures.is
-    (removed-first entries c.remove.result some c.remove.ensures.value
-    ∙ ap (λ l. c.remove.result ∷ l) (sym c.remove.ensures.items))
-    c.in_ok-farm.ensures.founded c.in_ok-admit_all.ensures.admitted c.in_ok-admit_all.ensures.legal
+    (removed-first entries c.remove-first.result some c.remove-first.ensures.value
+    ∙ ap (λ l. c.remove-first.result ∷ l) (sym c.remove-first.ensures.items))
+    (ap (λ (f : FarmView). f.history) c.in_ok-farm.ensures.founded)
+    c.in_ok-admit_all.ensures.admitted c.in_ok-admit_all.ensures.legal

@@ -4,8 +4,8 @@ use Rattle.std.proofs.lemmas.List.Elements.{All-head}
 use Rattle.farm_journal.specs.Layout.{IsPayload}
 use Rattle.farm_store.specs.Admitted.{GoesOn, IsMisfit}
 use Rattle.farm_store.specs.Damage.{IsUnfitAt}
-use Rattle.farm_store.specs.declared.admitting.Misfit.{Misfit}
-use Rattle.farm_store.specs.declared.admitting.Misfit.TheVariants.{Unfit}
+use Rattle.farm_core.specs.declared.farm.AdmitFault.{AdmitFault}
+use Rattle.farm_core.specs.declared.farm.AdmitFault.TheVariants.{Illegal}
 use Rattle.farm_store.proofs.GoingOn.{first-gate, if-grown, if-missed, keeps-begun, unfit-first}
 use Rattle.farm_store.proofs.admitting.farm_of.Goals as goal
 
@@ -40,11 +40,11 @@ returns-in-Ok-clause-missed c =
     (c.grow.ensures.missed (p ∷ []) (keeps-begun p K fit on)
     (ap (λ (l : List ℕ). 21 + length l) c.bytes-in-Ok.ensures ∙ first-gate p))
 
-pub returns-in-Err-Unfit-clause-missed : goal.returns-in-Err-Unfit-clause-missed
-returns-in-Err-Unfit-clause-missed c =
+pub returns-in-Err-Illegal-clause-missed : goal.returns-in-Err-Illegal-clause-missed
+returns-in-Err-Illegal-clause-missed c =
     let p = c.in-Some.first.now in
-    let misfit = subst (λ (m : Misfit). IsMisfit c.bytes.result.now [] m) c.in-Err-Unfit.field-0-is
-    c.in-Err-Unfit.ensures.misfit in
+    let misfit = subst (λ (m : AdmitFault). IsMisfit c.bytes.result.now [] m) c.in-Err-Illegal.field-0-is
+    c.in-Err-Illegal.ensures.misfit in
     inr (subst (λ (l : List (List ℕ)). IsUnfitAt l 16) (sym c.in-Some.ensures.cases.0)
     (unfit-first p c.in-Some.others.now 16 refl
-    (subst (λ (l : List ℕ). IsMisfit l [] Unfit) c.bytes.ensures misfit)))
+    (subst (λ (l : List ℕ). IsMisfit l [] Illegal) c.bytes.ensures misfit)))

@@ -3,8 +3,8 @@ use Rattle.std.proofs.Common.{◌≡◌, ◌+◌, ◌≤◌, ◌++◌, inr, ℕ,
 use Rattle.std.proofs.lemmas.List.Elements.{All-get_or}
 use Rattle.farm_journal.specs.Layout.{IsPayload}
 use Rattle.farm_store.specs.Admitted.{GoesOn, IsMisfit}
-use Rattle.farm_store.specs.declared.admitting.Misfit.{Misfit}
-use Rattle.farm_store.specs.declared.admitting.Misfit.TheVariants.{Unfit}
+use Rattle.farm_core.specs.declared.farm.AdmitFault.{AdmitFault}
+use Rattle.farm_core.specs.declared.farm.AdmitFault.TheVariants.{Illegal}
 use Rattle.farm_store.proofs.GoingOn.{gate-small, grown-all, grown-more, grown-unfit}
 use Rattle.farm_store.proofs.admitting.grow.Goals as goal
 
@@ -24,15 +24,15 @@ overflow_add-gate-in-Ok c =
     let size : length c.bytes-in-Ok.result.now ≡ length p = ap length c.bytes-in-Ok.ensures in
     omega (arith, small, most, size)
 
-pub returns-in-Err-Unfit-clause-missed : goal.returns-in-Err-Unfit-clause-missed
-returns-in-Err-Unfit-clause-missed c = λ before keeps at.
+pub returns-in-Err-Illegal-clause-missed : goal.returns-in-Err-Illegal-clause-missed
+returns-in-Err-Illegal-clause-missed c = λ before keeps at.
     let H = c.loop-payload.farm.history in
-    let misfit = subst (λ (m : Misfit). IsMisfit c.bytes.result.now H m) c.in-Err-Unfit.field-0-is
-    c.in-Err-Unfit.ensures.misfit in
+    let misfit = subst (λ (m : AdmitFault). IsMisfit c.bytes.result.now H m) c.in-Err-Illegal.field-0-is
+    c.in-Err-Illegal.ensures.misfit in
     inr (grown-unfit before c.args.payloads.now c.loop-payload.payload-index H c.loop-payload.gate
     c.payload-item.result (c.loop-payload.invariant before keeps at) c.loop-payload-test.true c.payload-item.is
     c.loop-payload.gate refl
-    (subst (λ (l : List ℕ). IsMisfit l H Unfit) c.bytes.ensures misfit))
+    (subst (λ (l : List ℕ). IsMisfit l H Illegal) c.bytes.ensures misfit))
 
 pub loop-payload-preserved : goal.loop-payload-preserved
 loop-payload-preserved c = λ before keeps at.

@@ -6,7 +6,7 @@ use Rattle.std.specs.Prelude.{Ok, Err}
 use Rattle.entry_codec.specs.Grammar.{IsWithinLimits}
 use Rattle.farm_entry.specs.declared.entry.Entry.{Entry}
 use Rattle.farm_store.specs.Recorded.{Wrote}
-use Rattle.farm_store.proofs.Ahead.{back-start, kept-missed, kept-stored, leaves-missed, leaves-stored, opened, within, wrote-of_store}
+use Rattle.farm_store.proofs.Ahead.{back-start, kept-missed, kept-stored, leaves-missed, leaves-stored, opened, within}
 use Rattle.farm_store.proofs.recording.record_from.Goals as goal
 
 pub write_new-requires-clause-open : goal.write_new-requires-clause-open
@@ -69,11 +69,6 @@ returns-in-Err-clause-any_moment g c =
     c.write_new.new.journal c.in-Err.fault
     (subst (λ (l : List Entry). Wrote g.D.Disk.tells g.D.Disk.told l (Err c.in-Err.fault) c.args.journal.now
     c.write_new.new.journal) same c.in-Err.ensures.wrote)
-
-pub returns-in-Err-clause-of_the_store : goal.returns-in-Err-clause-of_the_store
-returns-in-Err-clause-of_the_store g c =
-    wrote-of_store g.D.Disk.tells g.D.Disk.told _ c.args.journal.now c.write_new.new.journal c.in-Err.fault
-    c.in-Err.ensures.wrote
 
 pub returns-in-Ok-clause-new_version : goal.returns-in-Ok-clause-new_version
 returns-in-Ok-clause-new_version g c some t =

@@ -9,8 +9,7 @@ pub returns-in-Err-clause-ends : goal.returns-in-Err-clause-ends
 returns-in-Err-clause-ends g c =
     let found = c.in-Err.ensures in (
       c.now-at.result,
-      c.now-at.ensures.shown,
-      c.now-at.ensures.told,
+      (c.now-at.ensures.shown, c.now-at.ensures.told),
       inl (c.in-Err.fault, c.status_of_creating.ensures, record { untouched = refl; cause = found.answers }),
       record { born = found.born; since_sync = found.since_sync; any_moment = found.any_moment },
     )
@@ -19,13 +18,12 @@ pub returns-in-Ok-clause-ends : goal.returns-in-Ok-clause-ends
 returns-in-Ok-clause-ends g c =
     let found = c.in-Ok.ensures in
     let both = founded-ends g.D.Disk c.args.settings c.now-at.result c.put_text-status.result
-    (output_seen g.K.Sink c.args.output.now) (output_seen g.K.Sink c.put_text-status.new.output) c.args.disk c.in-Ok.store
-    c.into_disk.result c.into_disk.ensures.disk found.answers found.stored
+    (output_seen g.K.Sink c.args.output.now) (output_seen g.K.Sink c.put_text-status.new.output) c.args.disk
+    c.in-Ok.store c.into_disk.result c.into_disk.ensures.disk found.answers found.stored
     (record { born = found.born; since_sync = found.since_sync; any_moment = found.any_moment })
     c.put_text-status.ensures in (
       c.now-at.result,
-      c.now-at.ensures.shown,
-      c.now-at.ensures.told,
+      (c.now-at.ensures.shown, c.now-at.ensures.told),
       both.0,
       both.1,
     )

@@ -12,7 +12,8 @@ returns-in_err-bytes-clause-ends g c =
     let after = streams g.S.Source g.K.Sink c.read_input.new.input c.args.output.now in
     let fault = c.in_err-bytes.field-0.0 in
     let fails = c.in_err-bytes.ensures in
-    carried (λ s. JudgeEnds s before after) _ (status_of_input fault) c.from_residual.ensures.1 (unread before after fault (record {
+    carried (λ s. JudgeEnds s before after) _ (status_of_input fault) c.from_residual.ensures.1
+    (unread before after fault (record {
       at_limit = λ is. fails.at_limit (ap (λ f. Err f) is);
       rises = λ is. fails.rises (ap (λ f. Err f) is);
     }) refl)
@@ -23,7 +24,8 @@ returns-in_err-answer-clause-ends g c =
     let after = streams g.S.Source g.K.Sink c.read_input.new.input c.args.output.now in
     let fault = c.in_err-answer.field-0.0 in
     let w = c.in_ok-bytes.ensures.whole in
-    carried (λ s. JudgeEnds s before after) _ (status_of_judge fault) c.from_residual-in_err-answer.ensures.1 (unjudged before after c.in_ok-bytes.bytes.items fault w
+    carried (λ s. JudgeEnds s before after) _ (status_of_judge fault) c.from_residual-in_err-answer.ensures.1
+    (unjudged before after c.in_ok-bytes.bytes.items fault w
     (λ line is. ap judged (sym c.deref.ensures.value) ∙ c.in_err-answer.ensures.bad_input line (ap (λ f. Err f) is))
     refl)
 
@@ -33,7 +35,8 @@ returns-in_err-answer-clause-completes g c =
     let after = streams g.S.Source g.K.Sink c.read_input.new.input c.args.output.now in
     let fault = c.in_err-answer.field-0.0 in
     let w = c.in_ok-bytes.ensures.whole in
-    carried (λ s. JudgeCompletes s before after) _ (status_of_judge fault) c.from_residual-in_err-answer.ensures.1 (unjudged_completes before after c.in_ok-bytes.bytes.items fault w
+    carried (λ s. JudgeCompletes s before after) _ (status_of_judge fault) c.from_residual-in_err-answer.ensures.1
+    (unjudged_completes before after c.in_ok-bytes.bytes.items fault w
     (λ line is. ap judged (sym c.deref.ensures.value) ∙ c.in_err-answer.ensures.bad_input line (ap (λ f. Err f) is)))
 
 pub returns-in_err-put_all-clause-ends : goal.returns-in_err-put_all-clause-ends
@@ -43,8 +46,10 @@ returns-in_err-put_all-clause-ends g c =
     let fault = c.in_err-put_all.field-0.0 in
     let w = c.in_ok-bytes.ensures.whole in
     let put = c.in_err-put_all.ensures in
-    carried (λ s. JudgeEnds s before after) _ (status_of_put fault) c.from_residual-in_err-put_all.ensures.1 (unput before after c.in_ok-bytes.bytes.items c.as_bytes.result.now fault w
-    (ap judged (sym c.deref.ensures.value) ∙ (c.in_ok-answer.ensures.answer ∙ ap (λ t. Ok t) (sym c.as_bytes.ensures.value)))
+    carried (λ s. JudgeEnds s before after) _ (status_of_put fault) c.from_residual-in_err-put_all.ensures.1
+    (unput before after c.in_ok-bytes.bytes.items c.as_bytes.result.now fault w
+    (ap judged (sym c.deref.ensures.value)
+    ∙ (c.in_ok-answer.ensures.answer ∙ ap (λ t. Ok t) (sym c.as_bytes.ensures.value)))
     (λ is. put.rises (ap (λ f. Err f) is))
     put.stopped)
 
@@ -54,7 +59,8 @@ returns-clause-ends g c =
     let after = streams g.S.Source g.K.Sink c.read_input.new.input c.put_all.new.output in
     let w = c.in_ok-bytes.ensures.whole in
     done before after c.in_ok-bytes.bytes.items c.as_bytes.result.now w
-    (ap judged (sym c.deref.ensures.value) ∙ (c.in_ok-answer.ensures.answer ∙ ap (λ t. Ok t) (sym c.as_bytes.ensures.value)))
+    (ap judged (sym c.deref.ensures.value)
+    ∙ (c.in_ok-answer.ensures.answer ∙ ap (λ t. Ok t) (sym c.as_bytes.ensures.value)))
     c.in_ok-put_all.ensures.done
 
 pub returns-clause-completes : goal.returns-clause-completes
@@ -63,4 +69,5 @@ returns-clause-completes g c =
     let after = streams g.S.Source g.K.Sink c.read_input.new.input c.put_all.new.output in
     let w = c.in_ok-bytes.ensures.whole in
     done_completes before after c.in_ok-bytes.bytes.items c.as_bytes.result.now w
-    (ap judged (sym c.deref.ensures.value) ∙ (c.in_ok-answer.ensures.answer ∙ ap (λ t. Ok t) (sym c.as_bytes.ensures.value)))
+    (ap judged (sym c.deref.ensures.value)
+    ∙ (c.in_ok-answer.ensures.answer ∙ ap (λ t. Ok t) (sym c.as_bytes.ensures.value)))

@@ -14,4 +14,5 @@ returns-clause-ends g c = (
 )
 
 pub returns-clause-completes : goal.returns-clause-completes
-returns-clause-completes g c = (c.run_founded-end.result, c.status_of_script.ensures, c.run_founded-end.ensures.completes)
+returns-clause-completes g c =
+    (c.run_founded-end.result, c.status_of_script.ensures, c.run_founded-end.ensures.completes)

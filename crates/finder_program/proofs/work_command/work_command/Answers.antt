@@ -22,8 +22,10 @@ returns-in-Err-clause-ends g c = record {
   result = Err c.in-Err.fault;
   works = c.in-Err.ensures.works;
   says = (c.from.ensures, refl);
-  net_fault = λ is. c.in-Err.ensures.net_fault (ap (λ f. Err f) (net-from_status c.in-Err.fault (sym c.from.ensures ∙ is)));
-  runner_fault = λ is. c.in-Err.ensures.runner_fault (ap (λ f. Err f) (runner-from_status c.in-Err.fault (sym c.from.ensures ∙ is)));
+  net_fault = λ is. c.in-Err.ensures.net_fault
+      (ap (λ f. Err f) (net-from_status c.in-Err.fault (sym c.from.ensures ∙ is)));
+  runner_fault = λ is. c.in-Err.ensures.runner_fault
+      (ap (λ f. Err f) (runner-from_status c.in-Err.fault (sym c.from.ensures ∙ is)));
 }
 
 pub returns-in-Ok-clause-completes : goal.returns-in-Ok-clause-completes

@@ -1,7 +1,6 @@
 use Rattle.std.proofs.Common.{ℕ, ◌≡◌, ◌+◌, ◌-◌, ◌∙◌, ◌++◌, List, ap, arith, length, length-append, refl, sym, take}
 use Rattle.std.proofs.Math.Seq.{take-append_seam}
 use Rattle.std.proofs.lemmas.List.{length-take-le}
-use Rattle.http_answers.specs.Answers.{status_line}
 use Rattle.http_answers.specs.Lines.{content_type, length_name}
 use Rattle.http_answers.specs.Pieces.{opening_of}
 use Rattle.http_answers.proofs.status.status_line.Goals as goal

@@ -17,6 +17,7 @@ loop-left-init g c =
           (gone-none c.args.follower.now.held (g.N.Network.told c.args.network.now));
       few = omega arith;
       same = refl;
+      legal = c.tell.ensures.legal;
       images = λ t. leaves-start c.args.follower.now.held c.args.follower.now.disk (c.tell.ensures.kept t);
       kept = c.tell.ensures.kept;
       network = omega arith;
@@ -92,6 +93,7 @@ loop-left-preserved g c =
           c.in-On.more v.gone says);
       few = omega (arith, few);
       same = c.in_ok-went.ensures.same ∙ v.same;
+      legal = c.in_ok-went.ensures.legal;
       images = λ t. leaves-on c.args.follower.now.held c.loop-left.follower.held c.go_round.new.follower.held
           c.args.follower.now.disk c.loop-left.follower.disk c.go_round.new.follower.disk v.gone.reached
           (says-grows c.loop-left.compared c.loop-left.follower.held c.go_round.new.follower.held

@@ -1,5 +1,6 @@
-use Rattle.std.proofs.Common.{◌≡◌, ◌≤◌, ◌-◌, true}
+use Rattle.std.proofs.Common.{◌≡◌, ◌≤◌, ◌-◌, ◌++◌, true}
 use Rattle.farm_disk.specs.Images.{LeavesOnly}
+use Rattle.follow_law.specs.Page.{MayBeHeld}
 use Rattle.journal_follow.specs.Shown.{IsKept}
 use Rattle.journal_follow.proofs.Going.{HasGone, ShowsGone}
 use Rattle.journal_follow.proofs.following.follow.Given as goal
@@ -10,6 +11,7 @@ invariant-loop-left g l = record {
       l.compared (l.rounds - l.left);
   few : l.left ≤ l.rounds;
   same : l.follower.tells ≡ l.fn.follower.tells;
+  legal : MayBeHeld (l.follower.held.history ++ l.follower.held.pending);
   images : l.fn.follower.tells ≡ true → LeavesOnly l.fn.follower.disk l.follower.disk
       (ShowsGone l.fn.follower.held l.follower.held);
   kept : l.fn.follower.tells ≡ true → IsKept l.follower.held l.follower.disk;

@@ -2,12 +2,11 @@ use Rattle.std.proofs.Common.{ap, subst, sym, ◌∙◌, ◌<◌, List, length, 
 use Rattle.farm_store.specs.Answering.{BatchSays}
 use Rattle.farm_store.specs.declared.asking.Ask.{Ask}
 use Rattle.turn_lock.specs.Known.{Known}
-use Rattle.shared_farm.specs.Errands.{HadTurn}
-use Rattle.shared_farm.specs.Turns.{own_places}
+use Rattle.shared_farm.specs.Outcomes.{HadTurn}
+use Rattle.shared_farm.specs.Answered.{own_places}
 use Rattle.shared_farm.proofs.Handing.{IsTakenFirst, taken-first}
 use Rattle.shared_farm.proofs.Members.{had-turn}
-use Rattle.shared_farm.proofs.Recorded.{recorded-own}
-use Rattle.shared_farm.proofs.Turning.{IsServed, IsServing, kept-alone, says-alone, served-keeps, serving-givable, taken-whole}
+use Rattle.shared_farm.proofs.Turning.{IsServed, IsServing, says-alone, serving-givable, taken-whole}
 use Rattle.shared_farm.proofs.round.+ask_each.Goals.{After-own_places-turn, After-remove-asks}
 use Rattle.shared_farm.proofs.round.+ask_each.Goals as goal
 
@@ -24,36 +23,27 @@ first g t c =
 
 -- what the store answered
 asked : (g : _) (t : _) (c : After-own_places-turn g t) → BatchSays c.remove-asks.result.asks.items
-    c.call_batch-result.result c.deref_mut.result.now.store c.call_batch-result.new.self.store
+    c.call_batch-result.result c.deref_mut.result.now c.call_batch-result.new.self
 asked g t c =
-    subst (λ (l : List Ask). BatchSays l c.call_batch-result.result c.deref_mut.result.now.store
-    c.call_batch-result.new.self.store) c.deref-2.ensures.value c.call_batch-result.ensures.says
+    subst (λ (l : List Ask). BatchSays l c.call_batch-result.result c.deref_mut.result.now
+    c.call_batch-result.new.self) c.deref-2.ensures.value c.call_batch-result.ensures.says
 
 -- the turn of the errand's pass, when the store has answered: it went on with the store that did
 serving : (g : _) (t : _) (c : After-own_places-turn g t) → IsServing g.D.Disk.count c.remove-taken.result.pass
-    c.hand_on-turn.result.before c.deref_mut.result.now.store c.call_batch-result.new.self.store
+    c.hand_on-turn.result.before c.deref_mut.result.now c.call_batch-result.new.self
     c.own_places-turn.result
 serving g t c =
     let hand = c.hand_on-turn in
-    let said = c.call_batch-result.ensures in
     record {
       held_is = hand.ensures.before;
       places = hand.ensures.mine;
-      taken = taken-whole g.D.Disk.count c.remove-taken.result.pass hand.result.before c.args.turn.value.value.store
-          c.deref_mut.result.now.store (length c.history-shown.result.now)
-          (ap (λ l. l.store) c.deref_mut.ensures.value ∙ ap (λ b. b.value.store) hand.ensures.value)
-          (ap length (c.history-shown.ensures.value ∙ ap (λ l. l.store.history) c.deref.ensures)) hand.ensures.taken
+      taken = taken-whole g.D.Disk.count c.remove-taken.result.pass hand.result.before c.args.turn.value.value
+          c.deref_mut.result.now (length c.history-shown.result.now)
+          (c.deref_mut.ensures.value ∙ ap (λ b. b.value) hand.ensures.value)
+          (ap length (c.history-shown.ensures.value ∙ ap (λ l. l.history) c.deref.ensures)) hand.ensures.taken
           hand.ensures.settled hand.ensures.seen hand.ensures.faults;
-      answered = record {
-        legal = said.found;
-        longer = said.longer;
-        room = said.recorded;
-        recorded = recorded-own c.remove-asks.result.asks.items c.call_batch-result.result c.deref_mut.result.now.store
-            c.call_batch-result.new.self.store (asked g t c) said.longer;
-        settled = said.settled;
-        never_falls = said.never_falls;
-      };
-      own_is = c.own_places-turn.ensures ∙ ap (λ l. own_places l.store) c.deref-3.ensures;
+      answered = c.call_batch-result.ensures.goes_on;
+      own_is = c.own_places-turn.ensures ∙ ap (λ l. own_places l) c.deref-3.ensures;
     }
 
 pub ask_each-requires : goal.ask_each-requires
@@ -78,7 +68,7 @@ ask_each-requires g t c κs within =
 
 -- and when it went on or was given back
 served : (g : _) (t : _) (c : goal.After-ask_each g t) → IsServed g.D.Disk.count c.remove-taken.result.pass
-    c.ask_each.new.pass c.hand_on-turn.result.before c.deref_mut.result.now.store c.call_batch-result.new.self.store
+    c.ask_each.new.pass c.hand_on-turn.result.before c.deref_mut.result.now c.call_batch-result.new.self
     c.own_places-turn.result
 served g t c = record {
   serving = serving g t (goal.at.answer-requires-clause-says g t c).After-own_places-turn;
@@ -90,22 +80,19 @@ pub answer-requires-clause-says : goal.answer-requires-clause-says
 unfolding served
 answer-requires-clause-says g t c =
     let answer = c.call_batch-result in
-    let meant = g.D.Disk in
-    let begun = g.B.Beginning.begun in
+    let count = g.D.Disk.count in
     let key = c.args.errands.now.key in
     let asks = c.remove-asks.result.asks.items in
     let new = c.ask_each.new.pass in
+    let pass = c.remove-taken.result.pass in
     let at = goal.at.answer-requires-clause-says g t c in
     let f = first g t at.After-remove-asks in
-    let had : HadTurn meant begun key asks answer.result c.remove-taken.result.pass new =
-    had-turn meant begun key asks answer.result (served g t c) (sym c.requires.key)
-    (says-alone asks answer.result c.deref_mut.result.now.store answer.new.self.store
-    (asked g t at.After-own_places-turn))
-    answer.ensures.cause answer.ensures.legal
-    (kept-alone meant begun new (served-keeps meant begun (served g t c) answer.ensures.leaves answer.ensures.came)) in
+    let had : HadTurn count key asks answer.result pass new =
+    had-turn count key asks answer.result (served g t c) (sym c.requires.key)
+    (says-alone pass.lock asks answer.result c.deref_mut.result.now answer.new.self
+    (asked g t at.After-own_places-turn)) answer.ensures.cause in
     record {
       asks = f.first.asks;
-      had = subst (λ (l : List Ask). HadTurn meant begun key l answer.result c.remove-taken.result.taken.job.pass new)
-          f.first.asks
-          (subst (λ (k : Known). HadTurn meant begun key asks answer.result k new) f.first.pass had);
+      had = subst (λ (l : List Ask). HadTurn count key l answer.result c.remove-taken.result.taken.job.pass new)
+          f.first.asks (subst (λ (k : Known). HadTurn count key asks answer.result k new) f.first.pass had);
     }

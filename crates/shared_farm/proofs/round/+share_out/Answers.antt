@@ -9,34 +9,33 @@ use Rattle.list_prefix.proofs.Prefixes.{IsPrefix-trans}
 use Rattle.turn_lock.specs.Known.{Known, known_after}
 use Rattle.turn_lock.specs.Places.{ArePlaces}
 use Rattle.shared_farm.specs.Rounds.{IsShared}
-use Rattle.shared_farm.specs.Errands.{HadTurn}
+use Rattle.shared_farm.specs.Outcomes.{HadTurn}
 use Rattle.shared_farm.proofs.Handing.{IsTakenFirst, taken-first, whole-shown}
-use Rattle.shared_farm.proofs.Members.{IsOnward, goes-on, member-had, shared-on, take-begins}
+use Rattle.shared_farm.proofs.Members.{AreStored, IsOnward, shared-on, store_at, stored-had, stored-on, stored-onward, take-begins}
 use Rattle.shared_farm.proofs.round.+share_out.Goals.{After-remove-asks}
 use Rattle.shared_farm.proofs.round.+share_out.Goals as goal
 
 pub back-requires-clause-grown : goal.back-requires-clause-grown
 back-requires-clause-grown g t c =
-    let H = c.args.turn.value.value.store.history in
+    let H = c.args.turn.value.value.history in
     IsPrefix-trans c.args.turn.before.taken.entries (take c.args.shown H) H c.requires.grown
     (take-begins c.args.shown H)
 
 pub back-requires-clause-places : goal.back-requires-clause-places
 back-requires-clause-places g t c =
     subst (λ (l : List Entry). ArePlaces (length c.args.turn.before.taken.entries) (length l) c.args.turn.own)
-    (whole-shown c.args.lock.now c.args.errands.now g.D.Disk g.B.Beginning.begun c.args.turn.value.value.store
-    c.args.shown c.args.parts.now c.args.group.now c.is_empty.result c.requires.shared c.requires.helped
-    c.is_empty.ensures c.if-is_empty.true) c.requires.places
+    (whole-shown c.args.lock.now c.args.errands.now c.args.turn.value.value c.args.shown c.args.parts.now
+    c.args.group.now c.is_empty.result c.requires.shared c.requires.helped c.is_empty.ensures c.if-is_empty.true)
+    c.requires.places
 
 pub returns-then-is_empty-clause-pass : goal.returns-then-is_empty-clause-pass
 returns-then-is_empty-clause-pass g t c =
     let turn = c.args.turn in
-    let store = turn.value.value.store in
+    let store = turn.value.value in
     subst (λ (l : List Entry). c.back.new.pass
     ≡ known_after c.args.lock.now turn.before l turn.own (g.D.Disk.count store.disk) store.pending)
-    (sym (whole-shown c.args.lock.now c.args.errands.now g.D.Disk g.B.Beginning.begun store c.args.shown
-    c.args.parts.now c.args.group.now c.is_empty.result c.requires.shared c.requires.helped
-    c.is_empty.ensures c.if-is_empty.true)) c.back.ensures.pass
+    (sym (whole-shown c.args.lock.now c.args.errands.now store c.args.shown c.args.parts.now c.args.group.now
+    c.is_empty.result c.requires.shared c.requires.helped c.is_empty.ensures c.if-is_empty.true)) c.back.ensures.pass
 
 -- the first errand with its part, and those of the others
 first : (g : _) (t : _) (c : After-remove-asks g t) → IsTakenFirst c.args.lock.now c.args.errands.now
@@ -49,37 +48,36 @@ first g t c =
     some c.remove-asks.ensures.value c.remove-asks.ensures.items c.remove-taken.ensures.value
     c.remove-taken.ensures.items
 
--- the record that its part shares with those of the others
-shared : (g : _) (t : _) (c : After-remove-asks g t) → IsShared g.D.Disk g.B.Beginning.begun
-    c.args.turn.value.value.store c.args.shown (c.remove-asks.result ∷ c.remove-asks.new.self.items)
-shared g t c =
-    subst (λ (l : List Part). IsShared g.D.Disk g.B.Beginning.begun c.args.turn.value.value.store c.args.shown l)
-    (first g t c).parts_are c.requires.shared
+-- the record that its part shares with those of the others, as its turn finds it
+stored : (g : _) (t : _) (c : After-remove-asks g t) → AreStored g.D.Disk.count
+    (store_at c.args.turn.value.value c.args.shown 0) c.args.turn.value.value c.args.shown
+    (c.remove-asks.result ∷ c.remove-asks.new.self.items)
+stored g t c =
+    let store = c.args.turn.value.value in
+    stored-on g.D.Disk.count store c.args.shown (c.remove-asks.result ∷ c.remove-asks.new.self.items)
+    (subst (λ (l : List Part). IsShared store c.args.shown l) (first g t c).parts_are c.requires.shared)
 
 pub overflow_sub-end : goal.overflow_sub-end
 overflow_sub-end g t c =
-    let s = shared g t (goal.at.overflow_sub-end g t c).After-remove-asks in
-    (shared-on g.D.Disk g.B.Beginning.begun c.args.turn.value.value.store c.args.shown c.remove-asks.result
-    c.remove-asks.new.self.items s).1
+    let s = stored g t (goal.at.overflow_sub-end g t c).After-remove-asks in
+    (shared-on c.args.turn.value.value c.args.shown c.remove-asks.result c.remove-asks.new.self.items s.shared).1
 
 pub share_out-requires : goal.share_out-requires
 share_out-requires g t c κs within =
     let f = first g t (goal.at.share_out-requires g t c).After-remove-asks in
-    let s = shared g t (goal.at.share_out-requires g t c).After-remove-asks in
-    let meant = g.D.Disk in
-    let begun = g.B.Beginning.begun in
-    let store = c.args.turn.value.value.store in
+    let s = stored g t (goal.at.share_out-requires g t c).After-remove-asks in
+    let count = g.D.Disk.count in
+    let store = c.args.turn.value.value in
     let part = c.remove-asks.result in
     let later = c.remove-asks.new.self.items in
     let turn = c.hand_on-turn in
-    let now : store ≡ turn.result.value.value.store = ap (λ b. b.value.store) (sym turn.ensures.value) in
+    let now : store ≡ turn.result.value.value = ap (λ b. b.value) (sym turn.ensures.value) in
     let gone : length c.remove-taken.new.self.items < length c.args.group.now.items =
     omega (arith, c.remove-taken.ensures.len, c.args.group.now.ok.0, c.remove-taken.new.self.ok.0) in
-    let on : IsOnward meant begun turn.result.value.value.store part later turn.result.before.taken c.run-turn.result =
-    subst
-    (λ (x : StoreState g.row.D.Denot). IsOnward meant begun x part later turn.result.before.taken c.run-turn.result)
-    now (goes-on meant begun store c.args.shown part later turn.result.before.taken c.run-turn.result s
-    turn.ensures.taken c.run-turn.ensures) in
+    let on : IsOnward count turn.result.value.value part later turn.result.before.taken c.run-turn.result =
+    subst (λ (x : StoreState g.row.D.Denot). IsOnward count x part later turn.result.before.taken c.run-turn.result)
+    now (stored-onward count (store_at store c.args.shown 0) store c.args.shown part later turn.result.before.taken
+    c.run-turn.result s turn.ensures.taken c.run-turn.ensures) in
     let own = ap (λ (k : Known). k.lock) turn.ensures.before ∙ ap (λ (k : Known). k.lock) f.first.pass
     ∙ f.first.errand.ready.own in (
       subst (λ (n : ℕ). length c.remove-taken.new.self.items < n) c.decreases gone,
@@ -104,21 +102,22 @@ share_out-requires g t c κs within =
 pub answer-requires-clause-says : goal.answer-requires-clause-says
 answer-requires-clause-says g t c =
     let f = first g t (goal.at.answer-requires-clause-says g t c).After-remove-asks in
-    let s = shared g t (goal.at.answer-requires-clause-says g t c).After-remove-asks in
-    let meant = g.D.Disk in
-    let begun = g.B.Beginning.begun in
-    let store = c.args.turn.value.value.store in
+    let s = stored g t (goal.at.answer-requires-clause-says g t c).After-remove-asks in
+    let count = g.D.Disk.count in
+    let lock = c.args.lock.now in
+    let store = c.args.turn.value.value in
     let part = c.remove-asks.result in
     let later = c.remove-asks.new.self.items in
     let turn = c.hand_on-turn in
     let held = turn.result.before in
+    let pass = c.remove-taken.result.pass in
     let new = c.share_out.new.pass in
-    let now : turn.result.value.value.store ≡ store = ap (λ b. b.value.store) turn.ensures.value in
+    let now : turn.result.value.value ≡ store = ap (λ b. b.value) turn.ensures.value in
     let new_is = subst (λ (x : StoreState g.row.D.Denot). new
-    ≡ known_after c.args.lock.now held (take part.end x.history) c.run-turn.result (meant.count x.disk) x.pending) now
+    ≡ known_after lock held (take part.end x.history) c.run-turn.result (count x.disk) x.pending) now
     c.share_out.ensures.pass in
-    let had = member-had meant begun store c.args.shown part later c.remove-taken.result.pass new held c.run-turn.result
-    c.args.lock.now s turn.ensures.before
+    let had = stored-had count (store_at store c.args.shown 0) store c.args.shown part later pass new held
+    c.run-turn.result lock s turn.ensures.before
     (record {
       took = turn.ensures.taken;
       settled = turn.ensures.settled;
@@ -128,9 +127,8 @@ answer-requires-clause-says g t c =
     let job = c.remove-taken.result.taken.job in
     record {
       asks = f.first.asks;
-      had = subst (λ (l : TableId). HadTurn meant begun l job.asks.items (Ok part.answers) job.pass new)
+      had = subst (λ (l : TableId). HadTurn count l job.asks.items (Ok part.answers) job.pass new)
           (sym c.requires.key)
-          (subst (λ (l : List Ask). HadTurn meant begun c.args.lock.now l (Ok part.answers) job.pass new) f.first.asks
-          (subst (λ (k : Known). HadTurn meant begun c.args.lock.now part.asks.items (Ok part.answers) k new)
-          f.first.pass had));
+          (subst (λ (l : List Ask). HadTurn count lock l (Ok part.answers) job.pass new) f.first.asks
+          (subst (λ (k : Known). HadTurn count lock part.asks.items (Ok part.answers) k new) f.first.pass had));
     }

@@ -5,10 +5,13 @@ use Rattle.farm_store.specs.Answering.{BatchSays}
 use Rattle.farm_store.specs.Together.{all_asks}
 use Rattle.farm_store.specs.declared.asking.Ask.{Ask}
 use Rattle.farm_store.specs.declared.asking.Part.{Part}
-use Rattle.shared_farm.specs.Errands.{HadTurn}
+use Rattle.shared_farm.specs.Errands.{errands_asks}
+use Rattle.shared_farm.specs.Outcomes.{HadTurn}
 use Rattle.shared_farm.specs.Rounds.{first_asks}
-use Rattle.shared_farm.proofs.Handing.{all-first, first-rest, first-same, helped-same, length-same, lent-back, rest-same}
-use Rattle.shared_farm.proofs.Members.{AreStored, IsOnward, failed-had, first-had, first-onward, given-stored, shared-on}
+use Rattle.shared_farm.specs.declared.errand.Errand.{Errand}
+use Rattle.shared_farm.specs.declared.sharing.TheConstants.{MOST_PARTS}
+use Rattle.shared_farm.proofs.Handing.{AreErrands, all-first, first-rest, first-same, helped-errands, helped-same, length-same, lent-back, rest-same}
+use Rattle.shared_farm.proofs.Members.{AreStored, IsOnward, failed-had, given-stored, shared-on, stored-had, stored-onward}
 use Rattle.shared_farm.proofs.Turning.{IsTaken, taken-found}
 use Rattle.shared_farm.proofs.sharing.share.Goals.{After-remove-asks, After-run-turn, In-Ok}
 use Rattle.shared_farm.proofs.sharing.share.Goals as goal
@@ -28,6 +31,12 @@ back old new lent part later lent_is same first rest some =
 some_parts : (ps : List Part) → 1 ≤ length (first_asks ps) → 0 < length ps
 some_parts [] some = absurd (omega (arith, some))
 some_parts (p ∷ ps) some = omega arith
+
+-- and the others are fewer than share a record
+few_others : (ps : List Part) (errands : List Errand) → length errands ≡ length (drop 1 ps)
+    → 1 ≤ length (first_asks ps) → length ps ≤ MOST_PARTS → length errands < MOST_PARTS
+few_others [] errands is some few = absurd (omega (arith, some))
+few_others (p ∷ ps) errands is some few = omega (arith, is, few)
 
 -- the parts that came back are the first one and the others, which ask what they were lent with
 record IsParted (old : List Part) (new : List Part) (part : Part) (later : List Part) : Type 0 where
@@ -55,42 +64,40 @@ parted g c =
 
 -- the store that answers is the one that the turn took
 taken : (g : _) (c : After-remove-asks g)
-    → IsTaken g.D.Disk.count c.args.turn.before.pass c.args.turn.before c.deref_mut.result.now.store
+    → IsTaken g.D.Disk.count c.args.turn.before.pass c.args.turn.before c.deref_mut.result.now
 taken g c =
     let first = c.requires.begins in
-    taken-found g.D.Disk.count c.args.turn.before.pass c.args.turn.before c.args.turn.value.value.store
-    c.deref_mut.result.now.store (ap (λ l. l.store) c.deref_mut.ensures.value) first.took first.settled first.seen
-    first.faults
+    taken-found g.D.Disk.count c.args.turn.before.pass c.args.turn.before c.args.turn.value.value
+    c.deref_mut.result.now c.deref_mut.ensures.value first.took first.settled first.seen first.faults
 
 -- the record was stored: the asks of the first part begin where the turn's own places do
 stored : (g : _) (c : In-Ok g)
     → IsParted c.args.parts.items c.call_together-result.new.parts c.remove-asks.result c.remove-asks.new.self.items
-    → AreStored g.D.Disk g.B.Beginning.begun c.deref_mut.result.now.store c.call_together-result.new.self.store
+    → AreStored g.D.Disk.count c.deref_mut.result.now c.call_together-result.new.self
     (length c.history.result.now - c.recorded.result) (c.remove-asks.result ∷ c.remove-asks.new.self.items)
 stored g c is =
     let gave = c.call_together-result in
-    let store = gave.new.self.store in
-    let meant = g.D.Disk in
-    let begun = g.B.Beginning.begun in
+    let store = gave.new.self in
+    let count = g.D.Disk.count in
+    let old = c.deref_mut.result.now in
     let start = length c.history.result.now - c.recorded.result in
     let start_is : start ≡ length store.history - store.recorded =
     ap (λ (n : ℕ). n - c.recorded.result)
-    (ap (λ (l : List Entry). length l) (c.history.ensures.value ∙ ap (λ l. l.store.history) c.deref.ensures))
-    ∙ ap (λ (n : ℕ). length store.history - n) (c.recorded.ensures ∙ ap (λ l. l.store.recorded) c.deref-2.ensures) in
-    subst (λ (l : List Part). AreStored meant begun c.deref_mut.result.now.store store start l) is.whole
-    (given-stored meant begun c.deref_mut.result.now.store store c.deref_mut-2.result.now gave.new.parts start
-    c.in-Ok.ensures.says start_is gave.ensures.found gave.ensures.legal gave.ensures.never_falls gave.ensures.leaves
-    gave.ensures.came)
+    (ap (λ (l : List Entry). length l) (c.history.ensures.value ∙ ap (λ l. l.history) c.deref.ensures))
+    ∙ ap (λ (n : ℕ). length store.history - n) (c.recorded.ensures ∙ ap (λ l. l.recorded) c.deref-2.ensures) in
+    subst (λ (l : List Part). AreStored count old store start l) is.whole
+    (given-stored count old store c.deref_mut-2.result.now gave.new.parts start c.in-Ok.ensures.says start_is
+    gave.ensures.goes_on)
 
 -- and the turn may go on behind the first part
-onward : (g : _) (c : After-run-turn g) → AreStored g.D.Disk g.B.Beginning.begun c.deref_mut.result.now.store
-    c.call_together-result.new.self.store (length c.history.result.now - c.recorded.result)
+onward : (g : _) (c : After-run-turn g) → AreStored g.D.Disk.count c.deref_mut.result.now
+    c.call_together-result.new.self (length c.history.result.now - c.recorded.result)
     (c.remove-asks.result ∷ c.remove-asks.new.self.items)
-    → IsTaken g.D.Disk.count c.args.turn.before.pass c.args.turn.before c.deref_mut.result.now.store
-    → IsOnward g.D.Disk g.B.Beginning.begun c.call_together-result.new.self.store c.remove-asks.result
-    c.remove-asks.new.self.items c.args.turn.before.taken c.run-turn.result
+    → IsTaken g.D.Disk.count c.args.turn.before.pass c.args.turn.before c.deref_mut.result.now
+    → IsOnward g.D.Disk.count c.call_together-result.new.self c.remove-asks.result c.remove-asks.new.self.items
+    c.args.turn.before.taken c.run-turn.result
 onward g c all took =
-    first-onward g.D.Disk g.B.Beginning.begun c.deref_mut.result.now.store c.call_together-result.new.self.store
+    stored-onward g.D.Disk.count c.deref_mut.result.now c.call_together-result.new.self
     (length c.history.result.now - c.recorded.result) c.remove-asks.result c.remove-asks.new.self.items
     c.args.turn.before.taken c.run-turn.result all took.took c.run-turn.ensures
 
@@ -98,7 +105,7 @@ pub overflow_sub-end : goal.overflow_sub-end
 overflow_sub-end g c =
     let at = goal.at.overflow_sub-end g c in
     let start = length c.history.result.now - c.recorded.result in
-    (shared-on g.D.Disk g.B.Beginning.begun c.call_together-result.new.self.store start c.remove-asks.result
+    (shared-on c.call_together-result.new.self start c.remove-asks.result
     c.remove-asks.new.self.items (stored g at.In-Ok (parted g at.After-remove-asks)).shared).1
 
 pub share_out-requires-clause-grown : goal.share_out-requires-clause-grown
@@ -135,30 +142,33 @@ pub returns-in-Ok-clause-had : goal.returns-in-Ok-clause-had
 returns-in-Ok-clause-had g c =
     let at = goal.at.returns-in-Ok-clause-had g c in
     let is = parted g at.After-remove-asks in
-    let meant = g.D.Disk in
-    let begun = g.B.Beginning.begun in
+    let count = g.D.Disk.count in
     let part = c.remove-asks.result in
     let known = c.args.turn.before.pass in
     let start = length c.history.result.now - c.recorded.result in
-    subst (λ (l : List Ask). HadTurn meant begun c.args.lock.now l (Ok part.answers) known c.share_out.new.pass)
-    is.first
-    (first-had meant begun c.deref_mut.result.now.store c.call_together-result.new.self.store start part
-    c.remove-asks.new.self.items known c.share_out.new.pass c.args.turn.before c.run-turn.result c.args.lock.now
-    (stored g at.In-Ok is) refl (taken g at.After-remove-asks) c.requires.begins.places c.run-turn.ensures
-    c.share_out.ensures.pass)
+    subst (λ (l : List Ask). HadTurn count c.args.lock.now l (Ok part.answers) known c.share_out.new.pass) is.first
+    (stored-had count c.deref_mut.result.now c.call_together-result.new.self start part c.remove-asks.new.self.items
+    known c.share_out.new.pass c.args.turn.before c.run-turn.result c.args.lock.now (stored g at.In-Ok is) refl
+    (taken g at.After-remove-asks) c.requires.begins.places c.run-turn.ensures c.share_out.ensures.pass)
 
 pub returns-clause-had : goal.returns-clause-had
 returns-clause-had g c =
     let parts = c.args.parts.items in
     let gave = c.call_together-result in
-    let old = c.deref_mut.result.now.store in
-    let store = gave.new.self.store in
+    let old = c.deref_mut.result.now in
+    let store = gave.new.self in
     let f = c.in-Err.fault in
-    let says : BatchSays (first_asks parts ++ all_asks (drop 1 parts)) (Err f) old store =
+    let lock = c.args.lock.now in
+    let later = drop 1 parts in
+    let jobs = map (λ h. h.taken.job) c.args.group.items in
+    let errands : AreErrands lock c.args.errands.now later jobs =
+    helped-errands lock c.args.errands.now later c.args.group.items c.requires.helped in
+    let says : BatchSays (first_asks parts ++ errands_asks jobs) (Err f) old store =
     subst (λ (l : List Ask). BatchSays l (Err f) old store)
-    (ap (λ (l : List Part). all_asks l) c.deref_mut-2.ensures.value ∙ sym (all-first parts)) c.in-Err.ensures.says in
-    failed-had g.D.Disk g.B.Beginning.begun old store (first_asks parts) (all_asks (drop 1 parts)) f
-    c.args.turn.before.pass c.ask_each.new.pass c.args.turn.before c.args.turn.own c.args.lock.now says
-    c.in-Err.ensures.cause gave.ensures.longer gave.ensures.found gave.ensures.legal gave.ensures.never_falls
-    gave.ensures.leaves gave.ensures.came refl (taken g (goal.at.returns-clause-had g c).After-remove-asks)
-    c.requires.begins.places c.requires.nothing c.ask_each.ensures.pass
+    (ap (λ (l : List Part). all_asks l) c.deref_mut-2.ensures.value ∙ sym (all-first parts)
+    ∙ ap (λ (l : List Ask). first_asks parts ++ l) errands.asks) c.in-Err.ensures.says in
+    failed-had g.D.Disk.count old store (first_asks parts) jobs f c.args.turn.before.pass c.ask_each.new.pass
+    c.args.turn.before c.args.turn.own lock c.requires.own errands.each
+    (few_others parts jobs errands.count c.requires.some c.requires.few) says c.in-Err.ensures.cause
+    gave.ensures.goes_on refl (taken g (goal.at.returns-clause-had g c).After-remove-asks) c.requires.begins.places
+    c.requires.nothing c.ask_each.ensures.pass

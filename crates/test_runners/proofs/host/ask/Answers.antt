@@ -1,4 +1,4 @@
-use Rattle.std.proofs.Common.{◌≡◌, ◌<◌, [], length, take, inl, sym, ap, ◌∙◌, arith}
+use Rattle.std.proofs.Common.{◌≡◌, ◌<◌, [], length, take, refl, inl, sym, ap, ◌∙◌, arith}
 use Rattle.std.proofs.lemmas.List.{length-take}
 use Rattle.link_io.specs.Intake.{Intake}
 use Rattle.http_exchange.proofs.Outcomes.{prefix-take, taken-kept}
@@ -18,7 +18,7 @@ returns-in-Err g c =
       [],
       stop.2,
       taken-kept _ _ kept,
-      (prefix-take stop.0 c.args.question.now, inl short),
+      inl (prefix-take stop.0 c.args.question.now, short, refl),
     )
 
 pub returns : goal.returns

@@ -1,7 +1,8 @@
 use Rattle.std.proofs.Common.{arith, ap, subst, sym, ◌∙◌, false, ◌≡◌}
 use Rattle.std.proofs.lemmas.Bool.{false≢true}
 use Rattle.worker_agent.specs.Steps.{AgentState}
-use Rattle.worker_agent.proofs.Following.{Went, few-left, rose-later, went-first, went-on, works-end}
+use Rattle.http_exchange.proofs.Sendings.{rose-later}
+use Rattle.worker_agent.proofs.Following.{Went, few-left, went-first, went-on, works-end}
 use Rattle.worker_agent.proofs.Saying.{told_of}
 use Rattle.worker_agent.proofs.Suiting.{less-left}
 use Rattle.worker_agent.proofs.worked.work.Goals as goal

@@ -12,12 +12,12 @@ prepare_new-requires-clause-next c =
     let said = c.in-Ok-New.ensures in
     IsLegal-push H e said.legal (recorded H c.args.command.now c.args.at e (sym said.decided ∙ c.in-Ok-New.field-0-is))
 
-pub returns-in-Ok-clause-legal : goal.returns-in-Ok-clause-legal
-returns-in-Ok-clause-legal c =
+pub returns-in-Ok-prepare_new-clause-legal : goal.returns-in-Ok-prepare_new-clause-legal
+returns-in-Ok-prepare_new-clause-legal c =
     let H = c.forget_ready.new.self.history in
     let e = c.in-Ok-New.entry in
     let said = c.in-Ok-New.ensures in
-    let made = c.in-Ok.ensures in
+    let made = c.in-Ok-prepare_new.ensures in
     let is : c.commit_next.new.self.history ≡ H ++ e ∷ [] =
     c.commit_next.ensures.history ∙ ap (λ (K : List Entry). K ++ take 1 c.prepare_new.new.self.ready) made.history
     ∙ ap (λ (ready : List Entry). H ++ take 1 ready) made.ready in

@@ -2,7 +2,7 @@ use Rattle.std.proofs.Common.{rules, ℕ, ◌≡◌, ◌-◌, ◌∙◌, ⊎_eli
 use Rattle.std.proofs.lemmas.Bool.{cases_Bool}
 use Rattle.std.proofs.lemmas.List.{take_rest}
 use Rattle.connection_laws.specs.Kinds.{commands, kind_by, kind_of}
-use Rattle.connection_laws.specs.Moments.{MayGive}
+use Rattle.connection_laws.specs.Moments.{GivenBy}
 use Rattle.farm_store.specs.declared.asking.Ask.{Ask}
 use Rattle.farm_entry.specs.declared.command.Command.{Command}
 use Rattle.farm_wire.specs.declared.fault.WireFault.{WireFault}
@@ -17,7 +17,7 @@ use Rattle.farm_http.proofs.batch.Batch.add_next.Goals as goal
 
 pub returns-in-Ok-clause-batch : goal.returns-in-Ok-clause-batch
 returns-in-Ok-clause-batch g c =
-    let clock = MayGive g.C.Clock c.args.clock.now in
+    let gives = GivenBy g.C.Clock c.args.service.now.clock.now g.D.Disk.count in
     let complete = c.args.complete in
     let held = c.args.held.now in
     let old = c.args.self.now in
@@ -35,9 +35,9 @@ returns-in-Ok-clause-batch g c =
     ∙ ap (λ (x : Result Command WireFault). commands x) c.in-Ok.ensures.read in
     ⊎_elim
     (λ (done : c.add.result ≡ true).
-    batch-gathers clock complete held rest old new request ask c.requires.batch c.requires.open c.requires.room next
+    batch-gathers gives complete held rest old new request ask c.requires.batch c.requires.open c.requires.room next
     (take_rest held c.self.inside.size ∙ ap (λ (k : ℕ). drop k held) size) at_once
     (record { command = asked; moment = (c.now-at.ensures.shown, c.now-at.ensures.told) }) (c.add.ensures.added done))
     (λ (kept : c.add.result ≡ false).
-    subst (λ (b : BatchState). IsBatch clock complete held b) (sym (c.add.ensures.kept kept)) c.requires.batch)
+    subst (λ (b : BatchState). IsBatch gives complete held b) (sym (c.add.ensures.kept kept)) c.requires.batch)
     (cases_Bool c.add.result)

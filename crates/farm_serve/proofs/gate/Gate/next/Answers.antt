@@ -20,7 +20,7 @@ invariant_of-self-in-End g c =
     let s = c.self.inside.standing in
     let one = c.if-self-eq0.false in
     serving_end g.J.Naming.entry g.J.Naming.gives c.self.inside.held c.self.inside.out.total s (s.left - 1) _ _ _ _
-    (omega arith) c.accept.ensures.never_falls c.self.invariant c.in-End.ensures.told
+    (omega arith) c.accept.ensures.never_falls c.self.invariant c.if-self.false c.in-End.ensures.told
 
 pub invariant_of-self-in-Failed : goal.invariant_of-self-in-Failed
 invariant_of-self-in-Failed g c =

@@ -1,66 +1,30 @@
--- What a call came to, from its repair and its decisions, by the lemmas of `Calls`.
-use Rattle.std.proofs.Common.{◌≡◌, ◌+◌, ◌∙◌, ◌∷◌, [], inl}
-use Rattle.farm_disk.specs.Images.{moment}
-use Rattle.farm_disk.proofs.Moments.{leaves_only-weaker}
-use Rattle.farm_journal.specs.ReadsOnly.{ReadsOnly}
-use Rattle.farm_store.specs.Answering.{as_batch}
-use Rattle.farm_store.specs.State.{IsLeft, IsWithOrWithout}
-use Rattle.farm_store.proofs.Calls.{disk-repaired, leaves-on, newer-on, says-longer, says-on}
+-- What a call came to whose refusal is an error, by the lemmas of `Missed`.
+use Rattle.std.proofs.Common.{sym, subst}
+use Rattle.std.specs.Prelude.{Err, OnOk}
+use Rattle.farm_entry.specs.declared.answer.Answer.{Answer}
+use Rattle.farm_entry.specs.declared.reply.Reply.{Reply}
+use Rattle.farm_store.specs.Answering.{CallSays, as_batch}
+use Rattle.farm_store.specs.Faults.{HasCallCause}
+use Rattle.farm_store.specs.Keeping.{KeepsStore}
+use Rattle.farm_store.specs.declared.asking.CallFault.{CallFault}
+use Rattle.farm_store.proofs.Missed.{call-missed, cause-missed, keeps-call}
 use Rattle.farm_store.proofs.store.Store.call.Goals as goal
 
-pub returns-in-Err-clause-any_moment : goal.returns-in-Err-clause-any_moment
-returns-in-Err-clause-any_moment g c = λ t.
-    let old = c.args.self.now in
-    leaves_only-weaker (g.D.Disk.told old.disk) (g.D.Disk.told c.repair.new.self.disk)
-    (IsWithOrWithout old.history old.pending) (IsLeft old c.repair.new.self) (λ x before. inl before)
-    (c.repair.ensures.any_moment t)
+pub returns-in-Err-clause-says : goal.returns-in-Err-clause-says
+returns-in-Err-clause-says g c =
+    subst (λ (f : CallFault). CallSays c.args.command.now c.args.at (Err f) c.args.self.now c.answer.new.self)
+    (sym c.from.ensures)
+    (call-missed c.args.command.now c.args.at c.in-Err.fault c.args.self.now c.answer.new.self c.in-Err.ensures.says)
 
-pub returns-clause-longer : goal.returns-clause-longer
-returns-clause-longer g c =
-    let old = c.args.self.now in
-    let mid = c.repair.new.self in
-    let new = c.decide-answered.new.self in
-    let asks = record { command = c.args.command.now; at = c.args.at } ∷ [] in
-    says-longer asks (as_batch c.decide-answered.result) old new
-    (says-on old mid new c.in_default.ensures.decided c.in_default.ensures.repaired asks
-    (as_batch c.decide-answered.result) c.decide-answered.ensures.says)
+pub returns-in-Err-clause-keeps : goal.returns-in-Err-clause-keeps
+returns-in-Err-clause-keeps g c =
+    subst (λ (f : CallFault). KeepsStore g.D.Disk (λ (P : Type 0). OnOk (as_batch (Err f)) P) c.args.self.now
+    c.answer.new.self) (sym c.from.ensures)
+    (keeps-call Answer g.D.Disk c.args.self.now c.answer.new.self c.in-Err.fault c.in-Err.ensures.keeps)
 
-pub returns-clause-any_moment : goal.returns-clause-any_moment
-returns-clause-any_moment g c = λ t.
-    let old = c.args.self.now in
-    let mid = c.repair.new.self in
-    let new = c.decide-answered.new.self in
-    leaves-on old mid new c.in_default.ensures.decided c.in_default.ensures.repaired
-    (g.D.Disk.told old.disk) (g.D.Disk.told mid.disk) (g.D.Disk.told new.disk)
-    (c.repair.ensures.any_moment t) (c.decide-answered.ensures.any_moment (c.repair.ensures.same ∙ t))
-
-pub returns-clause-only : goal.returns-clause-only
-returns-clause-only g c = λ t zero.
-    let old = c.args.self.now in
-    let mid = c.repair.new.self in
-    let new = c.decide-answered.new.self in
-    let asks = record { command = c.args.command.now; at = c.args.at } ∷ [] in
-    disk-repaired old mid new c.in_default.ensures.decided c.in_default.ensures.repaired asks
-    (as_batch c.decide-answered.result) c.decide-answered.ensures.says c.decide-answered.ensures.untouched
-    (λ (d : g.row.D.Denot). ReadsOnly (g.D.Disk.told old.disk) (g.D.Disk.told d)) (c.repair.ensures.only t) zero
-
-pub returns-clause-two_calls : goal.returns-clause-two_calls
-returns-clause-two_calls g c = λ t some zero.
-    let old = c.args.self.now in
-    let mid = c.repair.new.self in
-    let new = c.decide-answered.new.self in
-    let asks = record { command = c.args.command.now; at = c.args.at } ∷ [] in
-    disk-repaired old mid new c.in_default.ensures.decided c.in_default.ensures.repaired asks
-    (as_batch c.decide-answered.result) c.decide-answered.ensures.says c.decide-answered.ensures.untouched
-    (λ (d : g.row.D.Denot). moment (g.D.Disk.told d) ≡ moment (g.D.Disk.told old.disk) + 2)
-    (c.in_default.ensures.two_calls t some) zero
-
-pub returns-clause-new_version : goal.returns-clause-new_version
-returns-clause-new_version g c = λ t more.
-    let old = c.args.self.now in
-    let mid = c.repair.new.self in
-    let new = c.decide-answered.new.self in
-    let asks = record { command = c.args.command.now; at = c.args.at } ∷ [] in
-    newer-on old mid new c.in_default.ensures.decided c.in_default.ensures.repaired g.D.Disk.told asks
-    (as_batch c.decide-answered.result) c.decide-answered.ensures.says c.decide-answered.ensures.untouched
-    (c.in_default.ensures.new_version t) (c.decide-answered.ensures.new_version (c.repair.ensures.same ∙ t)) more
+pub returns-in-Err-clause-cause : goal.returns-in-Err-clause-cause
+returns-in-Err-clause-cause g c =
+    let first = g.D.Disk.count c.args.self.now.disk in
+    let last = g.D.Disk.count c.answer.new.self.disk in
+    subst (λ (f : CallFault). HasCallCause {T = Reply} (Err f) first last) (sym c.from.ensures)
+    (cause-missed Answer Reply c.in-Err.fault first last c.in-Err.ensures.cause)

@@ -1,61 +1,27 @@
--- What a call came to, from its repair and its decisions, by the lemmas of `Calls`.
-use Rattle.std.proofs.Common.{◌≡◌, ◌+◌, ◌∙◌, inl}
-use Rattle.farm_disk.specs.Images.{moment}
-use Rattle.farm_disk.proofs.Moments.{leaves_only-weaker}
-use Rattle.farm_journal.specs.ReadsOnly.{ReadsOnly}
-use Rattle.farm_store.specs.State.{IsLeft, IsWithOrWithout}
-use Rattle.farm_store.proofs.Calls.{disk-repaired, leaves-on, newer-on, says-longer, says-on}
+-- What a batch came to, by the lemmas of `Missed` and `Sizes`.
+use Rattle.std.proofs.Common.{List, sym, subst}
+use Rattle.std.specs.Prelude.{Err}
+use Rattle.farm_entry.specs.declared.answer.Answer.{Answer}
+use Rattle.farm_entry.specs.declared.entry.Entry.{Entry}
+use Rattle.farm_store.specs.Answering.{AreAnswers, BatchSays}
+use Rattle.farm_store.specs.Faults.{HasCallCause}
+use Rattle.farm_store.specs.declared.asking.CallFault.{CallFault}
+use Rattle.farm_store.proofs.Missed.{batch-missed, cause-missed}
+use Rattle.farm_store.proofs.Sizes.{batch-size}
 use Rattle.farm_store.proofs.store.Store.call_batch.Goals as goal
 
-pub returns-in-Err-clause-any_moment : goal.returns-in-Err-clause-any_moment
-returns-in-Err-clause-any_moment g c = λ t.
-    let old = c.args.self.now in
-    leaves_only-weaker (g.D.Disk.told old.disk) (g.D.Disk.told c.repair.new.self.disk)
-    (IsWithOrWithout old.history old.pending) (IsLeft old c.repair.new.self) (λ x before. inl before)
-    (c.repair.ensures.any_moment t)
+pub settle-requires : goal.settle-requires
+settle-requires g c = record { fits = batch-size c.args.asks.now c.requires.few }
 
-pub returns-clause-longer : goal.returns-clause-longer
-returns-clause-longer g c =
-    let old = c.args.self.now in
-    let mid = c.repair.new.self in
-    let new = c.decide_all-answered.new.self in
-    says-longer c.args.asks.now c.decide_all-answered.result old new
-    (says-on old mid new c.in_default.ensures.decided c.in_default.ensures.repaired c.args.asks.now
-    c.decide_all-answered.result c.decide_all-answered.ensures.says)
+pub returns-in-Err-clause-says : goal.returns-in-Err-clause-says
+returns-in-Err-clause-says g c =
+    subst (λ (f : CallFault). BatchSays c.args.asks.now (Err f) c.args.self.now c.settle.new.self) (sym c.from.ensures)
+    (batch-missed c.args.asks.now (λ (given : List Answer) (H : List Entry). AreAnswers H c.args.asks.now given)
+    c.in-Err.fault c.args.self.now c.settle.new.self c.in-Err.ensures.says)
 
-pub returns-clause-any_moment : goal.returns-clause-any_moment
-returns-clause-any_moment g c = λ t.
-    let old = c.args.self.now in
-    let mid = c.repair.new.self in
-    let new = c.decide_all-answered.new.self in
-    leaves-on old mid new c.in_default.ensures.decided c.in_default.ensures.repaired
-    (g.D.Disk.told old.disk) (g.D.Disk.told mid.disk) (g.D.Disk.told new.disk)
-    (c.repair.ensures.any_moment t) (c.decide_all-answered.ensures.any_moment (c.repair.ensures.same ∙ t))
-
-pub returns-clause-only : goal.returns-clause-only
-returns-clause-only g c = λ t zero.
-    let old = c.args.self.now in
-    let mid = c.repair.new.self in
-    let new = c.decide_all-answered.new.self in
-    disk-repaired old mid new c.in_default.ensures.decided c.in_default.ensures.repaired c.args.asks.now
-    c.decide_all-answered.result c.decide_all-answered.ensures.says c.decide_all-answered.ensures.untouched
-    (λ (d : g.row.D.Denot). ReadsOnly (g.D.Disk.told old.disk) (g.D.Disk.told d)) (c.repair.ensures.only t) zero
-
-pub returns-clause-two_calls : goal.returns-clause-two_calls
-returns-clause-two_calls g c = λ t some zero.
-    let old = c.args.self.now in
-    let mid = c.repair.new.self in
-    let new = c.decide_all-answered.new.self in
-    disk-repaired old mid new c.in_default.ensures.decided c.in_default.ensures.repaired c.args.asks.now
-    c.decide_all-answered.result c.decide_all-answered.ensures.says c.decide_all-answered.ensures.untouched
-    (λ (d : g.row.D.Denot). moment (g.D.Disk.told d) ≡ moment (g.D.Disk.told old.disk) + 2)
-    (c.in_default.ensures.two_calls t some) zero
-
-pub returns-clause-new_version : goal.returns-clause-new_version
-returns-clause-new_version g c = λ t more.
-    let old = c.args.self.now in
-    let mid = c.repair.new.self in
-    let new = c.decide_all-answered.new.self in
-    newer-on old mid new c.in_default.ensures.decided c.in_default.ensures.repaired g.D.Disk.told c.args.asks.now
-    c.decide_all-answered.result c.decide_all-answered.ensures.says c.decide_all-answered.ensures.untouched
-    (c.in_default.ensures.new_version t) (c.decide_all-answered.ensures.new_version (c.repair.ensures.same ∙ t)) more
+pub returns-in-Err-clause-cause : goal.returns-in-Err-clause-cause
+returns-in-Err-clause-cause g c =
+    let first = g.D.Disk.count c.args.self.now.disk in
+    let last = g.D.Disk.count c.settle.new.self.disk in
+    subst (λ (f : CallFault). HasCallCause {T = List Answer} (Err f) first last) (sym c.from.ensures)
+    (cause-missed (List Answer) (List Answer) c.in-Err.fault first last c.in-Err.ensures.cause)

@@ -1,68 +1,55 @@
--- What an entered command came to, from its repair and its decision, by the lemmas of `Calls` and `Entered`.
-use Rattle.std.proofs.Common.{◌≡◌, ◌+◌, ◌∙◌, inl}
-use Rattle.farm_disk.specs.Images.{moment}
-use Rattle.farm_disk.proofs.Moments.{leaves_only-weaker}
-use Rattle.farm_journal.specs.ReadsOnly.{ReadsOnly}
-use Rattle.farm_store.specs.State.{IsLeft, IsWithOrWithout}
-use Rattle.farm_store.proofs.Calls.{leaves-on}
-use Rattle.farm_store.proofs.Entered.{enters-longer, enters-newer, enters-on, enters-repaired, enters-unrepaired}
+-- What an entered command came to, by the lemmas of `Entered` and `Missed`.
+use Rattle.std.proofs.Common.{List, [], ◌∷◌, Option, sym, subst}
+use Rattle.std.specs.Prelude.{Result, Err}
+use Rattle.farm_entry.specs.declared.entry.Entry.{Entry}
+use Rattle.farm_entry.specs.declared.lease.LeasedRun.{LeasedRun}
+use Rattle.farm_entry.specs.declared.refusal.Refusal.{Refusal}
+use Rattle.farm_store.specs.Answering.{IsSettled}
+use Rattle.farm_store.specs.Entering.{Enters, IsEntered}
+use Rattle.farm_store.specs.Faults.{HasCallCause, OnAnswered}
+use Rattle.farm_store.specs.Keeping.{KeepsStore}
+use Rattle.farm_store.specs.declared.asking.Ask.{Ask}
+use Rattle.farm_store.specs.declared.asking.CallFault.{CallFault}
+use Rattle.farm_store.proofs.Entered.{enters-missed, enters-refused, enters-run}
+use Rattle.farm_store.proofs.Missed.{cause-missed, keeps-enter}
 use Rattle.farm_store.proofs.store.Store.enter.Goals as goal
+
+pub returns-in-Ok-Ok-clause-says : goal.returns-in-Ok-Ok-clause-says
+returns-in-Ok-Ok-clause-says g c =
+    let ask : Ask = record { command = c.args.command.now; at = c.args.at } in
+    enters-run c.args.command.now c.args.at c.args.self.now c.settle.new.self c.in-Ok-Ok.run'
+    (subst (λ (given : Result (Option LeasedRun) Refusal).
+    IsSettled (ask ∷ []) (λ (H : List Entry). IsEntered H ask given)
+    c.args.self.now c.settle.new.self) c.in-Ok-Ok.field-0-is c.in-Ok-Ok.ensures.says)
+
+pub returns-in-Ok-Err-clause-says : goal.returns-in-Ok-Err-clause-says
+returns-in-Ok-Err-clause-says g c =
+    let ask : Ask = record { command = c.args.command.now; at = c.args.at } in
+    enters-refused c.args.command.now c.args.at c.args.self.now c.settle.new.self c.in-Ok-Err.refusal
+    (subst (λ (given : Result (Option LeasedRun) Refusal).
+    IsSettled (ask ∷ []) (λ (H : List Entry). IsEntered H ask given)
+    c.args.self.now c.settle.new.self) c.in-Ok-Err.field-0-is c.in-Ok-Err.ensures.says)
 
 pub returns-in-Err-clause-says : goal.returns-in-Err-clause-says
 returns-in-Err-clause-says g c =
-    enters-unrepaired c.args.command.now c.args.at c.in-Err.fault c.args.self.now c.repair.new.self
-    c.in-Err.ensures.unrepaired
+    subst (λ (f : CallFault). Enters c.args.command.now c.args.at (Err f) c.args.self.now c.settle.new.self)
+    (sym c.from.ensures)
+    (enters-missed c.args.command.now c.args.at c.args.self.now c.settle.new.self
+    (λ (given : Result (Option LeasedRun) Refusal) (H : List Entry).
+    IsEntered H (record { command = c.args.command.now; at = c.args.at }) given) c.in-Err.fault c.in-Err.ensures.says)
 
-pub returns-in-Err-clause-any_moment : goal.returns-in-Err-clause-any_moment
-returns-in-Err-clause-any_moment g c = λ t.
-    let old = c.args.self.now in
-    leaves_only-weaker (g.D.Disk.told old.disk) (g.D.Disk.told c.repair.new.self.disk)
-    (IsWithOrWithout old.history old.pending) (IsLeft old c.repair.new.self) (λ x before. inl before)
-    (c.repair.ensures.any_moment t)
+pub returns-in-Err-clause-keeps : goal.returns-in-Err-clause-keeps
+returns-in-Err-clause-keeps g c =
+    subst (λ (f : CallFault).
+    KeepsStore g.D.Disk (λ (P : Type 0). OnAnswered {T = Option LeasedRun} (Err f) P) c.args.self.now
+    c.settle.new.self) (sym c.from.ensures)
+    (keeps-enter (Result (Option LeasedRun) Refusal) g.D.Disk c.args.self.now c.settle.new.self
+    (Option LeasedRun) c.in-Err.fault c.in-Err.ensures.keeps)
 
-pub returns-clause-says : goal.returns-clause-says
-returns-clause-says g c =
-    let run = c.decide_run-entered in
-    enters-on c.args.command.now c.args.at run.result c.args.self.now c.repair.new.self run.new.self
-    c.in_default.ensures.decided c.in_default.ensures.repaired run.ensures.says
-
-pub returns-clause-longer : goal.returns-clause-longer
-returns-clause-longer g c =
-    let run = c.decide_run-entered in
-    let old = c.args.self.now in
-    enters-longer c.args.command.now c.args.at run.result old run.new.self
-    (enters-on c.args.command.now c.args.at run.result old c.repair.new.self run.new.self
-    c.in_default.ensures.decided c.in_default.ensures.repaired run.ensures.says)
-
-pub returns-clause-any_moment : goal.returns-clause-any_moment
-returns-clause-any_moment g c = λ t.
-    let run = c.decide_run-entered in
-    let old = c.args.self.now in
-    let mid = c.repair.new.self in
-    leaves-on old mid run.new.self c.in_default.ensures.decided c.in_default.ensures.repaired
-    (g.D.Disk.told old.disk) (g.D.Disk.told mid.disk) (g.D.Disk.told run.new.self.disk)
-    (c.repair.ensures.any_moment t) (run.ensures.any_moment (c.repair.ensures.same ∙ t))
-
-pub returns-clause-only : goal.returns-clause-only
-returns-clause-only g c = λ t zero.
-    let run = c.decide_run-entered in
-    let old = c.args.self.now in
-    enters-repaired c.args.command.now c.args.at run.result old c.repair.new.self run.new.self
-    c.in_default.ensures.decided c.in_default.ensures.repaired run.ensures.says run.ensures.untouched
-    (λ (d : g.row.D.Denot). ReadsOnly (g.D.Disk.told old.disk) (g.D.Disk.told d)) (c.repair.ensures.only t) zero
-
-pub returns-clause-two_calls : goal.returns-clause-two_calls
-returns-clause-two_calls g c = λ t some zero.
-    let run = c.decide_run-entered in
-    let old = c.args.self.now in
-    enters-repaired c.args.command.now c.args.at run.result old c.repair.new.self run.new.self
-    c.in_default.ensures.decided c.in_default.ensures.repaired run.ensures.says run.ensures.untouched
-    (λ (d : g.row.D.Denot). moment (g.D.Disk.told d) ≡ moment (g.D.Disk.told old.disk) + 2)
-    (c.in_default.ensures.two_calls t some) zero
-
-pub returns-clause-new_version : goal.returns-clause-new_version
-returns-clause-new_version g c = λ t more.
-    let run = c.decide_run-entered in
-    enters-newer c.args.command.now c.args.at run.result c.args.self.now c.repair.new.self run.new.self
-    c.in_default.ensures.decided c.in_default.ensures.repaired run.ensures.says g.D.Disk.told run.ensures.untouched
-    (c.in_default.ensures.new_version t) (run.ensures.new_version (c.repair.ensures.same ∙ t)) more
+pub returns-in-Err-clause-cause : goal.returns-in-Err-clause-cause
+returns-in-Err-clause-cause g c =
+    let first = g.D.Disk.count c.args.self.now.disk in
+    let last = g.D.Disk.count c.settle.new.self.disk in
+    subst (λ (f : CallFault). HasCallCause {T = Option LeasedRun} (Err f) first last) (sym c.from.ensures)
+    (cause-missed (Result (Option LeasedRun) Refusal) (Option LeasedRun) c.in-Err.fault first
+    last c.in-Err.ensures.cause)

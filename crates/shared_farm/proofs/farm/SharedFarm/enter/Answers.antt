@@ -1,36 +1,23 @@
-use Rattle.std.proofs.Common.{ap, ◌∙◌, ◌∷◌, []}
-use Rattle.farm_store.specs.Answering.{as_batch}
-use Rattle.farm_store.proofs.Entered.{enters-cause}
-use Rattle.farm_store.specs.declared.asking.Ask.{Ask}
-use Rattle.shared_farm.specs.Turns.{own_places}
-use Rattle.shared_farm.proofs.Recorded.{cause-as_batch, recorded-own}
-use Rattle.shared_farm.proofs.Turning.{IsServed, IsServing, says-alone, served-keeps, served-longer, served-own, served-places, served-settled, served-turn, serving-givable, taken-found}
+use Rattle.std.proofs.Common.{ap, ◌∙◌}
+use Rattle.farm_store.specs.Entering.{Enters}
+use Rattle.shared_farm.specs.Answered.{own_places}
+use Rattle.shared_farm.proofs.Turning.{IsServed, IsServing, served-keeps, served-own, served-turn, serving-givable, taken-found}
 use Rattle.shared_farm.proofs.farm.SharedFarm.enter.Goals.{After-own_places-turn}
 use Rattle.shared_farm.proofs.farm.SharedFarm.enter.Goals as goal
 
 -- the turn of the caller, when the store has answered
 serving : (g : _) (c : After-own_places-turn g) → IsServing g.D.Disk.count c.args.pass.now
-    c.turn-turn.result.before c.deref_mut.result.now.store c.enter-result.new.self.store c.own_places-turn.result
+    c.turn-turn.result.before c.deref_mut.result.now c.enter-result.new.self c.own_places-turn.result
 serving g c =
     let turn = c.turn-turn in
-    let said = c.enter-result.ensures in
     record {
       held_is = turn.ensures.pass;
       places = turn.ensures.places;
-      taken = taken-found g.D.Disk.count c.args.pass.now turn.result.before turn.result.value.value.store
-          c.deref_mut.result.now.store (ap (λ l. l.store) c.deref_mut.ensures.value) turn.ensures.taken
-          turn.ensures.settled turn.ensures.seen turn.ensures.faults;
-      answered = record {
-        legal = said.found;
-        longer = said.longer;
-        room = said.recorded;
-        recorded = recorded-own (record { command = c.args.command.now; at = c.args.at } ∷ [])
-            (as_batch said.says.answer) c.deref_mut.result.now.store c.enter-result.new.self.store said.says.says
-            said.longer;
-        settled = said.settled;
-        never_falls = said.never_falls;
-      };
-      own_is = c.own_places-turn.ensures ∙ ap (λ l. own_places l.store) c.deref.ensures;
+      taken = taken-found g.D.Disk.count c.args.pass.now turn.result.before turn.result.value.value
+          c.deref_mut.result.now c.deref_mut.ensures.value turn.ensures.taken turn.ensures.settled turn.ensures.seen
+          turn.ensures.faults;
+      answered = c.enter-result.ensures.goes_on;
+      own_is = c.own_places-turn.ensures ∙ ap (λ l. own_places l) c.deref.ensures;
     }
 
 pub back-requires-clause-places : goal.back-requires-clause-places
@@ -43,7 +30,7 @@ back-requires-clause-settled g c =
 
 -- and when it was given back
 served : (g : _) (c : goal.After-ring_next g) → IsServed g.D.Disk.count c.args.pass.now c.back.new.pass
-    c.turn-turn.result.before c.deref_mut.result.now.store c.enter-result.new.self.store c.own_places-turn.result
+    c.turn-turn.result.before c.deref_mut.result.now c.enter-result.new.self c.own_places-turn.result
 served g c = record {
   serving = serving g (goal.at.returns-clause-own g c).After-own_places-turn;
   lock = c.self.inside.lock;
@@ -53,32 +40,12 @@ served g c = record {
 pub returns-clause-turn : goal.returns-clause-turn
 returns-clause-turn g c =
     let answer = c.enter-result in
-    let count = g.D.Disk.count in
-    let ask : Ask = record { command = c.args.command.now; at = c.args.at } in
-    let first = count c.deref_mut.result.now.store.disk in
-    let last = count answer.new.self.store.disk in
-    let says = answer.ensures.says in
-    record {
-      answer = says.answer;
-      gives = says.gives;
-      turn = served-turn (served g c) (ask ∷ []) (as_batch says.answer)
-          (says-alone (ask ∷ []) (as_batch says.answer) c.deref_mut.result.now.store answer.new.self.store says.says)
-          (cause-as_batch says.answer first last
-          (enters-cause c.args.command.now c.args.at answer.result says first last answer.ensures.cause));
-    }
-
-pub returns-clause-keeps : goal.returns-clause-keeps
-returns-clause-keeps g c =
-    served-keeps g.D.Disk g.B.Beginning.begun (served g c) c.enter-result.ensures.leaves c.enter-result.ensures.came
+    served-turn (served g c) (Enters c.args.command.now c.args.at answer.result) answer.result answer.ensures.says
+    answer.ensures.cause
 
 pub returns-clause-own : goal.returns-clause-own
 returns-clause-own g c = served-own (served g c)
 
-pub returns-clause-settled : goal.returns-clause-settled
-returns-clause-settled g c = served-settled (served g c)
-
-pub returns-clause-longer : goal.returns-clause-longer
-returns-clause-longer g c = served-longer (served g c)
-
-pub returns-clause-places : goal.returns-clause-places
-returns-clause-places g c = served-places (served g c)
+pub returns-clause-keeps : goal.returns-clause-keeps
+unfolding served
+returns-clause-keeps g c = served-keeps (served g c) c.args.self.now c.self.view_is

@@ -1,14 +1,18 @@
-use Rattle.std.proofs.Common.{ap, subst, sym, ◌∙◌, ◌≡◌, ◌+◌, List, ℕ, Some}
-use Rattle.farm_entry.specs.declared.entry.Entry.{Entry}
+use Rattle.std.proofs.Common.{ap, subst, sym, ◌∙◌, ◌+◌, Some}
+use Rattle.atomic_table.specs.Seated.{TableId}
+use Rattle.farm_entry.specs.Legal.{IsLegal}
+use Rattle.farm_store.specs.State.{StoreState}
 use Rattle.list_prefix.proofs.Prefixes.{IsPrefix-equal}
-use Rattle.turn_lock.specs.Known.{Known, MayRise}
+use Rattle.turn_lock.specs.Known.{Known}
 use Rattle.turn_lock.specs.declared.view.Taken.{Taken}
+use Rattle.shared_farm.specs.Turns.{KeepsPass}
+use Rattle.shared_farm.proofs.Turning.{IsTaken, look-keeps}
 use Rattle.shared_farm.proofs.farm.SharedFarm.tail.Goals as goal
 
 pub back-requires-clause-grown : goal.back-requires-clause-grown
 back-requires-clause-grown g c =
     let turn = c.turn-turn.result in
-    IsPrefix-equal turn.before.taken.entries turn.value.value.store.history
+    IsPrefix-equal turn.before.taken.entries turn.value.value.history
     (ap (λ (t : Taken). t.entries) c.turn-turn.ensures.taken)
 
 pub returns-clause-look : goal.returns-clause-look
@@ -22,13 +26,19 @@ returns-clause-look g c =
       pending = ap (λ (k : Known). k.pending) new ∙ ap (λ (t : Taken). Some t.pending) (sym last);
     }
 
-pub returns-clause-settled : goal.returns-clause-settled
-returns-clause-settled g c nothing same rises =
-    let new = c.back.ensures.pass in
+pub returns-clause-keeps : goal.returns-clause-keeps
+returns-clause-keeps g c =
+    let turn = c.turn-turn in
     let count = g.D.Disk.count in
-    let found = c.turn-turn.result.value.value.store in
-    let at : c.back.new.pass.faults ≡ count found.disk = ap (λ (k : Known). k.faults) new in
-    let none = c.turn-turn.ensures.settled nothing (same ∙ at) (subst (λ (n : ℕ). MayRise n) at rises) in (
-      ap (λ (k : Known). k.last.pending) new ∙ (ap (λ (t : Taken). t.pending) c.turn-turn.ensures.taken ∙ none),
-      ap (λ (k : Known). k.pending) new ∙ ap (λ (l : List Entry). Some l) none,
-    )
+    let store = turn.result.value.value in
+    let taken : IsTaken count c.args.pass.now turn.result.before store = record {
+      took = turn.ensures.taken;
+      settled = turn.ensures.settled;
+      begins = turn.ensures.seen;
+      faults = turn.ensures.faults;
+    } in
+    let legal : IsLegal store.history =
+    subst (λ (s : StoreState g.row.D.Denot). IsLegal s.history) c.deref.ensures c.tail-page.ensures.legal in
+    subst (λ (lock : TableId). KeepsPass lock c.args.pass.now c.back.new.pass) c.self.view_is
+    (look-keeps count c.args.pass.now c.back.new.pass turn.result.before store turn.result.own c.self.inside.lock
+    turn.ensures.pass taken turn.ensures.places legal turn.ensures.own c.back.ensures.pass)

@@ -1,29 +1,44 @@
-use Rattle.std.proofs.Common.{ap, sym, ◌∙◌, ◌∷◌, []}
-use Rattle.farm_entry.specs.Pages.{totals}
+use Rattle.std.proofs.Common.{◌≡◌, ◌⊎◌, ◌∷◌, [], ap, subst}
 use Rattle.farm_store.specs.Answering.{as_batch}
-use Rattle.farm_store.proofs.Entered.{enters-cause}
-use Rattle.shared_farm.proofs.Recorded.{cause-as_batch, recorded-at_the_end, settled}
+use Rattle.farm_store.specs.Faults.{OnAnswered}
+use Rattle.farm_store.specs.State.{StoreState}
+use Rattle.fault_types.specs.Counts.{Rose}
+use Rattle.shared_farm.specs.Answered.{GoesOn}
+use Rattle.shared_farm.proofs.Recorded.{cause-entered, goes-on_by, says-decided, says-grown}
+use Rattle.shared_farm.proofs.Resting.{came-on}
 use Rattle.shared_farm.proofs.locked.Locked.enter.Goals as goal
 
-pub post-requires-clause-totals : goal.post-requires-clause-totals
-post-requires-clause-totals g c = c.totals-totals.ensures ∙ ap totals (sym c.history-2.ensures.value)
-
-pub returns-clause-settled : goal.returns-clause-settled
-returns-clause-settled g c same rises =
-    let entered = c.enter-result in
-    let answer = entered.ensures.says.answer in
-    let old = c.args.self.now.store in
+-- nothing is pending then, or the disk failed
+decided : (g : _) (c : goal.After-post g) → (c.enter-result.new.self.pending ≡ [])
+    ⊎ Rose (g.D.Disk.count c.self.inside.store.disk) (g.D.Disk.count c.enter-result.new.self.disk)
+decided g c =
+    let e = c.enter-result.ensures in
+    let old = c.self.inside.store in
+    let new = c.enter-result.new.self in
     let first = g.D.Disk.count old.disk in
-    let last = g.D.Disk.count entered.new.self.disk in
-    settled (record { command = c.args.command.now; at = c.args.at } ∷ []) (as_batch answer) old entered.new.self
-    first last entered.ensures.says.says
-    (cause-as_batch answer first last
-    (enters-cause c.args.command.now c.args.at entered.result entered.ensures.says first last entered.ensures.cause))
-    same rises
+    let last = g.D.Disk.count new.disk in
+    says-decided (record { command = c.args.command.now; at = c.args.at } ∷ [])
+    (as_batch e.says.answer) old new first last e.says.says
+    (cause-entered e.says.answer c.enter-result.result first last e.says.gives e.cause)
 
-pub returns-clause-recorded : goal.returns-clause-recorded
-returns-clause-recorded g c =
-    let entered = c.enter-result in
-    recorded-at_the_end (record { command = c.args.command.now; at = c.args.at } ∷ [])
-    (as_batch entered.ensures.says.answer) c.args.self.now.store entered.new.self entered.ensures.says.says
-    entered.ensures.longer
+pub invariant_of-self : goal.invariant_of-self
+invariant_of-self g c =
+    let e = c.enter-result.ensures in
+    let now = c.post.ensures.posted in (
+      ap (λ p. p.board) now,
+      ap (λ p. p.posts) now,
+      ap (λ p. p.seen) now,
+      came-on g.D.Disk g.B.Beginning.begun (λ P. OnAnswered c.enter-result.result P) c.self.inside.store
+          c.enter-result.new.self c.self.invariant.3 e.keeps (decided g c),
+    )
+
+pub returns-clause-goes_on : goal.returns-clause-goes_on
+returns-clause-goes_on g c =
+    let e = c.enter-result.ensures in
+    let count = g.D.Disk.count in
+    let old = c.self.inside.store in
+    let new = c.enter-result.new.self in
+    subst (λ (s : StoreState g.row.D.Denot). GoesOn count s new) c.self.view_is
+    (goes-on_by count old new c.history.ensures.legal c.post.ensures.legal e.keeps.longer
+    (says-grown (record { command = c.args.command.now; at = c.args.at } ∷ [])
+    (as_batch e.says.answer) old new e.says.says) (decided g c) e.keeps.never_falls)

@@ -7,4 +7,4 @@ use Rattle.shared_farm.proofs.locked.Locked.tail.Goals as goal
 pub write_log_page-requires-clause-within : goal.write_log_page-requires-clause-within
 write_log_page-requires-clause-within g c =
     subst (λ (H : List Entry). All (λ (e : Entry). IsWithinLimits e.what) H) (sym c.history.ensures.value)
-    (legal-within c.args.self.now.store.history c.history.ensures.legal)
+    (legal-within c.self.inside.store.history c.history.ensures.legal)

@@ -3,7 +3,7 @@ use Rattle.worker_agent.proofs.agent.Agent.note.Goals as goal
 
 pub invariant_of-self : goal.invariant_of-self
 invariant_of-self c =
+    let inside = c.self.inside in
     let step = c.step-self-inside in
-    agent-noted c.args.self.now c.hold-event.new.self c.self.inside.core step.new.self c.self.inside.lease c.self.inside.faulted step.result
-    c.args.came c.hold-event.result c.requires c.hold-event.ensures.held c.self.view_is c.self.invariant.holds c.hold-event.ensures.event
+    agent-noted inside.core step.new.self c.args.event step.result inside.lease c.requires c.self.invariant.holds
     step.ensures.action step.ensures.state

@@ -1,0 +1,12 @@
+pub mod Bodies
+pub mod Decimals
+pub mod Framed
+pub mod Heads
+pub mod JsonTexts
+pub mod LeaseReplies
+pub mod LogPages
+pub mod OneRequest
+pub mod Paths
+pub mod Refusals
+pub mod Requested
+pub mod Texts
