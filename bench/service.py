@@ -160,6 +160,8 @@ def entry_of(it):
                 "fate": ("counted", "late", "over")[it.number(1) - 1]}
     if tag == 5:
         return {"what": "cancel", "key": it.number(16), "search": it.number(4)}
+    if tag == 8:
+        return {"what": "report", "run": it.number(4), "verdict": "skip", "fate": ("skipped", "late")[it.number(1) - 1]}
     assert tag == 6, (tag, at)
     return {"what": "revert", "key": it.number(16), "agent": it.name(), "order": it.number(4), "commit": it.take(20).hex(),
             "search": it.number(4), "day": it.number(4)}

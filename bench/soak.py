@@ -98,7 +98,7 @@ class Client(threading.Thread):
             with lock:
                 run = runs.pop(dice.randrange(len(runs))) if runs else None
             if run:
-                self.send(f"/v1/runs/{run}/report", {"verdict": dice.choice(["pass", "fail"])}, run)
+                self.send(f"/v1/runs/{run}/report", {"verdict": dice.choice(["pass", "fail", "pass", "fail", "skip"])}, run)
         elif pick < 0.87 and searches[0]:
             search = dice.randrange(1, searches[0] + 1)
             self.send(f"/v1/searches/{search}/cancel", {"key": key(number)}, number)

@@ -1,6 +1,6 @@
 #!/usr/bin/env python3
 """What the width of a search costs and gains where searches share workers: runs of a search, and the time until it is
-answered, for several numbers of open searches. docs/OPERATING.md has the table.
+answered, for several numbers of open searches. docs/OPERATING.md says what follows.
 
     bench/widths.py [SEARCHES]           6400 searches a cell, if not said
 

@@ -10,11 +10,11 @@ from typing import Any, Iterable, Optional, Sequence
 from culprit_git import ATTRIBUTES, git_words
 from culprit_lib import ACTIVE, Finder, Look, NoAnswer, clock, columns, duration, figure, fit, many, plain
 from culprit_lib import ratio, spelled
-from culprit_report import leading_of, named
+from culprit_reasons import DOUBT, failed_at_good, passed_at_bad, reason_of, skipped_at, skipped_at_both
 from culprit_runs import Crew, Guard, Job, Signals, Step, signal_name
-from culprit_search import Attempt, Event, Home, Plan, Run, Search
+from culprit_search import Attempt, Event, Home, Run, Search
+from culprit_shown import leading_of, named
 
-DOUBT = 1_000  # GOOD counts as failing where flakes alone explain its fails in fewer than one of so many cases
 OPEN, LEASE, CANCEL = 1, 2, 3  # the kinds of requests in keys
 # Checks submodules out without a word of them in the repository's configuration, which the user's work tree shares.
 SUBMODULES = ("-c", "submodule.active=.", "submodule", "--quiet", "update", "--recursive", "--force", "--checkout")
@@ -23,7 +23,7 @@ WAYS = ((True, 24, True), (False, 24, True), (False, 12, True), (False, 0, True)
 
 
 class Ended(Exception):
-    """The search has ended before the program was asked; the text is the reason. Status 3."""
+    """The search has ended before the program was asked; the words are how it stands, and the reason. Status 3."""
 
 
 def key(attempt: int, kind: int, number: int) -> str:
@@ -129,7 +129,8 @@ class Driver:
             self._check()
             self._hunt()
         except Ended as end:
-            self.search.add("ended", status=3, standing="base fails", reason=str(end))
+            standing, reason = end.args
+            self.search.add("ended", status=3, standing=standing, reason=reason)
         except NoAnswer as fault:
             self.search.add("stopped", reason=str(fault))
             raise
@@ -162,21 +163,23 @@ class Driver:
 
     def _is_unchecked(self, position: int) -> bool:
         verdicts = [check["verdict"] for check in self.story.checks if check["position"] == position]
-        return not verdicts or (position == 0 and "pass" not in verdicts)
+        return not verdicts or (position == 0 and set(verdicts) == {"fail"})
 
     def _checked(self, job: Job) -> None:
         verdict = self._verdict(job)
-        if verdict == "skip":
-            self._untestable(job)
         self.search.add("check", position=job.position, verdict=verdict, seconds=round(job.seconds, 3),
                         status=job.status, label=job.label)
+        if verdict == "skip":
+            self.progress.note(f"check: {skipped_at(self.plan, job)}")
+            if {0, len(self.plan["suspects"])} <= set(self.story.untestable):
+                raise Ended("untestable", skipped_at_both(self.plan, job))
         if job.position and verdict == "pass":
             self.progress.note(f"check: {passed_at_bad(self.plan)}")
         if job.position == 0 and verdict == "fail":
             fails = [check for check in self.story.checks if check["position"] == 0]
             upper, lower = self.numbers["flakes"]
             if upper ** len(fails) * DOUBT < lower ** len(fails):
-                raise Ended(failed_at_good(self.plan, len(fails), job))
+                raise Ended("base fails", failed_at_good(self.plan, len(fails), job))
             good = self.plan["good"]["short"]
             self.progress.note(f"check: the test failed at GOOD ({good}), as a flake may: once more")
 
@@ -194,7 +197,7 @@ class Driver:
             attempt = self._open(attempt.number + 1)
             self._search(attempt)
         status = {"confirmed": 0, "no culprit": 1}.get(attempt.standing, 3)
-        self.search.add("ended", status=status, standing=attempt.standing, reason=reason_of(self.plan, attempt))
+        self.search.add("ended", status=status, standing=attempt.standing, reason=reason_of(self.search, attempt))
 
     def _search(self, attempt: Attempt) -> None:
         while attempt.standing in ACTIVE:
@@ -204,6 +207,9 @@ class Driver:
     def _ask(self, do: str, **fields: Any) -> dict[str, Any]:
         assert self.finder
         reply = self.finder.ask(do, **fields)
+        if reply.get("refused") == "BadField" and fields.get("verdict") == "skip":
+            raise NoAnswer(f"{self.program} is older than this tool: it doesn't know the verdict for a commit that "
+                           "can't be tested. Give another program: --finder PATH")
         if reply.get("refused", "NoRun") != "NoRun":
             raise NoAnswer(f"the program refused {do}: {json.dumps(reply)}")
         return reply
@@ -318,8 +324,6 @@ class Driver:
     def _noted(self, job: Job) -> Run:
         """A run that has ended, with its verdict."""
         run, verdict = self.story.runs[int(job.label)], self._verdict(job)
-        if verdict == "skip":
-            self._untestable(job)
         self.search.add("ran", run=run.number, verdict=verdict, seconds=round(job.seconds, 3), status=job.status)
         return run
 
@@ -327,9 +331,9 @@ class Driver:
         """Tells the program a verdict, and notes what it replies and what it believes then."""
         reply = self._ask("report", run=run.number, verdict=run.verdict)
         shown = self._ask("search", search=run.attempt)
-        culprit = {"culprit": shown["culprit"]} if "culprit" in shown else {}
+        there = {name: shown[name] for name in ("culprit", "untestable") if name in shown}
         self.search.add("reported", run=run.number, verdict=reply["verdict"], fate=reply["fate"],
-                        shares=shown["shares"], standing=shown["standing"], verified=shown["verified"], **culprit)
+                        shares=shown["shares"], standing=shown["standing"], verified=shown["verified"], **there)
         self.progress.ran(self.search, run)
         self._drop_late(shown["standing"])
 
@@ -340,13 +344,6 @@ class Driver:
         self.crew.drop(late)
         for job in late:
             self.search.add("dropped", run=int(job.label))
-
-    def _untestable(self, job: Job) -> None:
-        """What a run that can't be tested comes to. A report knows pass and fail alone, so the tool has to end."""
-        self.search.add("untestable", position=job.position)
-        why = "took too long" if job.timed_out else "ended with 125"
-        said = untestable(self.search, job.position, self.home.untestable(), f"can't be tested (the command {why})")
-        raise NoAnswer(f"{said}. What it wrote: {job.output}")
 
     def _shown(self, position: int) -> str:
         return named(self.search.tree(position))
@@ -375,60 +372,3 @@ def calm_of(numbers: dict[str, Any], checks: Sequence[Event]) -> int:
         return numbers["calm"]
     (flakes, runs), (misses, broken) = numbers["flakes"], numbers["misses"]
     return -(-numbers["calm"] * flakes * broken // (runs * (broken - misses)))
-
-
-# ---- reasons --------------------------------------------------------------------------------------------------------
-
-def untestable(search: Search, position: int, found_so: set[str], why: str) -> str:
-    """Which commits can't be tested, of all that any search found so, and what to do about it."""
-    last = len(search.plan["suspects"])
-    if position in (0, last):
-        end = "BAD" if position else "GOOD"
-        return f"{named(search.tree(position))} {why}: it is {end}, so give another one"
-    known = [each for each in range(1, last + 1) if search.tree(each)["commit"] in found_so]
-    names = ", ".join(named(search.tree(each)) for each in known)
-    step = next((step for step in range(2, last) if all((last - each) % step for each in known)), 0)
-    them = "them" if len(known) > 1 else "it"
-    offer = f"--every {step * search.plan['every']} passes {them} over, and finds a group of commits one of which it is"
-    return f"{names} {why}: {offer if step else 'give a range without them'}"
-
-
-def reason_of(plan: Plan, attempt: Attempt) -> str:
-    """Why a search that has ended has no answer, where it has none."""
-    if attempt.standing == "vindicated" and attempt.culprit:
-        name = named(plan["suspects"][attempt.culprit - 1])
-        again = f", in the last of {attempt.number} tries" if attempt.number > 1 else ""
-        return (f"{name} was named, and a rerun contradicted it{again}. Perhaps the test flakes more often than "
-                "--flakes says, or a broken one passes at times (--misses)")
-    if attempt.standing == "inconclusive":
-        return ("the numbers have no room for more runs, and nobody has reached the bar: give a greater --flakes, or a "
-                "narrower range")
-    return "" if attempt.standing in ("confirmed", "no culprit") else f"it stands {attempt.standing}"
-
-
-def passed_at_bad(plan: Plan) -> str:
-    """What a pass at BAD means."""
-    passed = f"the test passed at BAD ({plan['bad']['short']})"
-    if plan["numbers"]["misses"][0]:
-        return f"{passed}, as a broken one does at times, by the miss rate given: the search decides"
-    return (f"{passed}. Where a broken test always fails, nobody in {plan['range']} is to blame, and the search will "
-            "say so. Where it passes at times, say how often (--misses). Or does the command test something else, as "
-            "your own folder, by a whole path in a variable or by what pip install -e left?")
-
-
-def failed_at_good(plan: Plan, fails: int, job: Job) -> str:
-    """What fails at GOOD mean, with the last lines that the command wrote."""
-    with open(job.output, "rb") as file:
-        file.seek(max(0, os.path.getsize(job.output) - 4_000))
-        wrote = [plain(line) for line in file.read().decode("utf-8", "replace").splitlines()[-10:]]
-    status = "it took too long" if job.timed_out else f"status {job.status}"
-    missing = ", the command wasn't found" if job.status in (126, 127) else ""
-    return "\n".join([
-        f"the test fails at GOOD too ({plan['good']['short']}: {fails} of {many(fails, 'run')}, {status}{missing}), "
-        f"which flakes of {ratio(plan['numbers']['flakes'])} explain in fewer than one of {DOUBT:,} cases.",
-        "  Was it broken there already? Give an older GOOD.",
-        "  Does it need a build, a submodule (--submodules) or a file that isn't committed? A run starts afresh.",
-        "  Does it test your own folder, by a whole path in a variable or by what pip install -e left?",
-        "  Does it pass over all that is below a folder .git, as jest does? --trees FOLDER lets it run elsewhere.",
-        "  Does it flake more often than that? --flakes says so, and --no-check goes on all the same.",
-        "The last lines that it wrote:" if wrote else "It wrote nothing.", *(f"  | {line}" for line in wrote)])

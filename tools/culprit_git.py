@@ -40,13 +40,15 @@ class Commit(NamedTuple):
 
 
 class Repository:
-    """The repository that the tool was started in: `common` is its folder for git, `prefix` where the user stands in
-    his work tree. `inside` is the environment of what runs in a run's work tree, `outside` that of other commands."""
+    """The repository that the tool was started in, or that of a folder: `common` is its folder for git, `prefix` where
+    the user stands in his work tree. `inside` is the environment of what runs in a run's work tree, `outside` that of
+    other commands."""
 
-    def __init__(self) -> None:
+    def __init__(self, folder: Optional[str] = None) -> None:
         self.inside = {name: value for name, value in os.environ.items() if name not in PLACES}
-        lines = self._ask(["git", "rev-parse", "--git-common-dir", "--show-prefix"], dict(os.environ)).split("\n")
-        self.common, self.prefix = os.path.realpath(lines[0]), lines[1]
+        env = dict(os.environ) if folder is None else self.inside
+        lines = self._ask(["git", "rev-parse", "--git-common-dir", "--show-prefix"], env, folder).split("\n")
+        self.common, self.prefix = os.path.realpath(os.path.join(folder or "", lines[0])), lines[1]
         self.outside = {**self.inside, "GIT_DIR": self.common}
 
     @staticmethod

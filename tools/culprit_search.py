@@ -48,6 +48,7 @@ class Attempt:
         self.standing = "searching"
         self.culprit: Optional[int] = None
         self.shares: list[int] = []
+        self.untestable: list[int] = []
         self.verified = 0
 
 
@@ -75,6 +76,7 @@ class Story:
 
     def _check(self, event: Event) -> None:
         self.checks.append(event)
+        self._sum_untestable()
 
     def _opened(self, event: Event) -> None:
         self.attempts.append(Attempt(event["search"]))
@@ -92,12 +94,19 @@ class Story:
         run.verdict, run.fate, run.shares, run.ended = event["verdict"], event["fate"], event["shares"], "reported"
         attempt.standing, attempt.culprit = event["standing"], event.get("culprit")
         attempt.shares, attempt.verified = event["shares"], event["verified"]
+        attempt.untestable = event.get("untestable", [])
+        self._sum_untestable()
 
     def _dropped(self, event: Event) -> None:
         self.runs[event["run"]].ended = "not needed"
 
     def _untestable(self, event: Event) -> None:
+        """An older tool stopped here. What goes on from there runs it again, and reports what comes of that."""
         self.untestable = sorted({*self.untestable, event["position"]})
+
+    def _sum_untestable(self) -> None:
+        checked = {check["position"] for check in self.checks if check["verdict"] == "skip"}
+        self.untestable = sorted(checked.union(*(attempt.untestable for attempt in self.attempts)))
 
     def _stopped(self, event: Event) -> None:
         self.reason = event["reason"]
@@ -217,10 +226,6 @@ class Home:
             return number if number and self.search(number).story.end is None else 0
         except (NoAnswer, OSError):
             return 0
-
-    def untestable(self) -> set[str]:
-        """The ids of the commits that any search found to be such that they can't be tested."""
-        return {search.tree(position)["commit"] for search in self.searches() for position in search.story.untestable}
 
     def lock(self) -> None:
         """Keeps others from working here until this process and its guard have ended."""

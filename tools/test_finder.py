@@ -388,6 +388,19 @@ drill 1 0|drill 1 5|drill 1|drill 1 1 1|--judge|judge --x|help-me"""
                 self.assertEqual(ran.stderr.startswith("finder: "), ran.returncode == 2, ran.stderr)
                 self.assertEqual(ran.stderr.endswith("usage\n"), ran.returncode == 2, ran.stderr)
 
+    def test_tools_are_given_the_program_and_their_words(self):
+        self.assertIn("rt isn't on PATH", self.finder("explain", "J", "1").stderr)
+        self.release()
+        shown = "import os, sys\nprint(os.environ['CULPRIT_FINDER'], sys.argv[1:])\n"
+        for tool in ("explain", "watch"):
+            (self.top / "tools" / tool).write_text(shown)
+            program = f"{self.top}/release/out/culprit_finder" if tool == "explain" else ""
+            ran = self.finder(tool, "a b", "--from")
+            self.assertEqual((ran.returncode, ran.stdout), (0, f"{program} ['a b', '--from']\n"), ran.stderr)
+        (self.bin / "python3").unlink()
+        ran = self.finder("watch", "x")
+        self.assertEqual((ran.returncode, "python3 isn't on PATH" in ran.stderr), (1, True))
+
     def test_words_that_fit_are_handed_on_as_they_are(self):
         self.give_rt()
         shown = self.folder / "shows its words"
@@ -409,7 +422,8 @@ class Installed(Tree):
         files = {str(it.relative_to(to)) for it in to.rglob("*") if it.is_file()}
         self.assertEqual({f"{to}/{it}" for it in files}, set(ran.stdout.splitlines()))
         for name in ("bin/finder", "bin/culprit_finder", "bin/git-culprit", "share/man/man1/finder.1",
-                     "share/man/man1/git-culprit.1", "lib/systemd/system/culprits.service"):
+                     "share/man/man1/git-culprit.1", "share/man/man1/finder-explain.1",
+                     "lib/culprit_finder/explain", "lib/systemd/system/culprits.service"):
             self.assertIn(name, files)
         shutil.rmtree(self.top)
         here = {"env": {"PATH": f"{to}/bin:{self.bin}", "HOME": str(self.folder)}, "capture_output": True, "text": True}
@@ -421,6 +435,12 @@ class Installed(Tree):
         self.assertIn("  finder judge ", subprocess.run(["finder", "--help"], **here).stdout)
         self.assertEqual(subprocess.run(["finder", "build"], **here).returncode, 2)
         self.assertEqual(subprocess.run(["git", "culprit", "-h"], **here).returncode, 0)
+        subprocess.run(["finder", "found", "a journal", "60000", "10", "east:0"], cwd=self.folder, **here)
+        ran = subprocess.run(["finder", "explain", "a journal", "1"], cwd=self.folder, **here)
+        said = "finder explain: the farm has no search 1: it has none yet\n"
+        self.assertEqual((ran.returncode, ran.stdout, ran.stderr), (3, "", said))
+        ran = subprocess.run(["finder", "watch", "127.0.0.1:1", "--from", "0"], **here)
+        self.assertEqual((ran.returncode, ran.stderr), (2, "finder watch: 0 is no number of an entry, from 1 on\n"))
         (self.folder / "finder").symlink_to(to / "bin/finder")
         ran = subprocess.run([self.folder / "finder", "--path"], **here)
         self.assertEqual(ran.stdout, f"{to}/bin/culprit_finder\n")
@@ -501,9 +521,11 @@ class Here(unittest.TestCase):
         said = subprocess.run([ROOT / "finder", "--help"], capture_output=True, text=True).stdout
         for word in re.findall(r"^  ./finder (\w+)", said, re.M):
             self.assertRegex(manual["finder"], rf"finder {word}\b")
-        said = subprocess.run([sys.executable, ROOT / "tools/git-culprit", "-h"], capture_output=True, text=True).stdout
         option = re.compile(r"(?<![\w-])--[a-z][a-z-]+")
-        self.assertLessEqual({*option.findall(said)}, {*option.findall(manual["git-culprit"])})
+        for tool, page in (("git-culprit", "git-culprit"), ("explain", "finder-explain"), ("watch", "finder-watch")):
+            ran = subprocess.run([sys.executable, ROOT / "tools" / tool, "-h"], capture_output=True, text=True)
+            self.assertLessEqual({*option.findall(ran.stdout)}, {*option.findall(manual[page])})
+            self.assertGreaterEqual(len(option.findall(ran.stdout)), 2)
 
     def test_the_units_are_those_that_the_guide_shows(self):
         shown = re.findall(r"(?:^    .*\n|^\n)+", (ROOT / "docs/OPERATING.md").read_text(), re.M)

@@ -109,23 +109,14 @@ class Answers(Case):
         self.assertEqual(report["standing"], "inconclusive")
         self.assertIn("no room for more runs", report["reason"])
 
-    def test_commits_that_cannot_be_tested(self) -> None:
-        ids = self.make(24, 9, lambda number: {"build": "broken" if 10 <= number <= 14 else "fine"})
-        test = f"grep -q broken build && exit 125; {IS_OK}"
-        ended = self.shell("good..main", test=test)
-        self.assertEqual(ended.status, 3)
-        self.assertRegex(ended.err, f'{ids[13][:7]} "change 13" can\'t be tested .*: --every 2 passes it over')
-        self.assertIn("2 runs kept. Go on: git culprit --resume 1", ended.err)
-        ended = self.shell("good..main", "--every", "2", test=test)
-        self.assertRegex(ended.err, f'{ids[12][:7]} "change 12" can\'t be tested .*: --every 8 passes it over')
-        report = self.search("--every", "8", test=test)
+    def test_every_nth_commit(self) -> None:
+        ids = self.make(24, 9)
+        report = self.search("--every", "8")
         culprit = report["culprit"]
         self.assertEqual((culprit["commit"], culprit["commits"]), (ids[16], 8))
         ended = self.culprit("--show")
         self.assertIn('One of the 8 commits up to', ended.out)
         self.assertIn(f"git culprit {ids[8][:7]}..{ids[16][:7]} --flakes 1/20 -- sh -c", ended.out)
-        ended = self.shell(f"good..{ids[12]}", test=test)
-        self.assertIn("it is BAD, so give another one", ended.err)
 
     def test_a_thousand_commits_and_more(self) -> None:
         ids = self.make(1001, 777)
@@ -166,12 +157,6 @@ class Runs(Case):
         self.make(5, 2, lambda _: {"a b/ü/here.sh": "grep -qx ok ../../state\n"})
         ended = self.culprit("good..", "--json", "--", "sh", "here.sh", folder=os.path.join(self.repo, "a b", "ü"))
         self.assertEqual(ended.report["culprit"]["position"], 2)
-
-    def test_a_folder_that_a_commit_lacks_cannot_be_tested(self) -> None:
-        self.make(5, 2, lambda number: {"new/file": "x"} if number else {})
-        ended = self.culprit("good..", "--", "true", folder=os.path.join(self.repo, "new"))
-        self.assertEqual(ended.status, 3)
-        self.assertIn("it is GOOD, so give another one", ended.err)
 
     def test_what_is_here_but_not_committed_is_said(self) -> None:
         self.make(4, 2)
@@ -221,9 +206,6 @@ class Runs(Case):
         report = self.search(*quick, test=hangs)
         self.assertEqual(report["culprit"]["position"], 2)
         self.assert_gone(self.done)
-        ended = self.shell("good..", "--timeout", "1", "--timeout-is", "skip", test=f"{IS_OK} || sleep 7777")
-        self.assertEqual(ended.status, 3)
-        self.assertIn("can't be tested (the command took too long): it is BAD", ended.err)
 
     def test_what_a_command_leaves_running_ends_with_it(self) -> None:
         self.make(2, 1)

@@ -60,6 +60,24 @@ os.kill(os.getppid(), signal.SIGKILL)
                     self.assert_once()
                     self.assert_clean()
 
+    def test_a_kill_where_a_commit_cannot_be_tested(self) -> None:
+        self.make(3, 3)
+        words = ("good..", "--no-check", "--flakes", "1%", "--bar", "90%")
+        test = self.note(f"[ $CULPRIT_POSITION != 2 ] || exit 125; {IS_OK}")
+        whole = self.search(*words[1:], "--calm", "1", test=test, status=3)
+        first = whole["untestable"] == [2] and next(run for run in whole["runs"] if run["verdict"] == "skip")["run"]
+        for line, after in ((3 * first, False), (3 * first, True), (3 * first + 1, False)):  # its report, and the page
+            with self.subTest(line=line, after=after):
+                shutil.rmtree(os.path.join(self.repo, ".git", "culprit"))
+                os.unlink(self.done)
+                ended = self.shell(*words, "--calm", "1", "--finder", self.finder(line, after), test=test)
+                self.assertEqual(ended.status, -signal.SIGKILL)
+                ended = self.culprit("--resume", "--json")
+                self.assertEqual((ended.status, ended.report["untestable"]), (3, [2]), ended.err)
+                self.assertEqual(ended.report["candidates"], whole["candidates"])
+                self.assert_same(ended.report, whole)
+                self.assert_once()
+
     def assert_same(self, report: dict[str, Any], whole: dict[str, Any]) -> None:
         """The same runs with the same verdicts and beliefs as in the search that nobody stopped."""
         members = ("run", "position", "stage", "verdict", "fate", "belief", "nobody")

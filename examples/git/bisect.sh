@@ -5,9 +5,10 @@
 #
 # It makes a repository of 40 commits in a folder of its own, of which one breaks the test `checkout_total`. The test
 # also flakes, before and after, in one run of ten: a sound tree fails then, and a broken one passes. Which runs flake
-# hangs on the commit and on how often it was run, so each time the same commit is found, by about as many runs. It needs
-# git, curl and python3. All that it started ends with it, by Ctrl-C too, and its folder goes. FINDER names another
-# program than that of `./finder`, and PORT and HOST_PORT other ports than 18080 and 18081.
+# hangs on the commit and on how often it was run, so each time the same commit is found, by about as many runs. Changes
+# 16 to 22 don't build: the test host answers `skip`, and they are passed over. It needs git, curl and python3. All that
+# it started ends with it, by Ctrl-C too, and its folder goes. FINDER names another program than that of `./finder`, and
+# PORT and HOST_PORT other ports than 18080 and 18081.
 set -u
 here=$(cd "$(dirname "${BASH_SOURCE[0]}")" && pwd) || exit 2
 finder=${FINDER:-$("$here/../../finder" --path)} || exit 1
@@ -35,7 +36,7 @@ end() {
 trap end EXIT
 trap 'exit 130' INT TERM
 
-# The repository: a catalogue, a script that adds up prices, and a test of that script. Each commit gets the same id
+# The repository: a catalogue, a script that adds up prices, its build, and a test of it. Each commit gets the same id
 # every time, so nothing of the user's configuration may enter it.
 make_repository() {
   local repo=$work/shop number
@@ -54,8 +55,11 @@ if [ $(($(printf '%s %s' "$(git rev-parse HEAD)" "$RUN" | cksum | cut -d' ' -f1)
 fi
 exit "$verdict"
 TEST
+  printf 'bash -n total.sh\n' > "$repo/build"
   for number in $(seq 0 40); do
     echo "item$number $number" >> "$repo/catalogue"
+    [ "$number" = 16 ] && echo 'if [ "$total" -gt 100 ]; then' >> "$repo/total.sh"
+    [ "$number" = 23 ] && sed -i '$d' "$repo/total.sh"
     [ "$number" = 27 ] && sed -i 's/total + price/total + 2 * price/' "$repo/total.sh"
     git -C "$repo" add -A
     GIT_AUTHOR_DATE="@$((1700000000 + number)) +0000" GIT_COMMITTER_DATE="@$((1700000000 + number)) +0000" \
@@ -92,7 +96,7 @@ worker() {
 
 make_repository
 say "the repository"
-git -C "$work/shop" log --oneline | sed -n '1p;14p;41p'
+git -C "$work/shop" log --oneline | sed -n '1p;14p;19p;25p;41p'
 
 "$finder" found "$journal" 60000 10 east:0 || fail "the journal could not be founded"
 "$finder" serve "$journal" "127.0.0.1:$port" 4 1000000000 &

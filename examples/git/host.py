@@ -1,13 +1,17 @@
 #!/usr/bin/env python3
-"""A test host: answers each line `COMMIT TEST` with `pass` or `fail`, after it has run the test at that commit.
+"""A test host: answers each line `COMMIT TEST` with `pass`, `fail` or `skip`, after it has run the test at that commit.
 
     host.py REPOSITORY FOLDER PORT
 
 Each connection gets a work tree of its own under FOLDER. The test is the script of that name in the repository, whose
-exit status is the verdict. The environment variable RUN tells the script how often it was run at this commit. What
-keeps a test from being run (no such commit, no such script, a script that doesn't end) is no verdict: the connection is
-closed without a line, and the worker ends with status 10. A connection that asks nothing gets nothing: it only tries
-whether the host is there.
+exit status is the verdict. The environment variable RUN tells the script how often it was run at this commit. Before it
+the script `build` is run, where there is one.
+
+`skip` says that the tree itself can't be tested: `build` ends with 1 to 127, or there is no such test. What else keeps
+a test from being run (no such commit, a script that doesn't end, a build that a signal ends or that ends with 128 or
+above, as it should where the disk is full) is no verdict, as another machine or a later hour may have one: the
+connection is closed without a line, the worker ends with status 10, and the run is handed out again. A connection that
+asks nothing gets nothing: it only tries whether the host is there.
 """
 import collections
 import itertools
@@ -25,19 +29,33 @@ def git(*words):
     subprocess.run(["git", "-C", repository, *words], check=True, capture_output=True)
 
 
+def ran(script, tree, run):
+    """The exit status of a script in a tree."""
+    environment = {**os.environ, "RUN": str(run)}
+    return subprocess.run(["bash", script], cwd=tree, env=environment, stdout=sys.stderr, timeout=20).returncode
+
+
+def tested(tree, test, run):
+    """Builds a tree and runs the test in it once."""
+    if os.path.isfile(os.path.join(tree, "build")):
+        status = ran("build", tree, run)
+        if not 0 <= status < 128:
+            raise ChildProcessError(f"the build ended with {status}")
+        if status:
+            return "skip"
+    if not os.path.isfile(os.path.join(tree, test)):
+        return "skip"
+    return "pass" if ran(test, tree, run) == 0 else "fail"
+
+
 def verdict(commit, test):
-    """Checks the commit out and runs the test once."""
+    """Checks the commit out and tests it."""
     with one_at_a_time:
         runs[commit] += 1
         run, tree = runs[commit], os.path.join(folder, f"tree{next(trees)}")
         git("worktree", "add", "--detach", tree, commit)
     try:
-        script = os.path.join(tree, test)
-        if not os.path.isfile(script):
-            raise FileNotFoundError(script)
-        environment = {**os.environ, "RUN": str(run)}
-        ended = subprocess.run(["bash", script], cwd=tree, env=environment, stdout=sys.stderr, timeout=20)
-        return "pass" if ended.returncode == 0 else "fail"
+        return tested(tree, test, run)
     finally:
         with one_at_a_time:
             git("worktree", "remove", "--force", tree)

@@ -1,31 +1,23 @@
 //! What the history of a farm shows of the runs in it.
 
 use crate::service::Service;
-use farm_entry::{Entry, What};
+use farm_entry::Entry;
 use plain_farm::first_illegal;
 use std::alloc::Global;
 use std::io;
-
-/// The run that an entry reports.
-fn reported(entry: &Entry) -> Option<u32> {
-    match &entry.what {
-        What::Reported { run, .. } => Some(*run),
-        _ => None,
-    }
-}
 
 /// How many reports there are of a run.
 fn count_of(history: &[Entry], run: u32) -> usize {
     history
         .iter()
-        .filter(|entry| reported(entry) == Some(run))
+        .filter(|entry| entry.what.told() == Some(run))
         .count()
 }
 
 /// Whether some run of a history is reported twice.
 fn reports_twice(history: &[Entry]) -> bool {
     for entry in history {
-        if let Some(run) = reported(entry) {
+        if let Some(run) = entry.what.told() {
             if count_of(history, run) > 1 {
                 return true;
             }

@@ -3,10 +3,10 @@
 //!
 //! Standard input has a line for each step. A JSON line is a command at the farm, printed with its answer. `work NAME
 //! RUNS CULPRIT BROKEN PLAN` is one worker of up to so many leases, whose tests fail from the commit CULPRIT on, and
-//! whose runner fails from BROKEN on (`-`: nowhere); the letters of PLAN are in `network`. `soak RUNS CULPRIT PLAN
-//! NAME ..` has the workers of these names take turns, of so many leases each, until all of one round are idle.
-//! `history` tells whether the history is legal by the plain program and some run has two reports, `entries` how many
-//! entries it has. An empty line begins a new farm.
+//! whose runner fails from BROKEN on (`-`: nowhere), or, with `~` before it, says from there on that trees can't be
+//! tested; the letters of PLAN are in `network`. `soak RUNS CULPRIT PLAN NAME ..` has the workers of these names take
+//! turns, of so many leases each, until all of one round are idle. `history` tells whether the history is legal by the
+//! plain program and some run has two reports, `entries` how many entries it has. An empty line begins a new farm.
 #![tactic(auto)]
 
 mod history;
@@ -92,6 +92,7 @@ impl<'f> Game<'f> {
         let name = Name::of(self.alloc, name).ok()?;
         let mut runner = CulpritRunner {
             culprit: id_of(plan.culprit)?,
+            untestable: plan.broken.strip_prefix("~").and_then(id_of),
             broken: id_of(plan.broken),
             faults: 0,
         };

@@ -6,29 +6,38 @@ ghost use Rattle.agent_tests.specs.Links.{runner_faults};
 
 use farm_types::{CommitId, Name};
 use weight_exact::Verdict;
+use worker_core::Tested;
 use worker_io::{Ran, Runner};
 
-/// A runner whose tests fail from a commit on, in the order of ids, and that fails itself at the commits from another
-/// one on.
+/// A runner whose tests fail from a commit on, in the order of ids, that says from another one on that trees can't be
+/// tested, and that fails itself from a third one on.
 #[derive(Drop)]
 pub(crate) struct CulpritRunner {
     pub culprit: CommitId,
+    pub untestable: Option<CommitId>,
     pub broken: Option<CommitId>,
     pub faults: u64,
 }
 
 impl CulpritRunner {
-    fn verdict(&self, commit: &CommitId) -> Option<Verdict> {
-        if let Some(broken) = self.broken {
-            if *commit >= broken {
-                return None;
-            }
-        }
-        if *commit >= self.culprit {
-            Some(Verdict::Fail)
+    fn tested(&self, commit: &CommitId) -> Option<Tested> {
+        if is_from(self.broken, commit) {
+            None
+        } else if is_from(self.untestable, commit) {
+            Some(Tested::Untestable)
+        } else if *commit >= self.culprit {
+            Some(Tested::Verdict(Verdict::Fail))
         } else {
-            Some(Verdict::Pass)
+            Some(Tested::Verdict(Verdict::Pass))
         }
+    }
+}
+
+/// Whether a commit is this one, or stands behind it.
+fn is_from(first: Option<CommitId>, commit: &CommitId) -> bool {
+    match first {
+        Some(first) => *commit >= first,
+        None => false,
     }
 }
 
@@ -42,8 +51,8 @@ impl Runner for CulpritRunner {
     }
 
     fn run(&mut self, _test: &Name, commit: &CommitId) -> Ran {
-        match self.verdict(commit) {
-            Some(verdict) => Ran::Verdict(verdict),
+        match self.tested(commit) {
+            Some(tested) => Ran::Tested(tested),
             None => {
                 self.faults = self.faults.saturating_add(1);
                 Ran::Failed

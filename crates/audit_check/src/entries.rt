@@ -1,13 +1,14 @@
 //! Entries from the front of some bytes: a moment, a tag in one byte that tells the kind, and the fields of that kind.
 
 ghost use Rattle.std.specs.Prelude.{◌≡◌, IfOk};
-ghost use Rattle.entry_codec.specs.Reading.{cancelled_at, entry_at, founded_at, leased_at, miss_at, opened_at, opening_at, ordered_at, reported_at, what_at};
+ghost use Rattle.entry_codec.specs.Reading.{cancelled_at, entry_at, founded_at, leased_at, miss_at, opened_at, opening_at, ordered_at, reported_at, skipped_at, what_at};
 ghost use Rattle.audit_check.specs.Reads.{Reads};
 ghost use Rattle.audit_check.specs.Added.{IsAdded};
 
 use crate::fields::{number_1, number_2, number_4, number_8};
 use crate::parts::{
-    bar, commit, fate, key, miss, moment, name, number_up_to, range, rate, settings, stage, verdict,
+    bar, commit, fate, key, miss, moment, name, number_up_to, range, rate, settings, skip_fate,
+    stage, verdict,
 };
 use crate::stop::Stop;
 use farm_entry::{BoxedOpening, Entry, MAX_RERUNS, Opening, What};
@@ -109,6 +110,16 @@ fn reported(bytes: &[u8]) -> Result<(What, &[u8]), Stop>
     Ok((What::Reported { run, verdict, fate }, rest))
 }
 
+/// A report of a run whose tree can't be tested: its run and fate.
+#[tactic(auto, unfolding(entry_codec::specs::Reading::skipped_at))]
+fn skipped(bytes: &[u8]) -> Result<(What, &[u8]), Stop>
+    ensures { Reads (λ x. (x.0, x.1.now)) result (skipped_at bytes.now) }
+{
+    let (run, rest) = number_4(bytes)?;
+    let (fate, rest) = skip_fate(rest)?;
+    Ok((What::Skipped { run, fate }, rest))
+}
+
 /// A cancellation: its key and search.
 #[tactic(auto, unfolding(entry_codec::specs::Reading::cancelled_at))]
 fn cancelled(bytes: &[u8]) -> Result<(What, &[u8]), Stop>
@@ -154,6 +165,7 @@ fn what(alloc: Global, tag: u8, bytes: &[u8]) -> Result<(What, &[u8]), Stop>
         5 => cancelled(bytes),
         6 => ordered(alloc, bytes),
         7 => opened(alloc, true, bytes),
+        8 => skipped(bytes),
         _ => Err(Stop::Malformed),
     }
 }

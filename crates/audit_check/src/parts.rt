@@ -1,15 +1,16 @@
 //! The parts of an entry from the front of some bytes: each with the bytes behind it.
 
 ghost use Rattle.std.specs.Prelude.{◌≡◌, true};
-ghost use Rattle.entry_codec.specs.Reading.{bar_at, fate_at, id_at, key_at, miss_at, moment_at, name_at, range_at, rate_at, settings_at, stage_at, suspect_at, suspects_at, up_to_at, verdict_at};
+ghost use Rattle.entry_codec.specs.Reading.{bar_at, fate_at, id_at, key_at, miss_at, moment_at, name_at, range_at, rate_at, settings_at, skip_fate_at, stage_at, suspect_at, suspects_at, up_to_at, verdict_at};
 ghost use Rattle.audit_check.specs.Reads.{Reads};
 
 use crate::fields::{number_1, number_2, number_4, number_8, number_16, part};
 use crate::stop::Stop;
 use crate::values::{
-    bar_of, fate_of, id_of, miss_of, moment_of, name_of, rate_of, settings_of, stage_of, verdict_of,
+    bar_of, fate_of, id_of, miss_of, moment_of, name_of, rate_of, settings_of, skip_fate_of,
+    stage_of, verdict_of,
 };
-use farm_entry::{Fate, Settings};
+use farm_entry::{Fate, Settings, SkipFate};
 use farm_types::{CommitId, Key, Moment, Name, Stage};
 use flake_rate::{Bar, Miss, Rate};
 use std::alloc::Global;
@@ -90,6 +91,18 @@ pub(crate) fn fate(bytes: &[u8]) -> Result<(Fate, &[u8]), Stop>
 {
     let (mark, rest) = number_1(bytes)?;
     match fate_of(mark) {
+        Some(fate) => Ok((fate, rest)),
+        None => Err(Stop::Malformed),
+    }
+}
+
+/// What a report did that said that the tree can't be tested: 1 that it was taken, 2 that it came late.
+#[tactic(auto, unfolding(entry_codec::specs::Reading::skip_fate_at))]
+pub(crate) fn skip_fate(bytes: &[u8]) -> Result<(SkipFate, &[u8]), Stop>
+    ensures { Reads (λ x. (x.0, x.1.now)) result (skip_fate_at bytes.now) }
+{
+    let (mark, rest) = number_1(bytes)?;
+    match skip_fate_of(mark) {
         Some(fate) => Ok((fate, rest)),
         None => Err(Stop::Malformed),
     }

@@ -2,12 +2,12 @@
 //! limits.
 
 ghost use Rattle.std.specs.Prelude.{◌≡◌, Some};
-ghost use Rattle.entry_codec.specs.Values.{fate_of, fitting_miss, id_of, lowest_miss, lowest_rate, moment_of, name_of, settings_of, stage_of, verdict_of};
+ghost use Rattle.entry_codec.specs.Values.{fate_of, fitting_miss, id_of, lowest_miss, lowest_rate, moment_of, name_of, settings_of, skip_fate_of, stage_of, verdict_of};
 ghost use Rattle.farm_entry.specs.Ask.{bar_of};
 ghost use Rattle.audit_check.specs.Reads.{Reads};
 
 use crate::stop::Stop;
-use farm_entry::{Fate, Settings};
+use farm_entry::{Fate, Settings, SkipFate};
 use farm_types::{CommitId, Moment, Name, NameFault, Stage, ZONE_MIN_MINUTES};
 use flake_rate::{Bar, Miss, Rate};
 use std::alloc::Global;
@@ -75,6 +75,17 @@ pub(crate) fn fate_of(mark: u8) -> Option<Fate>
         1 => Some(Fate::Counted),
         2 => Some(Fate::Late),
         3 => Some(Fate::Over),
+        _ => None,
+    }
+}
+
+/// What a report did that said that the tree can't be tested: 1 that it was taken, 2 that it came late.
+pub(crate) fn skip_fate_of(mark: u8) -> Option<SkipFate>
+    ensures { result ≡ skip_fate_of mark }
+{
+    match mark {
+        1 => Some(SkipFate::Taken),
+        2 => Some(SkipFate::Late),
         _ => None,
     }
 }

@@ -1,37 +1,41 @@
 -- What a belief that stands for the runs of a search is good for: its plan can be made of it.
-use Rattle.std.proofs.Common.{◌≡◌, ℕ, ◌+◌, ◌-◌, ◌*◌, ◌^◌, ◌<◌, ◌≤◌, List, [], ◌∷◌, ◌++◌, length, map, All, Contains, sym, ap, subst, ◌∙◌, arith, length-append}
+use Rattle.std.proofs.Common.{◌≡◌, ℕ, ◌+◌, ◌-◌, ◌*◌, ◌^◌, ◌<◌, ◌≤◌, List, [], ◌∷◌, ◌++◌, None, length, map, All, Contains, sym, ap, subst, ◌∙◌, arith, length-append}
 use Rattle.std.proofs.lemmas.List.{length-map}
 use Rattle.std.proofs.lemmas.List.Elements.{All-map, All-push}
+use Rattle.flake_rate.specs.Bar.{bar_denominator, bar_numerator}
 use Rattle.flake_rate.proofs.Values.{miss-in_limits, rate-in_limits}
 use Rattle.suspect_range.specs.Range.{IsSuspectRange}
 use Rattle.suspect_range.specs.declared.suspect.Suspect.{Suspect}
 use Rattle.weight_exact.specs.Limits.{IsWeight}
 use Rattle.weight_exact.specs.Load.{floor}
-use Rattle.weight_exact.specs.Plan.{plan}
-use Rattle.weight_exact.specs.Weights.{Setup, cumulative, hypotheses, prior, suspects, total}
+use Rattle.weight_exact.specs.Share.{reached}
+use Rattle.weight_exact.specs.Weights.{AreInRange, Setup, cumulative, hypotheses, prior, suspects, total}
 use Rattle.weight_exact.specs.declared.limits.TheConstants.{BASIS_POINTS}
 use Rattle.weight_exact.specs.declared.run.Run.{Run}
 use Rattle.weight_exact.proofs.FactorNumbers.{fail_in_positive, fail_out_positive, pass_out_positive}
 use Rattle.weight_exact.proofs.Shares.{total_positive}
+use Rattle.open_positions.specs.Blocks.{is_hidden}
+use Rattle.open_positions.specs.Open.{open_pick, open_plan}
 use Rattle.posterior.specs.Kept.{Kept, at}
 use Rattle.posterior.specs.StandsFor.{StandsFor}
+use Rattle.threshold_pick.specs.Blocks.{CanHalve, is_hidden_in}
 use Rattle.threshold_pick.specs.CanPick.{CanPick}
 use Rattle.threshold_pick.specs.Cumulative.{AreCumulative}
-use Rattle.threshold_pick.specs.Picks.{ArePicks}
+use Rattle.threshold_pick.specs.Picks.{open_pick_in, open_plan_in}
 use Rattle.threshold_pick.specs.Sums.{RiseAbove, whole}
 use Rattle.threshold_pick.proofs.Alive.{ArePositive, RiseAbove-cumulative}
-use Rattle.threshold_pick.proofs.Plans.{ArePicks-plan}
+use Rattle.threshold_pick.proofs.Blocks.{AreRising-cumulative, is_hidden_in-is_hidden}
+use Rattle.threshold_pick.proofs.OpenPlans.{open_pick_in-open_pick, open_plan_in-open_plan}
 use Rattle.farm_entry.specs.History.{openings, runs}
 use Rattle.farm_entry.specs.Legal.{IsLegal}
 use Rattle.farm_entry.specs.Setup.{setup_of}
-use Rattle.farm_entry.specs.Standing.{is_searching, standing}
+use Rattle.farm_entry.specs.Standing.{at_bar}
 use Rattle.farm_entry.specs.declared.entry.Entry.{Entry}
 use Rattle.farm_entry.specs.declared.opening.Opening.{Opening}
-use Rattle.farm_entry.specs.declared.standing.Standing.TheVariants.{Searching}
 use Rattle.farm_laws.proofs.Filters.{All-imp}
-use Rattle.farm_laws.proofs.InRange.{runs-in_range}
+use Rattle.farm_laws.specs.Openings.{OpenWithin}
 use Rattle.farm_laws.proofs.OpenLimits.{open_within, setup_facts}
-use Rattle.farm_laws.proofs.Standings.{searching-at_bar, some-left}
+use Rattle.farm_laws.proofs.Standings.{some-left}
 
 -- the sums of a belief are those of the runs that it stands for
 pub are_cumulative : (k : Kept) (runs : List Run) → StandsFor k runs → AreCumulative k.setup runs k.sums
@@ -72,52 +76,119 @@ are_positive o =
       pass_out = pass_out_positive _ _ _ _ rate miss;
     }
 
--- what the sums of a belief are, where the search is searching
-record IsReady (o : Opening) (told : List Run) (k : Kept) : Type 0 where
-  pub total : 1 ≤ total (setup_of o) told
-  pub sums : AreCumulative (setup_of o) told k.sums
-  pub floor_is : k.floor ≡ floor (setup_of o).factors told
-  pub left : floor (setup_of o).factors told < suspects (setup_of o)
+-- A belief of a search.
 
-is_ready : (H : List Entry) (o : Opening) (k : Kept) → IsLegal H → Contains (openings H) o → standing H o ≡ Searching →
-    k.setup ≡ setup_of o → StandsFor k (runs H o.search) → IsReady o (runs H o.search) k
-is_ready H o k legal opened searching same stands =
-    let told = runs H o.search in
-    let within = open_within H o legal opened in
-    let facts = setup_facts o within in
+-- a belief is that of a search, opened within the limits, after these runs
+pub record IsBeliefOf (o : Opening) (told : List Run) (k : Kept) : Type 0 where
+  pub within : OpenWithin o
+  pub setup : k.setup ≡ setup_of o
+  pub stands : StandsFor k told
+
+-- what its sums are
+record HasSums (o : Opening) (told : List Run) (k : Kept) : Type 0 where
+  total : 1 ≤ total (setup_of o) told
+  sums : AreCumulative (setup_of o) told k.sums
+  floor_is : k.floor ≡ floor (setup_of o).factors told
+  room : whole k.sums * BASIS_POINTS < 2 ^ 128
+  many : length k.sums ≡ length o.range.suspects + 1
+
+has_sums : (o : Opening) (told : List Run) (k : Kept) → IsBeliefOf o told k → HasSums o told k
+has_sums o told k b =
+    let facts = setup_facts o b.within in
+    let sums : AreCumulative (setup_of o) told k.sums =
+    subst (λ (s : Setup). AreCumulative s told k.sums) b.setup (are_cumulative k told b.stands) in
     record {
       total = total_positive (setup_of o) told facts.calm facts.fail_out facts.pass_out
-          (runs-in_range H o legal opened);
-      sums = subst (λ (s : Setup). AreCumulative s told k.sums) same (are_cumulative k told stands);
-      floor_is = stands.floor_is ∙ ap (λ (s : Setup). floor s.factors told) same;
-      left = some-left (setup_of o) told facts (searching-at_bar H o (ap is_searching searching));
+          (subst (λ (s : Setup). AreInRange s told) b.setup b.stands.in_range);
+      sums = sums;
+      floor_is = b.stands.floor_is ∙ ap (λ (s : Setup). floor s.factors told) b.setup;
+      room = subst (λ (n : ℕ). at k.sums n * BASIS_POINTS < 2 ^ 128) (sym b.stands.as_many) b.stands.fits;
+      many = sums.one_each ∙ hypotheses-of o;
     }
 
--- positions can be picked by the sums
-pub can_pick : (H : List Entry) (o : Opening) (k : Kept) → IsLegal H → Contains (openings H) o →
-    standing H o ≡ Searching →
-    k.setup ≡ setup_of o → StandsFor k (runs H o.search) → CanPick k.floor k.sums
-can_pick H o k legal opened searching same stands =
-    let told = runs H o.search in
-    let ready = is_ready H o k legal opened searching same stands in
-    let range = (open_within H o legal opened).range in
-    let many : hypotheses (setup_of o) ≡ length o.range.suspects + 1 = hypotheses-of o in
+-- positions can be picked by it while no hypothesis is at the bar
+pub belief-can_pick : (o : Opening) (told : List Run) (k : Kept) → IsBeliefOf o told k →
+    reached (setup_of o) told ≡ None → CanPick k.floor k.sums
+belief-can_pick o told k b none =
+    let has = has_sums o told k b in
+    let range = b.within.range in
+    let left : floor (setup_of o).factors told < suspects (setup_of o) =
+    some-left (setup_of o) told (setup_facts o b.within) none in
     let rises : RiseAbove (floor (setup_of o).factors told) k.sums =
-    RiseAbove-cumulative (setup_of o) told k.sums ready.sums ready.total (prior_positive o range) (are_positive o) in
-    let room : whole k.sums * BASIS_POINTS < 2 ^ 128 =
-    subst (λ (n : ℕ). at k.sums n * BASIS_POINTS < 2 ^ 128) (sym stands.as_many) stands.fits in
+    RiseAbove-cumulative (setup_of o) told k.sums has.sums has.total (prior_positive o range) (are_positive o) in
     record {
-      few = omega (arith, ready.sums.one_each, many, range.few);
-      some = omega (arith, ready.sums.one_each, ready.floor_is, ready.left);
-      rising = subst (λ (n : ℕ). RiseAbove n k.sums) (sym ready.floor_is) rises;
-      room = room;
+      few = omega (arith, has.many, range.few);
+      some = omega (arith, has.sums.one_each, has.floor_is, left);
+      rising = subst (λ (n : ℕ). RiseAbove n k.sums) (sym has.floor_is) rises;
+      room = has.room;
     }
 
--- the positions that are picked are the plan
-pub planned : (H : List Entry) (o : Opening) (k : Kept) (positions : List ℕ) → IsLegal H → Contains (openings H) o →
-    standing H o ≡ Searching → k.setup ≡ setup_of o → StandsFor k (runs H o.search) →
-    ArePicks k.sums k.floor o.width positions → positions ≡ plan (setup_of o) (runs H o.search) o.width
-planned H o k positions legal opened searching same stands picks =
-    let ready = is_ready H o k legal opened searching same stands in
-    ArePicks-plan (setup_of o) (runs H o.search) k.sums positions o.width ready.sums ready.total ready.left
-    (subst (λ (n : ℕ). ArePicks k.sums n o.width positions) ready.floor_is picks)
+-- the middle of its sums can be looked for
+pub belief-can_halve : (o : Opening) (told : List Run) (k : Kept) → IsBeliefOf o told k → CanHalve k.sums
+belief-can_halve o told k b =
+    let has = has_sums o told k b in
+    let range = b.within.range in
+    record {
+      some = omega (arith, has.many, range.some);
+      few = omega (arith, has.many, range.few);
+      rising = AreRising-cumulative (setup_of o) told k.sums has.sums has.total;
+      room = has.room;
+    }
+
+-- what is picked by it is a position of the plan, whatever was skipped
+pub belief-picks : (o : Opening) (told : List Run) (k : Kept) (skipped : List ℕ) (j : ℕ) → IsBeliefOf o told k →
+    open_pick_in k.sums k.floor skipped j o.width ≡ open_pick (setup_of o) told skipped o.width j
+belief-picks o told k skipped j b =
+    let has = has_sums o told k b in
+    ap (λ (n : ℕ). open_pick_in k.sums n skipped j o.width) has.floor_is
+    ∙ open_pick_in-open_pick (setup_of o) told k.sums skipped j o.width has.sums has.total
+
+pub belief-plan : (o : Opening) (told : List Run) (k : Kept) (skipped : List ℕ) → IsBeliefOf o told k →
+    open_plan_in k.sums k.floor skipped o.width ≡ open_plan (setup_of o) told skipped o.width
+belief-plan o told k skipped b =
+    let has = has_sums o told k b in
+    ap (λ (n : ℕ). open_plan_in k.sums n skipped o.width) has.floor_is
+    ∙ open_plan_in-open_plan (setup_of o) told k.sums skipped o.width has.sums has.total
+
+-- and it says whether the block round the middle is at the bar
+pub belief-hidden : (o : Opening) (told : List Run) (k : Kept) (skipped : List ℕ) → IsBeliefOf o told k →
+    is_hidden_in (bar_numerator o.bar) (bar_denominator o.bar) k.sums skipped ≡ is_hidden (setup_of o) told skipped
+belief-hidden o told k skipped b =
+    let has = has_sums o told k b in
+    is_hidden_in-is_hidden (setup_of o) told k.sums skipped has.sums has.total
+
+-- The same of a search of a legal history.
+
+pub belief_of : (H : List Entry) (o : Opening) (k : Kept) → IsLegal H → Contains (openings H) o →
+    k.setup ≡ setup_of o → StandsFor k (runs H o.search) → IsBeliefOf o (runs H o.search) k
+belief_of H o k legal opened same stands =
+    record { within = open_within H o legal opened; setup = same; stands = stands }
+
+pub can_pick : (H : List Entry) (o : Opening) (k : Kept) → IsLegal H → Contains (openings H) o → at_bar H o ≡ None →
+    k.setup ≡ setup_of o → StandsFor k (runs H o.search) → CanPick k.floor k.sums
+can_pick H o k legal opened none same stands =
+    belief-can_pick o (runs H o.search) k (belief_of H o k legal opened same stands) none
+
+pub can_halve : (H : List Entry) (o : Opening) (k : Kept) → IsLegal H → Contains (openings H) o →
+    k.setup ≡ setup_of o → StandsFor k (runs H o.search) → CanHalve k.sums
+can_halve H o k legal opened same stands =
+    belief-can_halve o (runs H o.search) k (belief_of H o k legal opened same stands)
+
+pub open_picked : (H : List Entry) (o : Opening) (k : Kept) (skipped : List ℕ) (j : ℕ) → IsLegal H →
+    Contains (openings H) o → k.setup ≡ setup_of o → StandsFor k (runs H o.search) →
+    open_pick_in k.sums k.floor skipped j o.width ≡ open_pick (setup_of o) (runs H o.search) skipped o.width j
+open_picked H o k skipped j legal opened same stands =
+    belief-picks o (runs H o.search) k skipped j (belief_of H o k legal opened same stands)
+
+pub open_planned : (H : List Entry) (o : Opening) (k : Kept) (skipped : List ℕ) → IsLegal H →
+    Contains (openings H) o → k.setup ≡ setup_of o → StandsFor k (runs H o.search) →
+    open_plan_in k.sums k.floor skipped o.width ≡ open_plan (setup_of o) (runs H o.search) skipped o.width
+open_planned H o k skipped legal opened same stands =
+    belief-plan o (runs H o.search) k skipped (belief_of H o k legal opened same stands)
+
+pub hidden-told : (H : List Entry) (o : Opening) (k : Kept) (skipped : List ℕ) → IsLegal H →
+    Contains (openings H) o → k.setup ≡ setup_of o → StandsFor k (runs H o.search) →
+    is_hidden_in (bar_numerator o.bar) (bar_denominator o.bar) k.sums skipped
+    ≡ is_hidden (setup_of o) (runs H o.search) skipped
+hidden-told H o k skipped legal opened same stands =
+    belief-hidden o (runs H o.search) k skipped (belief_of H o k legal opened same stands)

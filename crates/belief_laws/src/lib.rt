@@ -9,4 +9,6 @@
 
 mod laws;
 
-pub use laws::{beliefs_meet_what_picks_ask, openings_meet_what_beliefs_ask};
+pub use laws::{
+    beliefs_meet_what_picks_ask, beliefs_say_what_is_open, openings_meet_what_beliefs_ask,
+};

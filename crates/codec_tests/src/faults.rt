@@ -17,7 +17,7 @@ fn short_entries_are_refused(rt: HostRuntime) -> Result<(), Fail> {
         ),
         ("no tag", "0000000005f5e100"),
         ("a tag below the first", "0000000005f5e10000"),
-        ("a tag above the last", "0000000005f5e10008000000010201"),
+        ("a tag above the last", "0000000005f5e10009000000010201"),
         (
             "a lease that is too short",
             "0000000005f5e10001000003e7000a02d0",
@@ -72,6 +72,15 @@ fn short_entries_are_refused(rt: HostRuntime) -> Result<(), Fail> {
         ("a verdict above the last", "0000000005f5e10004000000010301"),
         ("a fate below the first", "0000000005f5e10004000000010200"),
         ("a fate above the last", "0000000005f5e10004000000010204"),
+        (
+            "a fate of a skip below the first",
+            "0000000005f5e100080000000100",
+        ),
+        (
+            "a fate of a skip above the last",
+            "0000000005f5e100080000000103",
+        ),
+        ("a skip without its fate", "0000000005f5e1000800000001"),
         (
             "a number that is cut off",
             "0000000005f5e10005000102030405060708090a0b0c0d0e0f000000",
@@ -261,6 +270,15 @@ fn the_first_fault_is_told(rt: HostRuntime) -> Result<(), Fail> {
         (
             "0000000005265c00010000ea60000a02d00000000005f5e10004000000010204",
             Some(17),
+        ),
+        // A skip behind a report, and one with a wrong fate.
+        (
+            "0000000005f5e100040000000102010000000005f5e100080000000201",
+            None,
+        ),
+        (
+            "0000000005f5e100040000000102010000000005f5e100080000000203",
+            Some(15),
         ),
         // A byte is left, and one is missing.
         ("0000000005f5e1000400000001020100", Some(15)),

@@ -1,7 +1,7 @@
 //! Each kind of entry, by bytes that were worked out by hand.
 
 use crate::bytes::is_spelled;
-use farm_entry::{BoxedOpening, Entry, Fate, Opening, Settings, What};
+use farm_entry::{BoxedOpening, Entry, Fate, Opening, Settings, SkipFate, What};
 use farm_types::{CommitId, Key, Moment, Name, Stage};
 use flake_rate::{Bar, Miss, Rate};
 use std::alloc::Global;
@@ -107,6 +107,20 @@ fn leases_and_reports_are_their_bytes(rt: HostRuntime) -> Result<(), Fail> {
         fate: Fate::Counted,
     })?;
     is_spelled(&rt, rt.alloc(), "0000000005f5e10004000000010201", &reported)
+}
+
+#[test]
+fn skips_are_their_bytes(rt: HostRuntime) -> Result<(), Fail> {
+    let taken = entry(What::Skipped {
+        run: 1,
+        fate: SkipFate::Taken,
+    })?;
+    is_spelled(&rt, rt.alloc(), "0000000005f5e100080000000101", &taken)?;
+    let late = entry(What::Skipped {
+        run: u32::MAX,
+        fate: SkipFate::Late,
+    })?;
+    is_spelled(&rt, rt.alloc(), "0000000005f5e10008ffffffff02", &late)
 }
 
 #[test]

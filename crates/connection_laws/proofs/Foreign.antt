@@ -57,6 +57,7 @@ pub show-adds_none : (H : List Entry) (q : Command) (m : Moment) → is_show q �
 show-adds_none H (command.Open ask) m shows = absurd (false≢true shows)
 show-adds_none H (command.Lease key worker) m shows = absurd (false≢true shows)
 show-adds_none H (command.Report run verdict) m shows = absurd (false≢true shows)
+show-adds_none H (command.Skip run) m shows = absurd (false≢true shows)
 show-adds_none H (command.Cancel key search) m shows = absurd (false≢true shows)
 show-adds_none H (command.TakeRevert key agent) m shows = absurd (false≢true shows)
 show-adds_none H (command.ShowSearch search) m shows =

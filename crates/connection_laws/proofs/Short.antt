@@ -178,7 +178,7 @@ lease-said json =
 
 report-said : (run : ℕ) (json : Data) → IsSaid (report_in run json)
 unfolding report_in
-report-said run json = and_then-said _ _ (field-said _ _ json) (λ verdict. ok-said _)
+report-said run json = field-said _ _ json
 
 cancel-said : (search : ℕ) (json : Data) → IsSaid (cancel_in search json)
 unfolding cancel_in

@@ -16,6 +16,9 @@ const OPENS: u32 = 3;
 /// How many of the last runs most reports are of.
 const LAST_RUNS: u32 = 10;
 
+/// More than a search has positions.
+const TREES: u32 = 4_096;
+
 // Spreads a seed and a number over 64 bits.
 fn mixed(seed: u32, number: u32) -> u64 {
     let both = u64::from(seed) << 32 | u64::from(number);
@@ -90,6 +93,29 @@ fn verdict(history: &[Entry], seed: u32, run: u32, dice: &mut Dice) -> Verdict {
     }
 }
 
+// Whether a run is reported as one whose tree can't be tested: one position in six of each search is such, and any run
+// now and then.
+fn is_untestable(history: &[Entry], seed: u32, run: u32, dice: &mut Dice) -> bool {
+    let tree = match lease_of(history, run) {
+        Some(lease) => lease
+            .search
+            .saturating_mul(TREES)
+            .saturating_add(u32::from(lease.position)),
+        None => 0,
+    };
+    Dice::of(mixed(seed, tree)).below(6) == 0 || dice.below(60) == 0
+}
+
+// The report of a run.
+fn report(history: &[Entry], seed: u32, run: u32, dice: &mut Dice) -> Command {
+    let verdict = verdict(history, seed, run, dice);
+    if is_untestable(history, seed, run, dice) {
+        Command::Skip { run }
+    } else {
+        Command::Report { run, verdict }
+    }
+}
+
 /// The command with a number. Of those with a key one in twelve or so stood before, with what it asked for or with
 /// something else.
 pub(crate) fn command(
@@ -106,8 +132,7 @@ pub(crate) fn command(
         114..=119 => keyed(alloc, seed, number, earlier),
         120..=223 => {
             let run = run(history, dice);
-            let verdict = verdict(history, seed, run, dice);
-            Ok(Command::Report { run, verdict })
+            Ok(report(history, seed, run, dice))
         }
         224..=226 => Ok(Command::ShowFarm),
         227..=229 => Ok(Command::ShowOrders),

@@ -1,7 +1,8 @@
 //! Scripts of words, whose answers are printed. `open:KEY` opens a search for one of two suspects and `lease:KEY` asks
 //! for a run, each so many minutes after the founding as its key says; `opens:COUNT` and `leases:COUNT` do so under
-//! each key from 1 on, and print the last answer; `farm` shows the totals, `entry:PLACE` prints an entry,
-//! `retract:COUNT` takes the last entries back, and `admit:PLACE` admits the entry that was first made at a place.
+//! each key from 1 on, and print the last answer; `pass:RUN`, `fail:RUN` and `skip:RUN` report a run, `farm` shows the
+//! totals and `page:SEARCH` the page of a search, `entry:PLACE` prints an entry, `retract:COUNT` takes the last entries
+//! back, and `admit:PLACE` admits the entry that was first made at a place.
 
 use crate::asks::{PLAIN, lease, open};
 use crate::moments::moment_or;
@@ -9,9 +10,10 @@ use crate::table::{Table, admit_copy, take_back};
 use crate::words::number_of;
 use farm_core::{CoreFault, Farm, Prepared};
 use farm_entry::{Command, Reply};
-use farm_types::Moment;
+use farm_types::{Memory, Moment};
 use std::alloc::Global;
 use std::io;
+use weight_exact::Verdict;
 
 /// A minute in milliseconds, which is how long a lease lasts.
 const MINUTE_MS: u64 = 60_000;
@@ -29,6 +31,25 @@ fn call(farm: &mut Farm, command: &Command, at: Moment) -> Result<Reply, CoreFau
     }
 }
 
+// The command of a word with a number.
+fn command_of(alloc: Global, name: &str, number: u32) -> Result<Command, Memory> {
+    match name {
+        "open" | "opens" => open(alloc, number, PLAIN),
+        "lease" | "leases" => lease(alloc, number),
+        "pass" => Ok(Command::Report {
+            run: number,
+            verdict: Verdict::Pass,
+        }),
+        "fail" => Ok(Command::Report {
+            run: number,
+            verdict: Verdict::Fail,
+        }),
+        "skip" => Ok(Command::Skip { run: number }),
+        "page" => Ok(Command::ShowSearch { search: number }),
+        _ => Ok(Command::ShowFarm),
+    }
+}
+
 // Asks a farm for the command of a word with a number.
 fn ask(
     alloc: Global,
@@ -38,12 +59,7 @@ fn ask(
     number: u32,
 ) -> Result<Reply, CoreFault> {
     let waited = MINUTE_MS.saturating_mul(u64::from(number));
-    let command = match name {
-        "open" | "opens" => open(alloc, number, PLAIN),
-        "lease" | "leases" => lease(alloc, number),
-        _ => Ok(Command::ShowFarm),
-    };
-    match command {
+    match command_of(alloc, name, number) {
         Ok(command) => call(
             farm,
             &command,

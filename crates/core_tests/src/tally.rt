@@ -1,18 +1,19 @@
 //! How often each thing came up in plays.
 
 use farm_core::{AdmitFault, CoreFault, Prepared};
-use farm_entry::{Fate, OpenFault, Refusal, Reply, Standing};
+use farm_entry::{Fate, OpenFault, Refusal, Reply, SkipFate, Standing};
 use std::io;
 use suspect_range::RangeFault;
 
 /// How many kinds of things are counted.
-const KINDS: usize = 42;
+const KINDS: usize = 45;
 
 /// The kinds, in the order in which they are told.
 const NAMES: [&str; KINDS] = [
     "opened",
     "leased",
     "reported",
+    "skipped",
     "cancelled",
     "ordered",
     "search shown",
@@ -23,6 +24,8 @@ const NAMES: [&str; KINDS] = [
     "counted",
     "late",
     "over",
+    "skip taken",
+    "skip late",
     "searching",
     "verifying",
     "confirmed",
@@ -99,6 +102,7 @@ impl Tally {
         self.note(kind_of_reply(reply));
         match reply {
             Reply::Reported { fate, .. } => self.note(kind_of_fate(*fate)),
+            Reply::Skipped { fate, .. } => self.note(kind_of_skip(*fate)),
             Reply::Search(page) => self.note(kind_of_standing(page.standing)),
             _ => {}
         }
@@ -118,6 +122,7 @@ fn kind_of_reply(reply: &Reply) -> &'static str {
         Reply::Opened { .. } => "opened",
         Reply::Leased { .. } => "leased",
         Reply::Reported { .. } => "reported",
+        Reply::Skipped { .. } => "skipped",
         Reply::Cancelled { .. } => "cancelled",
         Reply::Ordered { .. } => "ordered",
         Reply::Search(_) => "search shown",
@@ -131,6 +136,13 @@ fn kind_of_fate(fate: Fate) -> &'static str {
         Fate::Counted => "counted",
         Fate::Late => "late",
         Fate::Over => "over",
+    }
+}
+
+fn kind_of_skip(fate: SkipFate) -> &'static str {
+    match fate {
+        SkipFate::Taken => "skip taken",
+        SkipFate::Late => "skip late",
     }
 }
 

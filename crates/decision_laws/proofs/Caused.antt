@@ -11,9 +11,9 @@ use Rattle.farm_rules.specs.declared.orders.Draft.{Draft}
 use Rattle.farm_rules.specs.declared.orders.NoOrder.{NoOrder}
 use Rattle.farm_rules.specs.declared.orders.NoOrder.TheVariants as none
 use Rattle.farm_types.specs.Moment.{moment_ms}
-use Rattle.farm_entry.specs.Decision.{add_opening, asked_before, asks_for, decide, key_of, cancel_decision, keyed_decision, known_decision, lease_decision, moment_used, own_decision, page_decision, refuse_opening, repeat_or_clash, report_decision, revert_decision, shape_decision}
+use Rattle.farm_entry.specs.Decision.{add_opening, asked_before, asks_for, decide, key_of, cancel_decision, keyed_decision, known_decision, lease_decision, moment_used, own_decision, page_decision, refuse_opening, repeat_or_clash, report_decision, revert_decision, shape_decision, skip_decision}
 use Rattle.farm_entry.specs.Due.{next_run}
-use Rattle.farm_entry.specs.History.{key_in, lease_of, opening_numbered, openings, place_of_key, place_of_report}
+use Rattle.farm_entry.specs.History.{key_in, lease_of, opening_numbered, openings, place_of_key, place_of_report, told_in}
 use Rattle.farm_entry.specs.Legal.{IsLegal, ask_of, command_of}
 use Rattle.farm_entry.specs.Orders.{next_order_at}
 use Rattle.farm_entry.specs.Standing.{is_active, standing}
@@ -23,9 +23,8 @@ use Rattle.farm_entry.specs.declared.command.OpenAsk.{OpenAsk}
 use Rattle.farm_entry.specs.declared.decision.Decision.{Decision}
 use Rattle.farm_entry.specs.declared.decision.Decision.TheVariants.{New, Refuse, Repeat, Show}
 use Rattle.farm_entry.specs.declared.entry.Entry.{Entry}
-use Rattle.farm_entry.specs.declared.entry.Fate.{Fate}
 use Rattle.farm_entry.specs.declared.entry.What.{What}
-use Rattle.farm_entry.specs.declared.entry.What.TheVariants.{Founded, Opened, Leased, Reported, Cancelled, Ordered}
+use Rattle.farm_entry.specs.declared.entry.What.TheVariants.{Founded, Opened, Leased, Reported, Skipped, Cancelled, Ordered}
 use Rattle.farm_entry.specs.declared.lease.DueRun.{DueRun}
 use Rattle.farm_entry.specs.declared.lease.LeasedRun.{LeasedRun}
 use Rattle.farm_entry.specs.declared.limits.TheConstants.{MAX_SEARCHES}
@@ -34,9 +33,9 @@ use Rattle.farm_entry.specs.declared.refusal.OpenFault.{OpenFault}
 use Rattle.farm_entry.specs.declared.refusal.Refusal.{Refusal}
 use Rattle.farm_entry.specs.declared.refusal.Refusal.TheVariants.{BadOpen, DailyLimit, Full, KeyClash, NoRevert, NoRun, SearchEnded, TooManySearches, UnknownRun, UnknownSearch}
 use Rattle.farm_laws.proofs.Made.{is_made}
-use Rattle.farm_laws.proofs.Repeats.{Placed, all-placed}
-use Rattle.decision_laws.specs.Causes.{AsksTheSame, CauseOf, IsClash, IsFull, IsOutside, IsWhat, IsWithinLimits}
-use Rattle.decision_laws.proofs.Held.{at-key, at-report, asked-what, what-asked}
+use Rattle.farm_laws.proofs.Repeats.{all-placed}
+use Rattle.decision_laws.specs.Causes.{AsksTheSame, CauseOf, IsClash, IsFull, IsOutside, IsWhat, IsWithinLimits, run_told}
+use Rattle.decision_laws.proofs.Held.{at-key, at-report, asked-what, report-named, what-asked}
 use Rattle.decision_laws.proofs.Own.{caused, ended-refuses, many-refused, no_lease-refused, no_revert-refused, no_run-refused, no_search-refused, over_day-refused, own-refused}
 use Rattle.decision_laws.proofs.Parts.{FullSays, KnownSays, ShapeSays, Speaks, clashes, formed, full, full-decides, full-says, full-some, is_new, is_taken, known, known-decides, known-none, known-says, own, repeats, reported, shape, shape-decides, shape-none, shape-says, speaks, taken-decides}
 
@@ -73,7 +72,7 @@ clash-caused H q m r key place legal s keyed found asked is =
 known-caused : (H : List Entry) (q : Command) (m : Moment) (r : Refusal) → IsLegal H → shape_decision q ≡ None →
     KnownSays H q (Refuse r) → CauseOf r H q m
 known-caused H q m r legal s (repeats key place keyed found asked is) = absurd (repeat-refuse place r is)
-known-caused H q m r legal s (reported run verdict place names found is) = absurd (repeat-refuse place r is)
+known-caused H q m r legal s (reported run place names found is) = absurd (repeat-refuse place r is)
 known-caused H q m r legal s (clashes key place keyed found asked is) =
     clash-caused H q m r key place legal s keyed found asked is
 
@@ -105,6 +104,7 @@ pub known-keyed : (H : List Entry) (q : Command) (key : Key) → key_of q ≡ So
 known-keyed H (command.Open ask) key h = ap (keyed_decision H (command.Open ask)) h
 known-keyed H (command.Lease k worker) key h = ap (keyed_decision H (command.Lease k worker)) h
 known-keyed H (command.Report run verdict) key h = absurd (none-some key h)
+known-keyed H (command.Skip run) key h = absurd (none-some key h)
 known-keyed H (command.Cancel k search) key h = ap (keyed_decision H (command.Cancel k search)) h
 known-keyed H (command.TakeRevert k agent) key h = ap (keyed_decision H (command.TakeRevert k agent)) h
 known-keyed H (command.ShowSearch search) key h = absurd (none-some key h)
@@ -163,17 +163,10 @@ known-held H q place legal (repeats key p keyed found asked is) =
     let at = at-key H key p found in
     let asks : asks_for at.entry.what q ≡ true = sym (asked-there H q p at.entry at.there) ∙ asked in
     (at.entry, ap (slice_get H) (sym same) ∙ at.there, asked-what H p at.entry q key legal at.there at.is keyed asks)
-known-held H q place legal (reported run verdict p names found is) =
+known-held H q place legal (reported run p names found is) =
     let same : p ≡ place = cc in
-    let at = at-report H run p found in (
-      at.entry,
-      ap (slice_get H) (sym same) ∙ at.there,
-      (
-        command.Report run at.is.verdict,
-        ap command_of at.is.is,
-        (verdict, names),
-      ),
-    )
+    let at = at-report H run p found in
+    (at.entry, ap (slice_get H) (sym same) ∙ at.there, report-named run at.entry.what q at.is names)
 known-held H q place legal (clashes key p keyed found asked is) = absurd (refuse-repeat place (KeyClash p) is)
 
 shape-repeat : (q : Command) (place : ℕ) → ShapeSays q (Repeat place) → ⊥
@@ -209,6 +202,10 @@ report-new : (H : List Entry) (run : ℕ) (verdict : Verdict) (M : Moment) (l : 
 report-new H run verdict M None = refl
 report-new H run verdict M (Some l) = refl
 
+skip-new : (H : List Entry) (run : ℕ) (M : Moment) (l : Option LeasedRun) → is_repeat (skip_decision H run M l) ≡ false
+skip-new H run M None = refl
+skip-new H run M (Some l) = refl
+
 cancel-if : (new : Entry) (r : Refusal) (b : Bool) → is_repeat (if b then New new else Refuse r) ≡ false
 cancel-if new r true = refl
 cancel-if new r false = refl
@@ -233,6 +230,7 @@ own-new H (command.Open ask) M =
     open-new M (opening_of ask (length (openings H) + 1)) (nat_le MAX_SEARCHES (length (openings H)))
 own-new H (command.Lease key worker) M = lease-new H key worker M (next_run H (moment_ms M))
 own-new H (command.Report run verdict) M = report-new H run verdict M (lease_of H run)
+own-new H (command.Skip run) M = skip-new H run M (lease_of H run)
 own-new H (command.Cancel key search) M = cancel-new H key search M (opening_numbered H search)
 own-new H (command.TakeRevert key agent) M = revert-new key agent M (next_order_at H (moment_ms M))
 own-new H (command.ShowSearch search) M = page-new H search (opening_numbered H search)
@@ -253,8 +251,7 @@ repeated-held H q m place legal h = speaks-held H q m place legal (speaks H q m 
 -- And back: by which an entry that is what a command asks for is found, its key or its run.
 data Finds (what : What) (q : Command) : Type 0 where
   by_key : (key : Key) → key_in what ≡ Some key → key_of q ≡ Some key → Finds what q
-  by_run : (run : ℕ) (verdict other : Verdict) (fate : Fate) → what ≡ Reported run verdict fate →
-      q ≡ command.Report run other → Finds what q
+  by_run : (run : ℕ) → told_in what ≡ Some run → run_told q ≡ Some run → Finds what q
 
 keyed-same : (p q : Command) (what : What) (key : Key) → key_in what ≡ Some key → key_of p ≡ Some key → p ≡ q →
     Finds what q
@@ -272,10 +269,12 @@ finds (Leased k worker run search stage position deadline) p q names same =
     let first : p ≡ command.Lease k worker = sym (same_Some (command.Lease k worker) p names) in
     keyed-same (command.Lease k worker) q (Leased k worker run search stage position deadline) k refl refl
     (subst (λ (x : Command). AsksTheSame x q) first same)
-finds (Reported run verdict fate) p q names same =
+finds (Reported run verdict _) p q names same =
     let first : p ≡ command.Report run verdict = sym (same_Some (command.Report run verdict) p names) in
-    let here : AsksTheSame (command.Report run verdict) q = subst (λ (x : Command). AsksTheSame x q) first same in
-    by_run run verdict here.0 fate refl here.1
+    by_run run refl (subst (λ (x : Command). AsksTheSame x q) first same)
+finds (Skipped run _) p q names same =
+    let first : p ≡ command.Skip run = sym (same_Some (command.Skip run) p names) in
+    by_run run refl (subst (λ (x : Command). AsksTheSame x q) first same)
 finds (Cancelled k search) p q names same =
     let first : p ≡ command.Cancel k search = sym (same_Some (command.Cancel k search) p names) in
     keyed-same (command.Cancel k search) q (Cancelled k search) k refl refl (subst (λ (x : Command).
@@ -291,9 +290,8 @@ open-formed (command.Open first) q same ask is =
     let both : command.Open same.0 ≡ command.Open ask = sym same.1 ∙ is in
     let equal : same.0 ≡ ask = cc in
     (same.2, ap (λ (a : OpenAsk). opening_of a 0) (sym equal) ∙ same.4)
-open-formed (command.Report run verdict) q same ask is =
-    let both : command.Report run same.0 ≡ command.Open ask = sym same.1 ∙ is in
-    let b : true ≡ false = cc in absurd (true≢false b)
+open-formed (command.Report run verdict) q same ask is = absurd (none-some run (sym (ap run_told is) ∙ same))
+open-formed (command.Skip run) q same ask is = absurd (none-some run (sym (ap run_told is) ∙ same))
 open-formed (command.Lease k worker) q same ask is =
     let both : command.Lease k worker ≡ command.Open ask = same ∙ is in
     let b : true ≡ false = cc in absurd (true≢false b)
@@ -313,6 +311,21 @@ open-formed command.ShowOrders q same ask is =
     let both : command.ShowOrders ≡ command.Open ask = same ∙ is in
     let b : true ≡ false = cc in absurd (true≢false b)
 
+-- a command that reports a run is known by the place of the run's report
+known-told : (H : List Entry) (q : Command) (run place : ℕ) → run_told q ≡ Some run → place_of_report H run ≡ Some place →
+    known_decision H q ≡ Some (Repeat place)
+known-told H (command.Report r verdict) run place e found =
+    let same : r ≡ run = cc in ap (option_map Repeat) (ap (place_of_report H) same ∙ found)
+known-told H (command.Skip r) run place e found =
+    let same : r ≡ run = cc in ap (option_map Repeat) (ap (place_of_report H) same ∙ found)
+known-told H (command.Open ask) run place e found = absurd (none-some run e)
+known-told H (command.Lease k worker) run place e found = absurd (none-some run e)
+known-told H (command.Cancel k search) run place e found = absurd (none-some run e)
+known-told H (command.TakeRevert k agent) run place e found = absurd (none-some run e)
+known-told H (command.ShowSearch search) run place e found = absurd (none-some run e)
+known-told H command.ShowFarm run place e found = absurd (none-some run e)
+known-told H command.ShowOrders run place e found = absurd (none-some run e)
+
 found-repeated : (H : List Entry) (q : Command) (m : Moment) (place : ℕ) (e : Entry) → IsLegal H →
     slice_get H place ≡ Some e → IsWhat e q →
     shape_decision q ≡ None → Finds e.what q → decide H q m ≡ Repeat place
@@ -321,16 +334,9 @@ found-repeated H q m place e legal there is s (by_key key holds keyed) =
     known-decides H q m (Repeat place) s
     (keyed-at H q key place e true keyed (placed.by_key key holds) there
     (what-asked H place e q key legal there holds is))
-found-repeated H q m place e legal there is s (by_run run verdict other fate what names) =
+found-repeated H q m place e legal there is s (by_run run what names) =
     let placed = all-placed H legal place e there in
-    let p : Placed H place (Reported run verdict fate) = subst (Placed H place) what placed in
-    let found : place_of_report H run ≡ Some place = p.by_run (record {
-      run = run;
-      verdict = verdict;
-      fate =
-          fate;
-    }) refl in
-    known-decides H q m (Repeat place) s (ap (known_decision H) names ∙ ap (option_map Repeat) found)
+    known-decides H q m (Repeat place) s (known-told H q run place names (placed.by_run run what))
 
 pub held-repeated : (H : List Entry) (q : Command) (m : Moment) (place : ℕ) → IsLegal H → HoldsWhat H q place →
     decide H q m ≡ Repeat place

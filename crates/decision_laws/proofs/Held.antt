@@ -1,29 +1,27 @@
 -- The entry at the place of a key or of a report, and whether it is what a command asks for.
-use Rattle.std.proofs.Common.{◌≡◌, ℕ, Bool, true, false, List, [], ◌∷◌, slice_get, position, get_or, Option, Some, None, Result, Ok, Err, refl, sym, ap, subst, ◌∙◌, true≢false}
+use Rattle.std.proofs.Common.{◌≡◌, ℕ, Bool, true, List, [], ◌∷◌, slice_get, position, get_or, Option, Some, None, Result, Ok, Err, refl, sym, ap, subst, ◌∙◌, true≢false}
 use Rattle.std.proofs.lemmas.Bool.Decides.{Decides-eqb}
 use Rattle.std.proofs.lemmas.List.Quantifiers.{position-Some}
 use Rattle.std.proofs.lemmas.Option.{none-some, same_Some, slice_get-get_or}
 use Rattle.std.proofs.lemmas.Slice.Eq.{bytes_eq-Decides}
-use Rattle.weight_exact.specs.declared.run.Verdict.{Verdict}
 use Rattle.farm_types.specs.declared.key.Key.{Key}
 use Rattle.farm_entry.specs.Ask.{asked_bar, asked_miss, asked_range, asked_rate, asked_reruns, asked_width, opening_of}
 use Rattle.farm_entry.specs.Decision.{asks_for, key_of, makes_opening}
-use Rattle.farm_entry.specs.History.{has_key, is_key, is_of_run, is_report_of, key_in, place_of_key, place_of_report, report_in}
+use Rattle.farm_entry.specs.History.{has_key, is_key, is_of_run, is_report_of, key_in, place_of_key, place_of_report, told_in}
 use Rattle.farm_entry.specs.Legal.{IsLegal, ask_of, command_of}
 use Rattle.farm_entry.specs.declared.command.Command.{Command}
 use Rattle.farm_entry.specs.declared.command.Command.TheVariants as command
 use Rattle.farm_entry.specs.declared.command.OpenAsk.{OpenAsk}
 use Rattle.farm_entry.specs.declared.entry.Entry.{Entry}
-use Rattle.farm_entry.specs.declared.entry.Fate.{Fate}
 use Rattle.farm_entry.specs.declared.entry.What.{What}
-use Rattle.farm_entry.specs.declared.entry.What.TheVariants.{Founded, Opened, Leased, Reported, Cancelled, Ordered}
+use Rattle.farm_entry.specs.declared.entry.What.TheVariants.{Founded, Opened, Leased, Reported, Skipped, Cancelled, Ordered}
 use Rattle.farm_entry.specs.declared.opening.Opening.{Opening}
 use Rattle.farm_entry.specs.declared.refusal.OpenFault.{OpenFault}
 use Rattle.farm_laws.proofs.Again.{all_there, under}
 use Rattle.farm_laws.proofs.Made.{is_made}
 use Rattle.farm_laws.proofs.Repeats.{Placed, all-placed, same_text}
 use Rattle.farm_laws.proofs.SameEntries.{same_opening-Decides}
-use Rattle.decision_laws.specs.Causes.{AsksTheSame, IsWhat}
+use Rattle.decision_laws.specs.Causes.{AsksTheSame, IsWhat, run_told}
 
 -- The entry at a place.
 
@@ -63,27 +61,28 @@ at-key H key place h =
     let at = stands-at (has_key key) H place h in
     record { entry = at.entry; there = at.there; is = key-is key (key_in at.entry.what) at.is }
 
--- a report of a run
-pub record IsReportOf (run : ℕ) (what : What) : Type 0 where
-  pub verdict : Verdict
-  pub fate : Fate
-  pub is : what ≡ Reported run verdict fate
-
-report-is : (run : ℕ) (what : What) → is_of_run run (report_in what) ≡ true → IsReportOf run what
-report-is run (Reported r verdict fate) h =
-    let same : r ≡ run = (Decides-eqb r run).0 h in
-    record { verdict = verdict; fate = fate; is = ap (λ (n : ℕ). Reported n verdict fate) same }
-report-is run (Founded settings) h = absurd (true≢false (sym h))
-report-is run (Opened o) h = absurd (true≢false (sym h))
-report-is run (Leased key worker r search stage position deadline) h = absurd (true≢false (sym h))
-report-is run (Cancelled key search) h = absurd (true≢false (sym h))
-report-is run (Ordered key agent order commit search day) h = absurd (true≢false (sym h))
+-- the run of a report that is there
+run-is : (run : ℕ) (o : Option ℕ) → is_of_run run o ≡ true → o ≡ Some run
+run-is run None h = absurd (true≢false (sym h))
+run-is run (Some other) h = ap Some ((Decides-eqb other run).0 h)
 
 pub at-report : (H : List Entry) (run : ℕ) (place : ℕ) → place_of_report H run ≡ Some place →
-    StandsAt H place (λ (e : Entry). IsReportOf run e.what)
+    StandsAt H place (λ (e : Entry). told_in e.what ≡ Some run)
 at-report H run place h =
     let at = stands-at (is_report_of run) H place h in
-    record { entry = at.entry; there = at.there; is = report-is run at.entry.what at.is }
+    record { entry = at.entry; there = at.there; is = run-is run (told_in at.entry.what) at.is }
+
+-- the command that a report names reports the run
+pub report-named : (run : ℕ) (what : What) (q : Command) → told_in what ≡ Some run → run_told q ≡ Some run →
+    (p : Command) × (command_of what ≡ Some p) × AsksTheSame p q
+report-named run (Reported r verdict _) q h says =
+    (command.Report r verdict, refl, says ∙ sym h)
+report-named run (Skipped r _) q h says = (command.Skip r, refl, says ∙ sym h)
+report-named run (Founded settings) q h says = absurd (none-some run h)
+report-named run (Opened o) q h says = absurd (none-some run h)
+report-named run (Leased key worker r search stage position deadline) q h says = absurd (none-some run h)
+report-named run (Cancelled key search) q h says = absurd (none-some run h)
+report-named run (Ordered key agent order commit search day) q h says = absurd (none-some run h)
 
 -- What an entry is.
 
@@ -187,6 +186,7 @@ what-as (Leased k worker run search stage position deadline) p q key own holds n
     subst (λ (x : Command). asks_for (Leased k worker run search stage position deadline) x ≡ true) here
     (same_text worker)
 what-as (Reported run verdict _) p q key own holds names same = absurd (none-some key holds)
+what-as (Skipped run _) p q key own holds names same = absurd (none-some key holds)
 what-as (Cancelled k search) p q key own holds names same =
     let first : p ≡ command.Cancel k search = sym (same_Some (command.Cancel k search) p names) in
     let here : command.Cancel k search ≡ q = subst (λ (x : Command). AsksTheSame x q) first same in

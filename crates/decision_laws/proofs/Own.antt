@@ -1,5 +1,5 @@
 -- What a command's own case refuses, and why.
-use Rattle.std.proofs.Common.{◌≡◌, ℕ, ◌+◌, ◌≤◌, ◌⊎◌, Bool, true, false, not, nat_le, nat_lt, List, [], ◌∷◌, length, map, Contains, if◌then◌else◌, Option, Some, None, Result, Ok, Err, refl, sym, ap, subst, ◌||◌, inl, inr, ◌∙◌, ⊎_elim, arith, true≢false}
+use Rattle.std.proofs.Common.{◌≡◌, ℕ, ◌+◌, ◌≤◌, Bool, true, false, not, nat_le, nat_lt, List, [], ◌∷◌, length, map, Contains, if◌then◌else◌, Option, Some, None, Result, Ok, Err, refl, sym, ap, subst, ◌||◌, inl, inr, ◌∙◌, ⊎_elim, arith, true≢false}
 use Rattle.std.proofs.lemmas.Bool.{false_from_ne_true, not-false, not-true}
 use Rattle.std.proofs.lemmas.Bool.Decides.{nat_tests}
 use Rattle.std.proofs.lemmas.Option.{none-some}
@@ -17,7 +17,7 @@ use Rattle.farm_types.specs.declared.key.Key.{Key}
 use Rattle.farm_types.specs.declared.moment.Moment.{Moment}
 use Rattle.farm_rules.proofs.Earliest.{earliest-contained, earliest-none}
 use Rattle.farm_entry.specs.Ask.{asked_bar, asked_miss, asked_range, asked_rate, asked_reruns, asked_width, opening_of}
-use Rattle.farm_entry.specs.Decision.{add_opening, cancel_decision, lease_decision, moment_used, own_decision, page_decision, report_decision, revert_decision}
+use Rattle.farm_entry.specs.Decision.{add_opening, cancel_decision, lease_decision, moment_used, own_decision, page_decision, report_decision, revert_decision, skip_decision}
 use Rattle.farm_entry.specs.Due.{due, due_runs, next_run, soonest}
 use Rattle.farm_entry.specs.History.{daily_limit, lease_of, opening_numbered, openings, order_lines}
 use Rattle.farm_entry.specs.Orders.{confirmed_at, confirmed_searches, day_in, next_order_at, ordered, orders}
@@ -43,7 +43,7 @@ use Rattle.farm_laws.proofs.Again.{all_there}
 use Rattle.farm_laws.proofs.Known.{made-from}
 use Rattle.farm_laws.proofs.Lists.{contains-head, contains-nil, contains-cons, contains-tail, filter-nil, filter-there, filter_map-nil, filter_map-there, nil-filter, nil-filter_map, there-filter}
 use Rattle.farm_laws.proofs.Made.{is_made}
-use Rattle.decision_laws.specs.Causes.{CauseOf, HasEnded, HasManySearches, HasNoRevert, HasNoRun, IsOfNoLease, IsOfNoSearch, IsOrdered, IsOverDay, IsTaken}
+use Rattle.decision_laws.specs.Causes.{CauseOf, HasEnded, HasManySearches, HasNoRevert, HasNoRun, IsOfNoLease, IsOfNoSearch, IsOrdered, IsOverDay, IsTaken, run_told}
 
 -- a decision that refuses, and one that doesn't
 new-refuse : (e : Entry) (r : Refusal) → New e ≡ Refuse r → ⊥
@@ -121,14 +121,15 @@ report-refused : (H : List Entry) (run : ℕ) (verdict : Verdict) (m M : Moment)
     IsTaken H (command.Report run verdict) → lease_of H run ≡ l → report_decision H run verdict M l ≡ Refuse r →
     CauseOf r H (command.Report run verdict) m
 report-refused H run verdict m M r None t e h =
-    caused H (command.Report run verdict) m (UnknownRun run) r (record {
-      taken = t;
-      verdict = verdict;
-      reports =
-          refl;
-      unknown = e;
-    }) h
+    caused H (command.Report run verdict) m (UnknownRun run) r (record { taken = t; reports = refl; unknown = e }) h
 report-refused H run verdict m M r (Some l) t e h = absurd (new-refuse _ r h)
+
+skip-refused : (H : List Entry) (run : ℕ) (m M : Moment) (r : Refusal) (l : Option LeasedRun) →
+    IsTaken H (command.Skip run) → lease_of H run ≡ l → skip_decision H run M l ≡ Refuse r →
+    CauseOf r H (command.Skip run) m
+skip-refused H run m M r None t e h =
+    caused H (command.Skip run) m (UnknownRun run) r (record { taken = t; reports = refl; unknown = e }) h
+skip-refused H run m M r (Some l) t e h = absurd (new-refuse _ r h)
 
 -- Cancellations.
 
@@ -383,6 +384,8 @@ own-refused H (command.Lease key worker) m r t h =
     lease-refused H key worker m r (next_run H (moment_ms (moment_used H m))) t refl h
 own-refused H (command.Report run verdict) m r t h =
     report-refused H run verdict m (moment_used H m) r (lease_of H run) t refl h
+own-refused H (command.Skip run) m r t h =
+    skip-refused H run m (moment_used H m) r (lease_of H run) t refl h
 own-refused H (command.Cancel key search) m r t h =
     cancel-refused H key search m (moment_used H m) r (opening_numbered H search) t refl h
 own-refused H (command.TakeRevert key agent) m r t h =
@@ -407,10 +410,25 @@ no_run-refused H q m c =
     ap (λ (x : Command). own_decision H x (moment_used H m)) c.leases
     ∙ ap (lease_decision H c.key c.worker (moment_used H m)) (due-none H (moment_ms (moment_used H m)) c.none)
 
+unknown-refused : (H : List Entry) (q : Command) (run : ℕ) (M : Moment) → run_told q ≡ Some run → lease_of H run ≡ None →
+    own_decision H q M ≡ Refuse (UnknownRun run)
+unknown-refused H (command.Report r verdict) run M e none =
+    let same : r ≡ run = cc in
+    ap (report_decision H r verdict M) (ap (lease_of H) same ∙ none) ∙ ap (λ (n : ℕ). Refuse (UnknownRun n)) same
+unknown-refused H (command.Skip r) run M e none =
+    let same : r ≡ run = cc in
+    ap (skip_decision H r M) (ap (lease_of H) same ∙ none) ∙ ap (λ (n : ℕ). Refuse (UnknownRun n)) same
+unknown-refused H (command.Open ask) run M e none = absurd (none-some run e)
+unknown-refused H (command.Lease k worker) run M e none = absurd (none-some run e)
+unknown-refused H (command.Cancel k search) run M e none = absurd (none-some run e)
+unknown-refused H (command.TakeRevert k agent) run M e none = absurd (none-some run e)
+unknown-refused H (command.ShowSearch search) run M e none = absurd (none-some run e)
+unknown-refused H command.ShowFarm run M e none = absurd (none-some run e)
+unknown-refused H command.ShowOrders run M e none = absurd (none-some run e)
+
 pub no_lease-refused : (H : List Entry) (q : Command) (run : ℕ) (M : Moment) → IsOfNoLease H q run →
     own_decision H q M ≡ Refuse (UnknownRun run)
-no_lease-refused H q run M c =
-    ap (λ (x : Command). own_decision H x M) c.reports ∙ ap (report_decision H run c.verdict M) c.unknown
+no_lease-refused H q run M c = unknown-refused H q run M c.reports c.unknown
 
 pub no_search-refused : (H : List Entry) (q : Command) (search : ℕ) (M : Moment) → IsOfNoSearch H q search →
     own_decision H q M ≡ Refuse (UnknownSearch search)

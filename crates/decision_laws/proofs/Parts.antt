@@ -3,7 +3,6 @@ use Rattle.std.proofs.Common.{◌≡◌, ℕ, ◌<◌, ◌≤◌, ◌⊎◌, Boo
 use Rattle.std.specs.Option.{option_map}
 use Rattle.std.proofs.lemmas.Bool.Decides.{nat_tests}
 use Rattle.std.proofs.lemmas.Option.{none-some}
-use Rattle.weight_exact.specs.declared.run.Verdict.{Verdict}
 use Rattle.farm_types.specs.declared.key.Key.{Key}
 use Rattle.farm_types.specs.declared.moment.Moment.{Moment}
 use Rattle.farm_entry.specs.Ask.{opening_of}
@@ -19,7 +18,7 @@ use Rattle.farm_entry.specs.declared.limits.TheConstants.{MAX_ENTRIES}
 use Rattle.farm_entry.specs.declared.opening.Opening.{Opening}
 use Rattle.farm_entry.specs.declared.refusal.OpenFault.{OpenFault}
 use Rattle.farm_entry.specs.declared.refusal.Refusal.TheVariants.{BadOpen, Full, KeyClash}
-use Rattle.decision_laws.specs.Causes.{IsNew, IsTaken, IsWellFormed, IsWithinLimits}
+use Rattle.decision_laws.specs.Causes.{IsNew, IsTaken, IsWellFormed, IsWithinLimits, run_told}
 use Rattle.farm_laws.proofs.Stepped.{map-none}
 
 -- Which part of a decision speaks: the shape, the key or the run, the room, or the command's own case.
@@ -103,6 +102,7 @@ pub formed : (q : Command) → shape_decision q ≡ None → IsWellFormed q
 formed (command.Open ask) h other e = formed-open ask h other e
 formed (command.Lease key worker) h other e = absurd (let b : true ≡ false = cc in true≢false b)
 formed (command.Report run verdict) h other e = absurd (let b : true ≡ false = cc in true≢false b)
+formed (command.Skip run) h other e = absurd (let b : true ≡ false = cc in true≢false b)
 formed (command.Cancel key search) h other e = absurd (let b : true ≡ false = cc in true≢false b)
 formed (command.TakeRevert key agent) h other e = absurd (let b : true ≡ false = cc in true≢false b)
 formed (command.ShowSearch search) h other e = absurd (let b : true ≡ false = cc in true≢false b)
@@ -113,6 +113,7 @@ pub shape-none : (q : Command) → IsWellFormed q → shape_decision q ≡ None
 shape-none (command.Open ask) h = ap refuse_opening (h ask refl).1
 shape-none (command.Lease key worker) h = refl
 shape-none (command.Report run verdict) h = refl
+shape-none (command.Skip run) h = refl
 shape-none (command.Cancel key search) h = refl
 shape-none (command.TakeRevert key agent) h = refl
 shape-none (command.ShowSearch search) h = refl
@@ -136,6 +137,7 @@ pub shape-says : (q : Command) (d : Decision) → shape_decision q ≡ Some d �
 shape-says (command.Open ask) d h = refused_by ask (opening_of ask 0) d refl h
 shape-says (command.Lease key worker) d h = absurd (none-some _ h)
 shape-says (command.Report run verdict) d h = absurd (none-some _ h)
+shape-says (command.Skip run) d h = absurd (none-some _ h)
 shape-says (command.Cancel key search) d h = absurd (none-some _ h)
 shape-says (command.TakeRevert key agent) d h = absurd (none-some _ h)
 shape-says (command.ShowSearch search) d h = absurd (none-some _ h)
@@ -160,25 +162,30 @@ pub new-key : (H : List Entry) (q : Command) → known_decision H q ≡ None →
 new-key H (command.Open ask) h key e = keyed-new H (command.Open ask) ask.key h key e
 new-key H (command.Lease k worker) h key e = keyed-new H (command.Lease k worker) k h key e
 new-key H (command.Report run verdict) h key e = no_key key H e
+new-key H (command.Skip run) h key e = no_key key H e
 new-key H (command.Cancel k search) h key e = keyed-new H (command.Cancel k search) k h key e
 new-key H (command.TakeRevert k agent) h key e = keyed-new H (command.TakeRevert k agent) k h key e
 new-key H (command.ShowSearch search) h key e = no_key key H e
 new-key H command.ShowFarm h key e = no_key key H e
 new-key H command.ShowOrders h key e = no_key key H e
 
-pub new-run : (H : List Entry) (q : Command) → known_decision H q ≡ None → (run : ℕ) (verdict : Verdict) →
-    q ≡ command.Report run verdict →
+report-new : (H : List Entry) (r : ℕ) → option_map Repeat (place_of_report H r) ≡ None → (run : ℕ) → Some r ≡ Some run →
     place_of_report H run ≡ None
-new-run H (command.Report r v) h run verdict e =
+report-new H r h run e =
     let same : r ≡ run = cc in
     ap (place_of_report H) (sym same) ∙ map-none Repeat (place_of_report H r) h
-new-run H (command.Open ask) h run verdict e = absurd (let b : true ≡ false = cc in true≢false b)
-new-run H (command.Lease k worker) h run verdict e = absurd (let b : true ≡ false = cc in true≢false b)
-new-run H (command.Cancel k search) h run verdict e = absurd (let b : true ≡ false = cc in true≢false b)
-new-run H (command.TakeRevert k agent) h run verdict e = absurd (let b : true ≡ false = cc in true≢false b)
-new-run H (command.ShowSearch search) h run verdict e = absurd (let b : true ≡ false = cc in true≢false b)
-new-run H command.ShowFarm h run verdict e = absurd (let b : true ≡ false = cc in true≢false b)
-new-run H command.ShowOrders h run verdict e = absurd (let b : true ≡ false = cc in true≢false b)
+
+pub new-run : (H : List Entry) (q : Command) → known_decision H q ≡ None → (run : ℕ) → run_told q ≡ Some run →
+    place_of_report H run ≡ None
+new-run H (command.Report r v) h run e = report-new H r h run e
+new-run H (command.Skip r) h run e = report-new H r h run e
+new-run H (command.Open ask) h run e = absurd (none-some run e)
+new-run H (command.Lease k worker) h run e = absurd (none-some run e)
+new-run H (command.Cancel k search) h run e = absurd (none-some run e)
+new-run H (command.TakeRevert k agent) h run e = absurd (none-some run e)
+new-run H (command.ShowSearch search) h run e = absurd (none-some run e)
+new-run H command.ShowFarm h run e = absurd (none-some run e)
+new-run H command.ShowOrders h run e = absurd (none-some run e)
 
 pub is_new : (H : List Entry) (q : Command) → shape_decision q ≡ None → known_decision H q ≡ None → IsNew H q
 is_new H q s k = record { formed = formed q s; key = new-key H q k; run = new-run H q k }
@@ -187,7 +194,8 @@ is_new H q s k = record { formed = formed q s; key = new-key H q k; run = new-ru
 pub known-none : (H : List Entry) (q : Command) → IsNew H q → known_decision H q ≡ None
 known-none H (command.Open ask) n = ap (option_map (repeat_or_clash H (command.Open ask))) (n.key ask.key refl)
 known-none H (command.Lease k worker) n = ap (option_map (repeat_or_clash H (command.Lease k worker))) (n.key k refl)
-known-none H (command.Report run verdict) n = ap (option_map Repeat) (n.run run verdict refl)
+known-none H (command.Report run verdict) n = ap (option_map Repeat) (n.run run refl)
+known-none H (command.Skip run) n = ap (option_map Repeat) (n.run run refl)
 known-none H (command.Cancel k search) n = ap (option_map (repeat_or_clash H (command.Cancel k search))) (n.key k refl)
 known-none H (command.TakeRevert k agent) n =
     ap (option_map (repeat_or_clash H (command.TakeRevert k agent))) (n.key k refl)
@@ -199,7 +207,7 @@ known-none H command.ShowOrders n = refl
 pub data KnownSays (H : List Entry) (q : Command) (d : Decision) : Type 0 where
   repeats : (key : Key) (place : ℕ) → key_of q ≡ Some key → place_of_key H key ≡ Some place →
       asked_before (slice_get H place) q ≡ true → Repeat place ≡ d → KnownSays H q d
-  reported : (run : ℕ) (verdict : Verdict) (place : ℕ) → q ≡ command.Report run verdict →
+  reported : (run place : ℕ) → run_told q ≡ Some run →
       place_of_report H run ≡ Some place →
       Repeat place ≡ d → KnownSays H q d
   clashes : (key : Key) (place : ℕ) → key_of q ≡ Some key → place_of_key H key ≡ Some place →
@@ -219,16 +227,18 @@ place-says H q key (Some place) d k p h =
     let same : repeat_or_clash H q place ≡ d = cc in
     if-says H q key place d (asked_before (slice_get H place) q) k p refl same
 
-report-says : (H : List Entry) (run : ℕ) (verdict : Verdict) (o : Option ℕ) (d : Decision) →
+report-says : (H : List Entry) (q : Command) (run : ℕ) (o : Option ℕ) (d : Decision) → run_told q ≡ Some run →
     place_of_report H run ≡ o → option_map Repeat o ≡ Some d →
-    KnownSays H (command.Report run verdict) d
-report-says H run verdict None d p h = absurd (none-some d h)
-report-says H run verdict (Some place) d p h = reported run verdict place refl p cc
+    KnownSays H q d
+report-says H q run None d names p h = absurd (none-some d h)
+report-says H q run (Some place) d names p h = reported run place names p cc
 
 pub known-says : (H : List Entry) (q : Command) (d : Decision) → known_decision H q ≡ Some d → KnownSays H q d
 known-says H (command.Open ask) d h = place-says H (command.Open ask) ask.key (place_of_key H ask.key) d refl refl h
 known-says H (command.Lease k worker) d h = place-says H (command.Lease k worker) k (place_of_key H k) d refl refl h
-known-says H (command.Report run verdict) d h = report-says H run verdict (place_of_report H run) d refl h
+known-says H (command.Report run verdict) d h =
+    report-says H (command.Report run verdict) run (place_of_report H run) d refl refl h
+known-says H (command.Skip run) d h = report-says H (command.Skip run) run (place_of_report H run) d refl refl h
 known-says H (command.Cancel k search) d h = place-says H (command.Cancel k search) k (place_of_key H k) d refl refl h
 known-says H (command.TakeRevert k agent) d h =
     place-says H (command.TakeRevert k agent) k (place_of_key H k) d refl refl h

@@ -10,7 +10,7 @@ use Rattle.farm_entry.specs.declared.command.Command.TheVariants as command
 use Rattle.farm_entry.specs.declared.decision.Decision.TheVariants.{Refuse, Repeat}
 use Rattle.farm_entry.specs.declared.entry.Entry.{Entry}
 use Rattle.farm_entry.specs.declared.entry.What.{What}
-use Rattle.farm_entry.specs.declared.entry.What.TheVariants.{Founded, Opened, Leased, Reported, Cancelled, Ordered}
+use Rattle.farm_entry.specs.declared.entry.What.TheVariants.{Founded, Opened, Leased, Reported, Skipped, Cancelled, Ordered}
 use Rattle.farm_entry.specs.declared.refusal.Refusal.TheVariants.{KeyClash}
 use Rattle.farm_laws.proofs.Induct.{each_legal}
 use Rattle.farm_laws.proofs.Repeats.{no_key, repeated}
@@ -27,6 +27,7 @@ stepped-named H m (Founded settings) facts = absurd facts
 stepped-named H m (Opened o) facts = (command.Open (ask_of o), refl)
 stepped-named H m (Leased key worker run search stage position deadline) facts = (command.Lease key worker, refl)
 stepped-named H m (Reported run verdict _) facts = (command.Report run verdict, refl)
+stepped-named H m (Skipped run _) facts = (command.Skip run, refl)
 stepped-named H m (Cancelled key search) facts = (command.Cancel key search, refl)
 stepped-named H m (Ordered key agent order commit search day) facts = (command.TakeRevert key agent, refl)
 
@@ -64,6 +65,7 @@ founding-names_none (Founded settings) founding = refl
 founding-names_none (Opened o) founding = absurd founding
 founding-names_none (Leased key worker run search stage position deadline) founding = absurd founding
 founding-names_none (Reported run verdict _) founding = absurd founding
+founding-names_none (Skipped run _) founding = absurd founding
 founding-names_none (Cancelled key search) founding = absurd founding
 founding-names_none (Ordered key agent order commit search day) founding = absurd founding
 

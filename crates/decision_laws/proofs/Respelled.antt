@@ -1,6 +1,7 @@
 -- Commands that ask for the same as one that is repeated.
 use Rattle.std.proofs.Common.{◌≡◌, ℕ, true, false, List, Option, Some, None, Ok, refl, sym, ap, subst, ◌∙◌, true≢false}
 use Rattle.std.specs.Option.{ok_or, option_and_then}
+use Rattle.std.proofs.lemmas.Option.{none-some}
 use Rattle.flake_rate.specs.declared.miss.Miss.{Miss}
 use Rattle.flake_rate.specs.declared.rate.Rate.{Rate}
 use Rattle.farm_types.specs.declared.moment.Moment.{Moment}
@@ -18,10 +19,34 @@ use Rattle.farm_entry.specs.declared.refusal.OpenFault.TheVariants as fault
 use Rattle.farm_laws.proofs.Again.{all_there}
 use Rattle.farm_laws.proofs.Fractions.{miss-same, rate-same}
 use Rattle.farm_laws.proofs.Made.{is_made}
-use Rattle.decision_laws.specs.Causes.{AsksTheSame}
+use Rattle.decision_laws.specs.Causes.{AsksTheSame, run_told}
 use Rattle.decision_laws.specs.Spelled.{IsSpelledOtherwise}
 use Rattle.decision_laws.proofs.Caused.{held-repeated, open-formed, repeated-held}
 use Rattle.decision_laws.proofs.Held.{ok-same}
+
+-- what asks for the same as a report of a run is a report of it
+told-through : (b c : Command) (run : ℕ) → run_told b ≡ Some run → AsksTheSame b c → run_told c ≡ Some run
+told-through (command.Report r verdict) c run first second = second ∙ first
+told-through (command.Skip r) c run first second = second ∙ first
+told-through (command.Open ask) c run first second = absurd (none-some run first)
+told-through (command.Lease key worker) c run first second = absurd (none-some run first)
+told-through (command.Cancel key search) c run first second = absurd (none-some run first)
+told-through (command.TakeRevert key agent) c run first second = absurd (none-some run first)
+told-through (command.ShowSearch search) c run first second = absurd (none-some run first)
+told-through command.ShowFarm c run first second = absurd (none-some run first)
+told-through command.ShowOrders c run first second = absurd (none-some run first)
+
+-- and back: two reports of a run ask for the same
+pub both-told : (q p : Command) (run : ℕ) → run_told q ≡ Some run → run_told p ≡ Some run → AsksTheSame q p
+both-told (command.Report r verdict) p run first second = second ∙ sym first
+both-told (command.Skip r) p run first second = second ∙ sym first
+both-told (command.Open ask) p run first second = absurd (none-some run first)
+both-told (command.Lease key worker) p run first second = absurd (none-some run first)
+both-told (command.Cancel key search) p run first second = absurd (none-some run first)
+both-told (command.TakeRevert key agent) p run first second = absurd (none-some run first)
+both-told (command.ShowSearch search) p run first second = absurd (none-some run first)
+both-told command.ShowFarm p run first second = absurd (none-some run first)
+both-told command.ShowOrders p run first second = absurd (none-some run first)
 
 -- what asks for the same as a command that asks for the same asks for the same
 asks-through : (a b c : Command) → AsksTheSame a b → AsksTheSame b c → AsksTheSame a c
@@ -29,9 +54,8 @@ asks-through (command.Open ask) b c first second =
     let here : AsksTheSame (command.Open first.0) c = subst (λ (x : Command). AsksTheSame x c) first.1 second in
     let same : first.2 ≡ here.2 = ok-same (opening_of first.0 0) first.2 here.2 first.4 here.3 in
     (here.0, here.1, first.2, first.3, here.4 ∙ ap Ok (sym same))
-asks-through (command.Report run verdict) b c first second =
-    let here : AsksTheSame (command.Report run first.0) c = subst (λ (x : Command). AsksTheSame x c) first.1 second in
-    (here.0, here.1)
+asks-through (command.Report run verdict) b c first second = told-through b c run first second
+asks-through (command.Skip run) b c first second = told-through b c run first second
 asks-through (command.Lease key worker) b c first second = subst (λ (x : Command). AsksTheSame x c) (sym first) second
 asks-through (command.Cancel key search) b c first second = subst (λ (x : Command). AsksTheSame x c) (sym first) second
 asks-through (command.TakeRevert key agent) b c first second =

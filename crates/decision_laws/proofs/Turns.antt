@@ -12,7 +12,7 @@ use Rattle.farm_rules.specs.declared.orders.NoOrder.TheVariants as none
 use Rattle.farm_types.specs.declared.key.Key.{Key}
 use Rattle.weight_exact.specs.declared.run.Verdict.{Verdict}
 use Rattle.farm_entry.specs.Ask.{opening_of}
-use Rattle.farm_entry.specs.Decision.{add_opening, cancel_decision, decide, lease_decision, moment_used, own_decision, page_decision, report_decision, revert_decision}
+use Rattle.farm_entry.specs.Decision.{add_opening, cancel_decision, decide, lease_decision, moment_used, own_decision, page_decision, report_decision, revert_decision, skip_decision}
 use Rattle.farm_entry.specs.Due.{due, due_runs, next_run, sooner, soonest}
 use Rattle.farm_entry.specs.History.{last_lease, lease_in, lease_of, opening_numbered, openings}
 use Rattle.farm_entry.specs.Legal.{IsLegal}
@@ -191,6 +191,10 @@ report-timed : (H : List Entry) (run : ℕ) (verdict : Verdict) (M : Moment) (l 
 report-timed H run verdict M None = inl refl
 report-timed H run verdict M (Some l) = inr refl
 
+skip-timed : (H : List Entry) (run : ℕ) (M : Moment) (l : Option LeasedRun) → IsTimed (skip_decision H run M l) M
+skip-timed H run M None = inl refl
+skip-timed H run M (Some l) = inr refl
+
 cancel-if_timed : (M : Moment) (what : What) (r : Refusal) (b : Bool) →
     IsTimed (if b then New (record { at = M; what = what }) else Refuse r) M
 cancel-if_timed M what r true = inr refl
@@ -216,6 +220,7 @@ own-timed H (command.Open ask) M =
     open-timed M (opening_of ask (length (openings H) + 1)) (nat_le MAX_SEARCHES (length (openings H)))
 own-timed H (command.Lease key worker) M = lease-timed H key worker M (next_run H (moment_ms M))
 own-timed H (command.Report run verdict) M = report-timed H run verdict M (lease_of H run)
+own-timed H (command.Skip run) M = skip-timed H run M (lease_of H run)
 own-timed H (command.Cancel key search) M = cancel-timed H key search M (opening_numbered H search)
 own-timed H (command.TakeRevert key agent) M = revert-timed key agent M (next_order_at H (moment_ms M))
 own-timed H (command.ShowSearch search) M = page-timed H search M (opening_numbered H search)

@@ -1,12 +1,11 @@
 -- What a history holds where a command is refused, said without the order in which the farm looks at things: the cause
 -- of each refusal.
-use Rattle.std.specs.Prelude.{◌≡◌, ℕ, ◌<◌, ◌≤◌, ◌⊎◌, true, false, List, length, slice_get, Contains, Some, None, Ok, Err}
+use Rattle.std.specs.Prelude.{◌≡◌, ℕ, ◌<◌, ◌≤◌, ◌⊎◌, true, false, List, length, slice_get, Contains, Option, Some, None, Ok, Err}
 use Rattle.farm_rules.specs.Orders.{orders_of}
 use Rattle.farm_types.specs.Moment.{moment_ms}
 use Rattle.farm_types.specs.declared.commit_id.CommitId.{CommitId}
 use Rattle.farm_types.specs.declared.key.Key.{Key}
 use Rattle.farm_types.specs.declared.moment.Moment.{Moment}
-use Rattle.weight_exact.specs.declared.run.Verdict.{Verdict}
 use Rattle.farm_entry.specs.Ask.{opening_of}
 use Rattle.farm_entry.specs.Decision.{is_show, key_of, moment_used}
 use Rattle.farm_entry.specs.Due.{due}
@@ -16,7 +15,7 @@ use Rattle.farm_entry.specs.Orders.{day_in, orders}
 use Rattle.farm_entry.specs.Setup.{commit_of}
 use Rattle.farm_entry.specs.Standing.{is_active, standing}
 use Rattle.farm_entry.specs.declared.command.Command.{Command}
-use Rattle.farm_entry.specs.declared.command.Command.TheVariants.{Open, Lease, Report, Cancel, TakeRevert, ShowSearch}
+use Rattle.farm_entry.specs.declared.command.Command.TheVariants.{Open, Lease, Report, Skip, Cancel, TakeRevert, ShowSearch}
 use Rattle.farm_entry.specs.declared.command.OpenAsk.{OpenAsk}
 use Rattle.farm_entry.specs.declared.entry.Entry.{Entry}
 use Rattle.farm_entry.specs.declared.limits.TheConstants.{MAX_ENTRIES, MAX_SEARCHES}
@@ -36,11 +35,17 @@ IsWithinLimits ask = (o : Opening) × (opening_of ask 0 ≡ Ok o)
 abbrev pub IsWellFormed : Command → Type 0
 IsWellFormed q = (ask : OpenAsk) → q ≡ Open ask → IsWithinLimits ask
 
+-- the run that a command reports, with a verdict or as one whose tree can't be tested
+abbrev pub run_told : Command → Option ℕ
+run_told (Report run verdict) = Some run
+run_told (Skip run) = Some run
+run_told _ = None
+
 -- a command is new to a history: no entry holds its key, and its run has no report
 pub record IsNew (H : List Entry) (q : Command) : Type 0 where
   pub formed : IsWellFormed q
   pub key : (key : Key) → key_of q ≡ Some key → place_of_key H key ≡ None
-  pub run : (run : ℕ) (verdict : Verdict) → q ≡ Report run verdict → place_of_report H run ≡ None
+  pub run : (run : ℕ) → run_told q ≡ Some run → place_of_report H run ≡ None
 
 -- a command that is new comes to its own case: there is room for an entry, or it only shows
 pub record IsTaken (H : List Entry) (q : Command) : Type 0 where
@@ -56,11 +61,12 @@ pub record IsOutside (q : Command) (fault : OpenFault) : Type 0 where
   pub outside : opening_of ask 0 ≡ Err fault
 
 -- two commands ask for the same: two opens for the same search, however its rates are spelled; two reports for the
--- same run, whatever their verdicts; and else they are equal
+-- same run, whatever they say of it; and else they are equal
 abbrev pub AsksTheSame : Command → Command → Type 0
 AsksTheSame (Open ask) q =
     (other : OpenAsk) × (q ≡ Open other) × (o : Opening) × (opening_of ask 0 ≡ Ok o) × (opening_of other 0 ≡ Ok o)
-AsksTheSame (Report run verdict) q = (other : Verdict) × (q ≡ Report run other)
+AsksTheSame (Report run verdict) q = run_told q ≡ Some run
+AsksTheSame (Skip run) q = run_told q ≡ Some run
 AsksTheSame p q = p ≡ q
 
 -- an entry is what a command asks for
@@ -101,8 +107,7 @@ pub record HasNoRun (H : List Entry) (q : Command) (m : Moment) : Type 0 where
 -- a report is of a run that was never handed out
 pub record IsOfNoLease (H : List Entry) (q : Command) (run : ℕ) : Type 0 where
   pub taken : IsTaken H q
-  pub verdict : Verdict
-  pub reports : q ≡ Report run verdict
+  pub reports : run_told q ≡ Some run
   pub unknown : lease_of H run ≡ None
 
 -- a search is to be cancelled or shown that was never opened

@@ -2,29 +2,28 @@
 ghost use Rattle.std.specs.Prelude.{◌≡◌, ◌≢◌, ◌↔◌, ℕ, ◌≤◌, List, slice_get, Some};
 ghost use Rattle.farm_entry.specs.Decision.{decide};
 ghost use Rattle.farm_entry.specs.Legal.{IsLegal, command_of};
-ghost use Rattle.decision_laws.specs.Causes.{AsksTheSame, IsWhat};
+ghost use Rattle.decision_laws.specs.Causes.{AsksTheSame, IsWhat, run_told};
 ghost use Rattle.decision_laws.specs.Spelled.{IsSpelledOtherwise};
 
 use farm_entry::{Command, Decision, Entry, OpenAsk, Refusal};
 use farm_types::Moment;
-use weight_exact::Verdict;
 
 /// A command is answered as an earlier one was, by the place of its entry, exactly where that entry is what the command
 /// asks for: its kind, its key and its contents are the same. An open whose rates are spelled otherwise asks for the
-/// same search, and a report of a run that has a report asks for that one, whatever verdict it carries.
+/// same search, and a report of a run that has a report asks for that one, whatever either says of the run.
 pub fn repeats_are_of_the_same_command()
     ensures { (H : List Entry) (q : Command) (m : Moment) (place : ℕ) → IsLegal H
         → (decide H q m ≡ Decision.Repeat place) ↔ ((e : Entry) × (slice_get H place ≡ Some e) × IsWhat e q) }
 {}
 
 /// What asks for the same as a command that is answered as before is answered as before too, by the same place and at
-/// every moment: a report of the run with either verdict, and an open with its rates spelled otherwise.
+/// every moment: a report of the run with either verdict or with none, and an open with its rates spelled otherwise.
 pub fn repeats_hold_for_all_that_ask_the_same()
     ensures same { (H : List Entry) (q p : Command) (m n : Moment) (place : ℕ) → IsLegal H → AsksTheSame q p
         → decide H q m ≡ Decision.Repeat place → decide H p n ≡ Decision.Repeat place }
-    ensures reports { (H : List Entry) (run place : ℕ) (verdict other : Verdict) (m n : Moment) → IsLegal H
-        → decide H (Command.Report run verdict) m ≡ Decision.Repeat place
-        → decide H (Command.Report run other) n ≡ Decision.Repeat place }
+    ensures reports { (H : List Entry) (run place : ℕ) (q p : Command) (m n : Moment) → IsLegal H
+        → run_told q ≡ Some run → run_told p ≡ Some run
+        → decide H q m ≡ Decision.Repeat place → decide H p n ≡ Decision.Repeat place }
     ensures opens { (H : List Entry) (ask other : OpenAsk) (m n : Moment) (place : ℕ) → IsLegal H
         → IsSpelledOtherwise ask other → decide H (Command.Open ask) m ≡ Decision.Repeat place
         → decide H (Command.Open other) n ≡ Decision.Repeat place }

@@ -11,16 +11,17 @@ use Rattle.farm_types.specs.declared.stage.Stage.{Stage}
 use Rattle.weight_exact.specs.declared.run.Verdict.{Verdict}
 use Rattle.farm_entry.specs.declared.entry.Entry.{Entry}
 use Rattle.farm_entry.specs.declared.entry.Fate.{Fate}
+use Rattle.farm_entry.specs.declared.entry.SkipFate.{SkipFate}
 use Rattle.farm_entry.specs.declared.entry.What.{What}
-use Rattle.farm_entry.specs.declared.entry.What.TheVariants.{Founded, Opened, Leased, Reported, Cancelled, Ordered}
+use Rattle.farm_entry.specs.declared.entry.What.TheVariants.{Founded, Opened, Leased, Reported, Skipped, Cancelled, Ordered}
 use Rattle.farm_entry.specs.declared.opening.Opening.{Opening}
 use Rattle.farm_entry.specs.declared.settings.Settings.{Settings}
 use Rattle.entry_codec.specs.Grammar.{HasSpelling, IsOpening}
-use Rattle.entry_codec.specs.Spelling.{entry_bytes, fate_mark, fields_of, name_bytes, number_bytes, opening_bytes, opening_tag, settings_bytes, stage_mark, tag_of, verdict_mark}
-use Rattle.entry_codec.specs.Reading.{cancelled_at, entry_at, founded_at, leased_at, opened_at, ordered_at, reported_at, what_at}
-use Rattle.entry_codec.specs.declared.marks.TheConstants.{CANCELLED_TAG, FOUNDED_TAG, LEASED_TAG, OPENED_TAG, OPENED_WITH_MISS_TAG, ORDERED_TAG, REPORTED_TAG}
+use Rattle.entry_codec.specs.Spelling.{entry_bytes, fate_mark, fields_of, name_bytes, number_bytes, opening_bytes, opening_tag, settings_bytes, skip_fate_mark, stage_mark, tag_of, verdict_mark}
+use Rattle.entry_codec.specs.Reading.{cancelled_at, entry_at, founded_at, leased_at, opened_at, ordered_at, reported_at, skipped_at, what_at}
+use Rattle.entry_codec.specs.declared.marks.TheConstants.{CANCELLED_TAG, FOUNDED_TAG, LEASED_TAG, OPENED_TAG, OPENED_WITH_MISS_TAG, ORDERED_TAG, REPORTED_TAG, SKIPPED_TAG}
 use Rattle.entry_codec.proofs.FieldLaws.{IsRead, Took, after, joined, number-again, number_is_read, some_is, step}
-use Rattle.entry_codec.proofs.PartLaws.{fate_is_read, id_is_read, key_is_read, moment_is_read, name_is_read, settings_is_read, stage_is_read, verdict_is_read}
+use Rattle.entry_codec.proofs.PartLaws.{fate_is_read, id_is_read, key_is_read, moment_is_read, name_is_read, settings_is_read, skip_fate_is_read, stage_is_read, verdict_is_read}
 use Rattle.entry_codec.proofs.OpeningLaws.{IsOpeningAt, opening_is_read}
 
 -- parts in front of the rest
@@ -160,6 +161,24 @@ reported-again run verdict outcome rest fits =
       fate_is_read.again outcome rest tt,
     ) refl
 
+skipped-take : (bytes : List ℕ) (what : What) (rest : List ℕ) → IsBytes bytes → skipped_at bytes ≡ Some (what, rest) →
+    Read SKIPPED_TAG bytes what rest
+unfolding skipped_at
+skipped-take bytes what rest fits e =
+    after (step (number_is_read 4) fits e) (λ run r1 t1 e1.
+    after (step skip_fate_is_read t1.rest_bytes e1) (λ outcome r2 t2 e2.
+    let p2 = joined bytes _ r1 _ r2 t1.parts t2.parts in
+    subst (λ (p : What × List ℕ). Read SKIPPED_TAG bytes p.0 p.1) (some_is _ _ e2)
+    (record { fits = record { spelled = t1.fits; tag_is = refl }; parts = p2; rest_bytes = t2.rest_bytes })))
+
+skipped-again : (run : ℕ) (outcome : SkipFate) (rest : List ℕ) → run < 2 ^ 32 →
+    skipped_at (fields_of (Skipped run outcome) ++ rest) ≡ Some (Skipped run outcome, rest)
+unfolding skipped_at
+skipped-again run outcome rest fits =
+    let outcome_on : List ℕ = number_bytes 1 (skip_fate_mark outcome) ++ rest in
+    ap skipped_at (append_assoc (number_bytes 4 run) (number_bytes 1 (skip_fate_mark outcome)) rest)
+    ∙ rw (number-again 4 run outcome_on fits, skip_fate_is_read.again outcome rest tt) refl
+
 cancelled-take : (bytes : List ℕ) (what : What) (rest : List ℕ) → IsBytes bytes →
     cancelled_at bytes ≡ Some (what, rest) → Read CANCELLED_TAG bytes what rest
 unfolding cancelled_at
@@ -253,7 +272,10 @@ what-take tag bytes what rest fits e = elim (chosen (nat_eq tag FOUNDED_TAG) _ _
             | inl g ↦ of_kind tag ORDERED_TAG bytes what rest g.0 (ordered-take bytes what rest fits g.1)
             | inr g ↦ elim (chosen (nat_eq tag OPENED_WITH_MISS_TAG) _ _ _ g.1) [
               | inl h ↦ of_kind tag OPENED_WITH_MISS_TAG bytes what rest h.0 (opened-take true bytes what rest fits h.1)
-              | inr h ↦ absurd (cc)
+              | inr h ↦ elim (chosen (nat_eq tag SKIPPED_TAG) _ _ _ h.1) [
+                | inl k ↦ of_kind tag SKIPPED_TAG bytes what rest k.0 (skipped-take bytes what rest fits k.1)
+                | inr k ↦ absurd (cc)
+              ]
             ]
           ]
         ]
@@ -286,6 +308,7 @@ what_of-again (Opened o) rest fits = opened_what-again o rest fits
 what_of-again (Leased key worker run search stage position deadline) rest fits =
     leased-again key worker run search stage position deadline rest fits
 what_of-again (Reported run verdict outcome) rest fits = reported-again run verdict outcome rest fits
+what_of-again (Skipped run outcome) rest fits = skipped-again run outcome rest fits
 what_of-again (Cancelled key search) rest fits = cancelled-again key search rest fits
 what_of-again (Ordered key agent order commit search day) rest fits =
     ordered-again key agent order commit search day rest fits
@@ -329,6 +352,7 @@ small-tag (Founded settings) = omega arith
 small-tag (Opened o) = small-opening_tag o
 small-tag (Leased key worker run search stage position deadline) = omega arith
 small-tag (Reported run verdict _) = omega arith
+small-tag (Skipped run _) = omega arith
 small-tag (Cancelled key search) = omega arith
 small-tag (Ordered key agent order commit search day) = omega arith
 

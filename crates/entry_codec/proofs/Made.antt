@@ -43,13 +43,15 @@ use Rattle.farm_entry.specs.Limits.{IsDailyLimit, IsLeaseTime, IsZone}
 use Rattle.farm_entry.specs.Settings.{settings_daily, settings_lease_ms, settings_zone_minutes}
 use Rattle.farm_entry.specs.declared.entry.Fate.{Fate}
 use Rattle.farm_entry.specs.declared.entry.Fate.TheVariants.{Counted, Late, Over}
+use Rattle.farm_entry.specs.declared.entry.SkipFate.{SkipFate}
+use Rattle.farm_entry.specs.declared.entry.SkipFate.TheVariants as skip
 use Rattle.farm_entry.specs.declared.settings.Settings.{Settings}
 use Rattle.farm_entry.proofs.Asked.{when_passed-same}
 use Rattle.farm_entry.proofs.SameSettings.{settings-from_numbers}
-use Rattle.entry_codec.specs.Spelling.{fate_mark, stage_mark, verdict_mark, zone_number}
+use Rattle.entry_codec.specs.Spelling.{fate_mark, skip_fate_mark, stage_mark, verdict_mark, zone_number}
 use Rattle.entry_codec.specs.Reading.{◌>>=◌, miss_at}
-use Rattle.entry_codec.specs.Values.{are_bytes, are_settings, fate_of, fitting_miss, id_of, if_fitting, lowest_miss, lowest_rate, moment_of, name_of, range_of, settings_of, stage_of, up_to, verdict_of, zone_at}
-use Rattle.entry_codec.specs.declared.marks.TheConstants.{COUNTED_MARK, FAIL_MARK, LATE_MARK, OVER_MARK, PASS_MARK, SEARCH_MARK, VERIFY_MARK}
+use Rattle.entry_codec.specs.Values.{are_bytes, are_settings, fate_of, fitting_miss, id_of, if_fitting, lowest_miss, lowest_rate, moment_of, name_of, range_of, settings_of, skip_fate_of, stage_of, up_to, verdict_of, zone_at}
+use Rattle.entry_codec.specs.declared.marks.TheConstants.{COUNTED_MARK, FAIL_MARK, LATE_MARK, OVER_MARK, PASS_MARK, SEARCH_MARK, TAKEN_MARK, VERIFY_MARK}
 
 -- tests and what is made where they pass
 
@@ -172,6 +174,17 @@ fate_of-mark mark fate e = elim (choice (mark == COUNTED_MARK) Counted _ fate e)
     | inl k ↦ sym (ap fate_mark k.1) ∙ sym (eqb-true _ _ k.0)
     | inr k ↦ let l = kept_is (mark == OVER_MARK) Over fate k.1 in sym (ap fate_mark l.1) ∙ sym (eqb-true _ _ l.0)
   ]
+]
+
+pub skip_fate_of-fate : (fate : SkipFate) → skip_fate_of (skip_fate_mark fate) ≡ Some fate
+skip_fate_of-fate skip.Taken = refl
+skip_fate_of-fate skip.Late = refl
+
+pub skip_fate_of-mark : (mark : ℕ) (fate : SkipFate) → skip_fate_of mark ≡ Some fate → skip_fate_mark fate ≡ mark
+skip_fate_of-mark mark fate e = elim (choice (mark == TAKEN_MARK) skip.Taken _ fate e) [
+  | inl h ↦ sym (ap skip_fate_mark h.1) ∙ sym (eqb-true _ _ h.0)
+  | inr h ↦ let k = kept_is (mark == LATE_MARK) skip.Late fate h.1 in
+      sym (ap skip_fate_mark k.1) ∙ sym (eqb-true _ _ k.0)
 ]
 
 -- settings

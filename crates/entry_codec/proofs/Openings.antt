@@ -5,7 +5,7 @@ use Rattle.std.proofs.lemmas.List.Elements.{All-from_recursion, Contains-get_or,
 use Rattle.farm_entry.specs.History.{opening_in, openings}
 use Rattle.farm_entry.specs.declared.entry.Entry.{Entry}
 use Rattle.farm_entry.specs.declared.entry.What.{What}
-use Rattle.farm_entry.specs.declared.entry.What.TheVariants.{Founded, Opened, Leased, Reported, Cancelled, Ordered}
+use Rattle.farm_entry.specs.declared.entry.What.TheVariants.{Founded, Opened, Leased, Reported, Skipped, Cancelled, Ordered}
 use Rattle.farm_entry.specs.declared.opening.Opening.{Opening}
 use Rattle.entry_codec.specs.Grammar.{AreSpelled, HasSpelling, IsOpenedWithin, IsWithinLimits}
 
@@ -16,6 +16,7 @@ split (Founded settings) others h = (tt, h)
 split (Opened o) others h = (h.0, h.1)
 split (Leased key worker run search stage position deadline) others h = (tt, h)
 split (Reported run verdict _) others h = (tt, h)
+split (Skipped run _) others h = (tt, h)
 split (Cancelled key search) others h = (tt, h)
 split (Ordered key agent order commit search day) others h = (tt, h)
 
@@ -38,6 +39,7 @@ within (Founded settings) h = tt
 within (Opened o) h = h.within
 within (Leased key worker run search stage position deadline) h = tt
 within (Reported run verdict _) h = tt
+within (Skipped run _) h = tt
 within (Cancelled key search) h = tt
 within (Ordered key agent order commit search day) h = tt
 

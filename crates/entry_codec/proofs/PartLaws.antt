@@ -22,12 +22,14 @@ use Rattle.farm_entry.specs.Ask.{bar_of}
 use Rattle.farm_entry.specs.Settings.{settings_daily, settings_lease_ms}
 use Rattle.farm_entry.specs.declared.entry.Fate.{Fate}
 use Rattle.farm_entry.specs.declared.entry.Fate.TheVariants.{Counted, Late, Over}
+use Rattle.farm_entry.specs.declared.entry.SkipFate.{SkipFate}
+use Rattle.farm_entry.specs.declared.entry.SkipFate.TheVariants as skip
 use Rattle.farm_entry.specs.declared.settings.Settings.{Settings}
-use Rattle.entry_codec.specs.Spelling.{bar_bytes, fate_mark, miss_bytes, name_bytes, number_bytes, rate_bytes, settings_bytes, stage_mark, verdict_mark, zone_number}
-use Rattle.entry_codec.specs.Values.{fate_of, fitting_miss, id_of, lowest_miss, lowest_rate, moment_of, name_of, settings_of, stage_of, up_to, verdict_of}
-use Rattle.entry_codec.specs.Reading.{bar_at, fate_at, id_at, key_at, miss_at, moment_at, name_at, rate_at, settings_at, stage_at, up_to_at, verdict_at}
+use Rattle.entry_codec.specs.Spelling.{bar_bytes, fate_mark, miss_bytes, name_bytes, number_bytes, rate_bytes, settings_bytes, skip_fate_mark, stage_mark, verdict_mark, zone_number}
+use Rattle.entry_codec.specs.Values.{fate_of, fitting_miss, id_of, lowest_miss, lowest_rate, moment_of, name_of, settings_of, skip_fate_of, stage_of, up_to, verdict_of}
+use Rattle.entry_codec.specs.Reading.{bar_at, fate_at, id_at, key_at, miss_at, moment_at, name_at, rate_at, settings_at, skip_fate_at, stage_at, up_to_at, verdict_at}
 use Rattle.entry_codec.proofs.FieldLaws.{IsRead, Took, bytes_are_read, joined, made_are_read, made_is, number-again, number_is_read, some_is, step}
-use Rattle.entry_codec.proofs.Made.{bar_of-bar, bar_of-numbers, fate_of-fate, fate_of-mark, fitting_miss-miss, fitting_miss-numbers, id_of-bytes, id_of-id, lowest_miss-numbers, lowest_rate-numbers, lowest_rate-rate, miss_at-zero, moment_of-moment, moment_of-ms, name_of-name, name_of-text, settings_of-numbers, settings_of-settings, stage_of-mark, stage_of-stage, up_to-number, up_to-within, verdict_of-mark, verdict_of-verdict, zone_number-small}
+use Rattle.entry_codec.proofs.Made.{bar_of-bar, bar_of-numbers, fate_of-fate, fate_of-mark, fitting_miss-miss, fitting_miss-numbers, id_of-bytes, id_of-id, lowest_miss-numbers, lowest_rate-numbers, lowest_rate-rate, miss_at-zero, moment_of-moment, moment_of-ms, name_of-name, name_of-text, settings_of-numbers, settings_of-settings, skip_fate_of-fate, skip_fate_of-mark, stage_of-mark, stage_of-stage, up_to-number, up_to-within, verdict_of-mark, verdict_of-verdict, zone_number-small}
 
 -- every value fits
 abbrev pub Any : {X : Type 0} → X → Type 0
@@ -84,6 +86,16 @@ unfolding fate_at
 fate_is_read =
     made_are_read Any fate_mark fate_of (number_is_read 1)
     (λ fate _. (small-fate fate, fate_of-fate fate)) (λ mark fate fits e. (tt, fate_of-mark mark fate e))
+
+small-skip_fate : (fate : SkipFate) → skip_fate_mark fate < 256 ^ 1
+small-skip_fate skip.Taken = omega arith
+small-skip_fate skip.Late = omega arith
+
+pub skip_fate_is_read : IsRead Any (λ fate. number_bytes 1 (skip_fate_mark fate)) skip_fate_at
+unfolding skip_fate_at
+skip_fate_is_read =
+    made_are_read Any skip_fate_mark skip_fate_of (number_is_read 1)
+    (λ fate _. (small-skip_fate fate, skip_fate_of-fate fate)) (λ mark fate fits e. (tt, skip_fate_of-mark mark fate e))
 
 pub up_to_is_read : (limit : ℕ) → limit < 256 →
     IsRead (λ (n : ℕ). (1 ≤ n) × (n ≤ limit)) (number_bytes 1) (up_to_at limit)

@@ -12,7 +12,7 @@ use Rattle.farm_types.specs.declared.commit_id.CommitId.{CommitId}
 use Rattle.suspect_range.specs.declared.suspect.Suspect.{Suspect}
 use Rattle.farm_entry.specs.declared.entry.Entry.{Entry}
 use Rattle.farm_entry.specs.declared.entry.What.{What}
-use Rattle.farm_entry.specs.declared.entry.What.TheVariants.{Founded, Opened, Leased, Reported, Cancelled, Ordered}
+use Rattle.farm_entry.specs.declared.entry.What.TheVariants.{Founded, Opened, Leased, Reported, Skipped, Cancelled, Ordered}
 use Rattle.farm_entry.specs.declared.opening.Opening.{Opening}
 use Rattle.entry_codec.specs.Grammar.{AreSpelled, HasSpelling, IsOpening}
 use Rattle.entry_codec.specs.Spelling.{entry_bytes, fields_of, miss_bytes, number_bytes, opening_bytes, spelling, suspect_bytes, tag_of}
@@ -52,16 +52,18 @@ fields-short (Opened o) h = opening-short o h
 fields-short (Leased key worker run search stage position deadline) h =
     simp (length-append, length-number_bytes) (omega (arith, h.1.few))
 fields-short (Reported run verdict _) h = simp (length-append, length-number_bytes) (omega arith)
+fields-short (Skipped run _) h = simp (length-append, length-number_bytes) (omega arith)
 fields-short (Cancelled key search) h = simp (length-append, length-number_bytes) (omega arith)
 fields-short (Ordered key agent order commit search day) h =
     simp (length-append, length-number_bytes, length-id_bytes) (omega (arith, h.1.few))
 
-fields-long : (what : What) → 6 ≤ length (fields_of what)
+fields-long : (what : What) → 5 ≤ length (fields_of what)
 fields-long (Founded settings) = simp (length-append, length-number_bytes) (omega arith)
 fields-long (Opened o) = simp (length-append, length-number_bytes) (omega arith)
 fields-long (Leased key worker run search stage position deadline) =
     simp (length-append, length-number_bytes) (omega arith)
 fields-long (Reported run verdict _) = simp (length-append, length-number_bytes) (omega arith)
+fields-long (Skipped run _) = simp (length-append, length-number_bytes) (omega arith)
 fields-long (Cancelled key search) = simp (length-append, length-number_bytes) (omega arith)
 fields-long (Ordered key agent order commit search day) = simp (length-append, length-number_bytes) (omega arith)
 
@@ -77,7 +79,7 @@ length-entry_bytes e =
       length-number_bytes 1 (tag_of e.what),
     )
 
-pub entry-long : (e : Entry) → 15 ≤ length (entry_bytes e)
+pub entry-long : (e : Entry) → 14 ≤ length (entry_bytes e)
 entry-long e = omega (arith, length-entry_bytes e, fields-long e.what)
 
 pub entry-short : (e : Entry) → IsSpelled e → length (entry_bytes e) ≤ MAX_ENTRY_BYTES

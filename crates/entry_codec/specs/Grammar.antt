@@ -5,7 +5,7 @@ use Rattle.farm_types.specs.Limits.{IsName}
 use Rattle.suspect_range.specs.Range.{IsSuspectRange}
 use Rattle.farm_entry.specs.declared.entry.Entry.{Entry}
 use Rattle.farm_entry.specs.declared.entry.What.{What}
-use Rattle.farm_entry.specs.declared.entry.What.TheVariants.{Founded, Opened, Leased, Reported, Cancelled, Ordered}
+use Rattle.farm_entry.specs.declared.entry.What.TheVariants.{Founded, Opened, Leased, Reported, Skipped, Cancelled, Ordered}
 use Rattle.weight_exact.specs.declared.limits.TheConstants.{MAX_WIDTH}
 use Rattle.farm_entry.specs.declared.limits.TheConstants.{MAX_RERUNS}
 use Rattle.farm_entry.specs.declared.opening.Opening.{Opening}
@@ -39,6 +39,7 @@ HasSpelling (Opened o) = IsOpening o
 HasSpelling (Leased key worker run search stage position deadline) =
     (key.0 < 2 ^ 128) × IsName worker × (run < 2 ^ 32) × (search < 2 ^ 32) × (position < 2 ^ 16) × (deadline < 2 ^ 64)
 HasSpelling (Reported run verdict _) = run < 2 ^ 32
+HasSpelling (Skipped run _) = run < 2 ^ 32
 HasSpelling (Cancelled key search) = (key.0 < 2 ^ 128) × (search < 2 ^ 32)
 HasSpelling (Ordered key agent order commit search day) =
     (key.0 < 2 ^ 128) × IsName agent × (order < 2 ^ 32) × (search < 2 ^ 32) × (day < 2 ^ 32)

@@ -16,14 +16,15 @@ use Rattle.weight_exact.specs.declared.run.Verdict.{Verdict}
 use Rattle.farm_entry.specs.Ask.{bar_of}
 use Rattle.farm_entry.specs.declared.entry.Entry.{Entry}
 use Rattle.farm_entry.specs.declared.entry.Fate.{Fate}
+use Rattle.farm_entry.specs.declared.entry.SkipFate.{SkipFate}
 use Rattle.farm_entry.specs.declared.entry.What.{What}
-use Rattle.farm_entry.specs.declared.entry.What.TheVariants.{Founded, Opened, Leased, Reported, Cancelled, Ordered}
+use Rattle.farm_entry.specs.declared.entry.What.TheVariants.{Founded, Opened, Leased, Reported, Skipped, Cancelled, Ordered}
 use Rattle.weight_exact.specs.declared.limits.TheConstants.{MAX_WIDTH}
 use Rattle.farm_entry.specs.declared.limits.TheConstants.{MAX_RERUNS}
 use Rattle.farm_entry.specs.declared.opening.Opening.{Opening}
 use Rattle.farm_entry.specs.declared.settings.Settings.{Settings}
-use Rattle.entry_codec.specs.Values.{fate_of, fitting_miss, id_of, lowest_miss, lowest_rate, moment_of, name_of, range_of, settings_of, stage_of, up_to, verdict_of}
-use Rattle.entry_codec.specs.declared.marks.TheConstants.{CANCELLED_TAG, FOUNDED_TAG, LEASED_TAG, OPENED_TAG, OPENED_WITH_MISS_TAG, ORDERED_TAG, REPORTED_TAG}
+use Rattle.entry_codec.specs.Values.{fate_of, fitting_miss, id_of, lowest_miss, lowest_rate, moment_of, name_of, range_of, settings_of, skip_fate_of, stage_of, up_to, verdict_of}
+use Rattle.entry_codec.specs.declared.marks.TheConstants.{CANCELLED_TAG, FOUNDED_TAG, LEASED_TAG, OPENED_TAG, OPENED_WITH_MISS_TAG, ORDERED_TAG, REPORTED_TAG, SKIPPED_TAG}
 
 -- what is read of some bytes, and what is made of that
 infixl 10 ◌>>=◌
@@ -83,6 +84,11 @@ unfoldable pub fate_at : List ℕ → Option (Fate × List ℕ)
 fate_at bytes = do
   mark ← number_at 1 bytes
   made_of fate_of mark
+
+unfoldable pub skip_fate_at : List ℕ → Option (SkipFate × List ℕ)
+skip_fate_at bytes = do
+  mark ← number_at 1 bytes
+  made_of skip_fate_of mark
 
 unfoldable pub settings_at : List ℕ → Option (Settings × List ℕ)
 settings_at bytes = do
@@ -196,6 +202,12 @@ reported_at bytes = do
   fate ← fate_at verdict.1
   Some (Reported run.0 verdict.0 fate.0, fate.1)
 
+unfoldable pub skipped_at : List ℕ → Option (What × List ℕ)
+skipped_at bytes = do
+  run ← number_at 4 bytes
+  fate ← skip_fate_at run.1
+  Some (Skipped run.0 fate.0, fate.1)
+
 unfoldable pub cancelled_at : List ℕ → Option (What × List ℕ)
 cancelled_at bytes = do
   key ← key_at bytes
@@ -222,6 +234,7 @@ what_at tag bytes =
     else if tag == CANCELLED_TAG then cancelled_at bytes
     else if tag == ORDERED_TAG then ordered_at bytes
     else if tag == OPENED_WITH_MISS_TAG then opened_at true bytes
+    else if tag == SKIPPED_TAG then skipped_at bytes
     else None
 
 unfoldable pub entry_at : List ℕ → Option (Entry × List ℕ)

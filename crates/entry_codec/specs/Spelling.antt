@@ -22,11 +22,13 @@ use Rattle.farm_entry.specs.Settings.{settings_daily, settings_lease_ms, setting
 use Rattle.farm_entry.specs.declared.entry.Entry.{Entry}
 use Rattle.farm_entry.specs.declared.entry.Fate.{Fate}
 use Rattle.farm_entry.specs.declared.entry.Fate.TheVariants.{Counted, Late, Over}
+use Rattle.farm_entry.specs.declared.entry.SkipFate.{SkipFate}
+use Rattle.farm_entry.specs.declared.entry.SkipFate.TheVariants as skip
 use Rattle.farm_entry.specs.declared.entry.What.{What}
-use Rattle.farm_entry.specs.declared.entry.What.TheVariants.{Founded, Opened, Leased, Reported, Cancelled, Ordered}
+use Rattle.farm_entry.specs.declared.entry.What.TheVariants.{Founded, Opened, Leased, Reported, Skipped, Cancelled, Ordered}
 use Rattle.farm_entry.specs.declared.opening.Opening.{Opening}
 use Rattle.farm_entry.specs.declared.settings.Settings.{Settings}
-use Rattle.entry_codec.specs.declared.marks.TheConstants.{CANCELLED_TAG, COUNTED_MARK, FAIL_MARK, FOUNDED_TAG, LATE_MARK, LEASED_TAG, OPENED_TAG, OPENED_WITH_MISS_TAG, ORDERED_TAG, OVER_MARK, PASS_MARK, REPORTED_TAG, SEARCH_MARK, VERIFY_MARK}
+use Rattle.entry_codec.specs.declared.marks.TheConstants.{CANCELLED_TAG, COUNTED_MARK, FAIL_MARK, FOUNDED_TAG, LATE_MARK, LEASED_TAG, OPENED_TAG, OPENED_WITH_MISS_TAG, ORDERED_TAG, OVER_MARK, PASS_MARK, REPORTED_TAG, SEARCH_MARK, SKIPPED_TAG, TAKEN_MARK, VERIFY_MARK}
 
 -- a number as so many bytes
 unfoldable pub number_bytes : (bytes number : ℕ) → List ℕ
@@ -51,6 +53,11 @@ abbrev pub fate_mark : Fate → ℕ
 fate_mark Counted = COUNTED_MARK
 fate_mark Late = LATE_MARK
 fate_mark Over = OVER_MARK
+
+-- what a report did that says that a tree can't be tested
+abbrev pub skip_fate_mark : SkipFate → ℕ
+skip_fate_mark skip.Taken = TAKEN_MARK
+skip_fate_mark skip.Late = LATE_MARK
 
 -- how far a time zone lies east of the westernmost one, in minutes
 abbrev pub zone_number : Settings → ℕ
@@ -99,6 +106,7 @@ tag_of (Founded settings) = FOUNDED_TAG
 tag_of (Opened o) = opening_tag o
 tag_of (Leased key worker run search stage position deadline) = LEASED_TAG
 tag_of (Reported run verdict _) = REPORTED_TAG
+tag_of (Skipped run _) = SKIPPED_TAG
 tag_of (Cancelled key search) = CANCELLED_TAG
 tag_of (Ordered key agent order commit search day) = ORDERED_TAG
 
@@ -112,6 +120,7 @@ fields_of (Leased key worker run search stage position deadline) =
     ++ number_bytes 2 position ++ number_bytes 8 deadline
 fields_of (Reported run verdict fate) =
     number_bytes 4 run ++ number_bytes 1 (verdict_mark verdict) ++ number_bytes 1 (fate_mark fate)
+fields_of (Skipped run fate) = number_bytes 4 run ++ number_bytes 1 (skip_fate_mark fate)
 fields_of (Cancelled key search) = number_bytes 16 key.0 ++ number_bytes 4 search
 fields_of (Ordered key agent order commit search day) =
     number_bytes 16 key.0 ++ name_bytes agent ++ number_bytes 4 order ++ id_bytes commit ++ number_bytes 4 search

@@ -28,9 +28,11 @@ use Rattle.farm_entry.specs.Ask.{when_passed}
 use Rattle.farm_entry.specs.Limits.{IsDailyLimit, IsLeaseTime, IsZone}
 use Rattle.farm_entry.specs.declared.entry.Fate.{Fate}
 use Rattle.farm_entry.specs.declared.entry.Fate.TheVariants.{Counted, Late, Over}
+use Rattle.farm_entry.specs.declared.entry.SkipFate.{SkipFate}
+use Rattle.farm_entry.specs.declared.entry.SkipFate.TheVariants as skip
 use Rattle.farm_entry.specs.declared.settings.Settings.{Settings}
 use Rattle.farm_entry.specs.declared.settings.TheConstants.{LEASE_MAX_MS, LEASE_MIN_MS, MAX_DAILY}
-use Rattle.entry_codec.specs.declared.marks.TheConstants.{COUNTED_MARK, FAIL_MARK, LATE_MARK, OVER_MARK, PASS_MARK, SEARCH_MARK, VERIFY_MARK}
+use Rattle.entry_codec.specs.declared.marks.TheConstants.{COUNTED_MARK, FAIL_MARK, LATE_MARK, OVER_MARK, PASS_MARK, SEARCH_MARK, TAKEN_MARK, VERIFY_MARK}
 
 -- moments
 
@@ -73,6 +75,10 @@ abbrev pub fate_of : ℕ → Option Fate
 fate_of mark =
     if mark == COUNTED_MARK then Some Counted else if mark == LATE_MARK then Some Late
     else if mark == OVER_MARK then Some Over else None
+
+abbrev pub skip_fate_of : ℕ → Option SkipFate
+skip_fate_of mark =
+    if mark == TAKEN_MARK then Some skip.Taken else if mark == LATE_MARK then Some skip.Late else None
 
 -- settings
 

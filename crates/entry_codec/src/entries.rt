@@ -2,17 +2,18 @@
 
 ghost use Rattle.std.specs.Prelude.{◌≡◌};
 ghost use Rattle.entry_codec.specs.Gives.{Gives};
-ghost use Rattle.entry_codec.specs.Reading.{cancelled_at, entry_at, founded_at, leased_at, opened_at, opening_at, ordered_at, reported_at, what_at};
+ghost use Rattle.entry_codec.specs.Reading.{cancelled_at, entry_at, founded_at, leased_at, opened_at, opening_at, ordered_at};
+ghost use Rattle.entry_codec.specs.Reading.{reported_at, skipped_at, what_at};
 
 use crate::fault::Unread;
 use crate::fields::{u8_at, u16_at, u32_at, u64_at};
 use crate::marks::{
     CANCELLED_TAG, FOUNDED_TAG, LEASED_TAG, OPENED_TAG, OPENED_WITH_MISS_TAG, ORDERED_TAG,
-    REPORTED_TAG,
+    REPORTED_TAG, SKIPPED_TAG,
 };
 use crate::parts::{
     bar_at, fate_at, id_at, key_at, miss_at, moment_at, name_at, range_at, rate_at, settings_at,
-    stage_at, up_to_at, verdict_at,
+    skip_fate_at, stage_at, up_to_at, verdict_at,
 };
 use farm_entry::{BoxedOpening, Entry, MAX_RERUNS, Opening, What};
 use std::alloc::Global;
@@ -97,6 +98,15 @@ fn reported_at(bytes: &[u8]) -> Result<(What, &[u8]), Unread>
     Ok((What::Reported { run, verdict, fate }, rest))
 }
 
+#[tactic(auto, unfolding(crate::specs::Reading::skipped_at))]
+fn skipped_at(bytes: &[u8]) -> Result<(What, &[u8]), Unread>
+    ensures { Gives (λ x. (x.0, x.1.now)) result (skipped_at bytes.now) }
+{
+    let (run, rest) = u32_at(bytes)?;
+    let (fate, rest) = skip_fate_at(rest)?;
+    Ok((What::Skipped { run, fate }, rest))
+}
+
 #[tactic(auto, unfolding(crate::specs::Reading::cancelled_at))]
 fn cancelled_at(bytes: &[u8]) -> Result<(What, &[u8]), Unread>
     ensures { Gives (λ x. (x.0, x.1.now)) result (cancelled_at bytes.now) }
@@ -140,6 +150,7 @@ fn what_at(alloc: Global, tag: u8, bytes: &[u8]) -> Result<(What, &[u8]), Unread
         CANCELLED_TAG => cancelled_at(bytes),
         ORDERED_TAG => ordered_at(alloc, bytes),
         OPENED_WITH_MISS_TAG => opened_at(alloc, true, bytes),
+        SKIPPED_TAG => skipped_at(bytes),
         _ => Err(Unread::Malformed),
     }
 }

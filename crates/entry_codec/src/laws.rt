@@ -36,10 +36,10 @@ pub fn faults_are_unique()
         → bytes ≡ spelling entries → ⊥ }
 {}
 
-/// An entry has 15 to [`MAX_ENTRY_BYTES`](crate::MAX_ENTRY_BYTES) bytes, and entries at most as many times that.
+/// An entry has 14 to [`MAX_ENTRY_BYTES`](crate::MAX_ENTRY_BYTES) bytes, and entries at most as many times that.
 pub fn entries_are_short()
     ensures entry { (entry : Entry) → HasSpelling entry.what
-        → (15 ≤ length (entry_bytes entry)) × (length (entry_bytes entry) ≤ MAX_ENTRY_BYTES) }
+        → (14 ≤ length (entry_bytes entry)) × (length (entry_bytes entry) ≤ MAX_ENTRY_BYTES) }
     ensures entries { (entries : List Entry) → AreSpelled entries
         → length (spelling entries) ≤ length entries * MAX_ENTRY_BYTES }
 {}

@@ -21,6 +21,9 @@ pub const ORDERED_TAG: u8 = 6;
 /// The tag of an opening whose miss rate is above 0.
 pub const OPENED_WITH_MISS_TAG: u8 = 7;
 
+/// The tag of a report of a run whose tree can't be tested.
+pub const SKIPPED_TAG: u8 = 8;
+
 /// A run that is to find the culprit.
 pub const SEARCH_MARK: u8 = 1;
 
@@ -41,3 +44,7 @@ pub const LATE_MARK: u8 = 2;
 
 /// The report would have taken the search past its budget.
 pub const OVER_MARK: u8 = 3;
+
+/// The report that a tree can't be tested closes the run's position. Where it came too late, its mark is
+/// [`LATE_MARK`].
+pub const TAKEN_MARK: u8 = 1;

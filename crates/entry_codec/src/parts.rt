@@ -2,15 +2,16 @@
 
 ghost use Rattle.std.specs.Prelude.{◌≡◌};
 ghost use Rattle.entry_codec.specs.Gives.{Gives};
-ghost use Rattle.entry_codec.specs.Reading.{bar_at, fate_at, id_at, key_at, miss_at, moment_at, name_at, range_at, rate_at, settings_at, stage_at, suspect_at, suspects_at, up_to_at, verdict_at};
+ghost use Rattle.entry_codec.specs.Reading.{bar_at, fate_at, id_at, key_at, miss_at, moment_at, name_at, range_at, rate_at, settings_at, skip_fate_at, stage_at};
+ghost use Rattle.entry_codec.specs.Reading.{suspect_at, suspects_at, up_to_at, verdict_at};
 
 use crate::fault::Unread;
 use crate::fields::{bytes_at, u8_at, u16_at, u32_at, u64_at, u128_at};
 use crate::values::{
     bar_of, fate_of, fitting_miss, id_of, lowest_miss, lowest_rate, moment_of, name_of, range_of,
-    settings_of, stage_of, up_to, verdict_of,
+    settings_of, skip_fate_of, stage_of, up_to, verdict_of,
 };
-use farm_entry::{Fate, Settings};
+use farm_entry::{Fate, Settings, SkipFate};
 use farm_types::{CommitId, Key, Moment, Name, Stage};
 use flake_rate::{Bar, Miss, Rate};
 use std::alloc::Global;
@@ -84,6 +85,17 @@ pub(crate) fn fate_at(bytes: &[u8]) -> Result<(Fate, &[u8]), Unread>
 {
     let (mark, rest) = u8_at(bytes)?;
     match fate_of(mark) {
+        Some(fate) => Ok((fate, rest)),
+        None => Err(Unread::Malformed),
+    }
+}
+
+#[tactic(auto, unfolding(crate::specs::Reading::skip_fate_at))]
+pub(crate) fn skip_fate_at(bytes: &[u8]) -> Result<(SkipFate, &[u8]), Unread>
+    ensures { Gives (λ x. (x.0, x.1.now)) result (skip_fate_at bytes.now) }
+{
+    let (mark, rest) = u8_at(bytes)?;
+    match skip_fate_of(mark) {
         Some(fate) => Ok((fate, rest)),
         None => Err(Unread::Malformed),
     }

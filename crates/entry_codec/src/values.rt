@@ -2,14 +2,15 @@
 
 ghost use Rattle.std.specs.Prelude.{◌≡◌, Some};
 ghost use Rattle.entry_codec.specs.Gives.{Gives};
-ghost use Rattle.entry_codec.specs.Values.{fate_of, fitting_miss, id_of, lowest_miss, lowest_rate, moment_of, name_of, range_of, settings_of, stage_of, up_to, verdict_of};
+ghost use Rattle.entry_codec.specs.Values.{fate_of, fitting_miss, id_of, lowest_miss, lowest_rate, moment_of, name_of, range_of, settings_of, skip_fate_of, stage_of};
+ghost use Rattle.entry_codec.specs.Values.{up_to, verdict_of};
 ghost use Rattle.farm_entry.specs.Ask.{bar_of};
 
 use crate::fault::Unread;
 use crate::marks::{
-    COUNTED_MARK, FAIL_MARK, LATE_MARK, OVER_MARK, PASS_MARK, SEARCH_MARK, VERIFY_MARK,
+    COUNTED_MARK, FAIL_MARK, LATE_MARK, OVER_MARK, PASS_MARK, SEARCH_MARK, TAKEN_MARK, VERIFY_MARK,
 };
-use farm_entry::{Fate, Settings};
+use farm_entry::{Fate, Settings, SkipFate};
 use farm_types::{CommitId, ID_BYTES, Moment, Name, NameFault, Stage, ZONE_MIN_MINUTES};
 use flake_rate::{Bar, Miss, Rate};
 use std::alloc::Global;
@@ -78,6 +79,17 @@ pub(crate) fn fate_of(mark: u8) -> Option<Fate>
         COUNTED_MARK => Some(Fate::Counted),
         LATE_MARK => Some(Fate::Late),
         OVER_MARK => Some(Fate::Over),
+        _ => None,
+    }
+}
+
+/// What a report did that says that a tree can't be tested.
+pub(crate) fn skip_fate_of(mark: u8) -> Option<SkipFate>
+    ensures { result ≡ skip_fate_of mark }
+{
+    match mark {
+        TAKEN_MARK => Some(SkipFate::Taken),
+        LATE_MARK => Some(SkipFate::Late),
         _ => None,
     }
 }

@@ -3,7 +3,8 @@
 ghost use Rattle.std.specs.Prelude.{◌≡◌, ◌^◌, ◌<◌, ◌++◌, All, OnOk, IfOk};
 ghost use Rattle.std.specs.List.{flat_map};
 ghost use Rattle.entry_codec.specs.Grammar.{AreSpelled, HasSpelling, IsOpenedWithin, IsOpening, IsWithinLimits};
-ghost use Rattle.entry_codec.specs.Spelling.{bar_bytes, entry_bytes, fate_mark, fields_of, miss_bytes, name_bytes, number_bytes, opening_bytes, range_bytes, rate_bytes, settings_bytes, spelling, stage_mark, suspect_bytes, tag_of, verdict_mark, zone_number};
+ghost use Rattle.entry_codec.specs.Spelling.{bar_bytes, entry_bytes, fate_mark, fields_of, miss_bytes, name_bytes, number_bytes, opening_bytes, range_bytes, rate_bytes, settings_bytes, skip_fate_mark, spelling, stage_mark};
+ghost use Rattle.entry_codec.specs.Spelling.{suspect_bytes, tag_of, verdict_mark, zone_number};
 ghost use Rattle.farm_types.specs.CommitId.{id_bytes};
 ghost use Rattle.farm_types.specs.Limits.{IsName};
 ghost use Rattle.suspect_range.specs.Range.{IsSuspectRange};
@@ -11,9 +12,9 @@ ghost use Rattle.suspect_range.specs.Range.{IsSuspectRange};
 use crate::marks::{
     CANCELLED_TAG, COUNTED_MARK, FAIL_MARK, FOUNDED_TAG, LATE_MARK, LEASED_TAG, OPENED_TAG,
     OPENED_WITH_MISS_TAG, ORDERED_TAG, OVER_MARK, PASS_MARK, REPORTED_TAG, SEARCH_MARK,
-    VERIFY_MARK,
+    SKIPPED_TAG, TAKEN_MARK, VERIFY_MARK,
 };
-use farm_entry::{Entry, Fate, Opening, Settings, What};
+use farm_entry::{Entry, Fate, Opening, Settings, SkipFate, What};
 use farm_types::{CommitId, Memory, Name, Stage, ZONE_MIN_MINUTES};
 use flake_rate::{Bar, Miss, Rate};
 use std::alloc::Global;
@@ -111,6 +112,15 @@ fn fate_mark(fate: Fate) -> u8
         Fate::Counted => COUNTED_MARK,
         Fate::Late => LATE_MARK,
         Fate::Over => OVER_MARK,
+    }
+}
+
+fn skip_fate_mark(fate: SkipFate) -> u8
+    ensures { result ≡ skip_fate_mark fate }
+{
+    match fate {
+        SkipFate::Taken => TAKEN_MARK,
+        SkipFate::Late => LATE_MARK,
     }
 }
 
@@ -213,6 +223,7 @@ fn tag_of(what: &What) -> u8
         }
         What::Leased { .. } => LEASED_TAG,
         What::Reported { .. } => REPORTED_TAG,
+        What::Skipped { .. } => SKIPPED_TAG,
         What::Cancelled { .. } => CANCELLED_TAG,
         What::Ordered { .. } => ORDERED_TAG,
     }
@@ -248,6 +259,10 @@ fn put_fields(out: &mut Vec<u8>, what: &What) -> Result<(), Memory>
             put_u32(out, *run)?;
             put_u8(out, verdict_mark(*verdict))?;
             put_u8(out, fate_mark(*fate))
+        }
+        What::Skipped { run, fate } => {
+            put_u32(out, *run)?;
+            put_u8(out, skip_fate_mark(*fate))
         }
         What::Cancelled { key, search } => {
             put_u128(out, key.0)?;

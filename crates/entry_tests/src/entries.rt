@@ -2,7 +2,7 @@
 
 use crate::openings::{commit, name_of, open_of};
 use crate::texts::{print_found, word};
-use farm_entry::{BoxedOpening, Entry, What};
+use farm_entry::{BoxedOpening, Entry, SkipFate, What};
 use farm_types::{Key, Memory, Moment, Stage};
 use std::alloc::Global;
 use std::io;
@@ -19,7 +19,8 @@ fn opened(alloc: Global) -> Result<What, Memory> {
     }
 }
 
-// What is recorded of a run that is handed out to this worker, of an order to this agent, or of an opening.
+// What is recorded of a run that is handed out to this worker, of one whose tree can't be tested, of an order to this
+// agent, or of an opening.
 fn what_of(alloc: Global, kind: &str, name: &str) -> Result<What, Memory> {
     match kind {
         "leased" => Ok(What::Leased {
@@ -30,6 +31,10 @@ fn what_of(alloc: Global, kind: &str, name: &str) -> Result<What, Memory> {
             stage: Stage::Verify,
             position: 24,
             deadline: 4_102_444_800_025,
+        }),
+        "skipped" => Ok(What::Skipped {
+            run: 26,
+            fate: SkipFate::Taken,
         }),
         "ordered" => Ok(What::Ordered {
             key: Key(31),

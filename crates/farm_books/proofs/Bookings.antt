@@ -10,17 +10,16 @@ use Rattle.std.proofs.lemmas.List.Folds.{list_any_none}
 use Rattle.std.proofs.lemmas.Option.{none-some}
 use Rattle.farm_types.proofs.FirstIndex.{fails-from_none}
 use Rattle.lease_book.specs.Leases.{Held, marked}
-use Rattle.farm_entry.specs.History.{all_leases, is_of_run, is_report_of, is_reported, lease_in, place_of_report, report_in, reports}
+use Rattle.farm_entry.specs.History.{all_leases, is_of_run, is_report_of, is_reported, lease_in, place_of_report, told_in, told_runs}
 use Rattle.farm_entry.specs.Legal.{IsLegal}
 use Rattle.farm_entry.specs.declared.entry.Entry.{Entry}
 use Rattle.farm_entry.specs.declared.entry.What.{What}
-use Rattle.farm_entry.specs.declared.entry.What.TheVariants.{Founded, Opened, Leased, Reported, Cancelled, Ordered}
+use Rattle.farm_entry.specs.declared.entry.What.TheVariants.{Founded, Opened, Leased, Reported, Skipped, Cancelled, Ordered}
 use Rattle.farm_entry.specs.declared.lease.LeasedRun.{LeasedRun}
-use Rattle.farm_entry.specs.declared.lease.ReportedRun.{ReportedRun}
 use Rattle.farm_entry.proofs.Growing.{all_leases-grow}
-use Rattle.farm_laws.proofs.EntryParts.{leased-facts, reported-facts}
+use Rattle.farm_laws.proofs.EntryParts.{leased-facts, told-facts}
 use Rattle.farm_laws.proofs.Filters.{HasLease, is_reported-grow}
-use Rattle.farm_laws.proofs.Known.{reports-known}
+use Rattle.farm_laws.proofs.Known.{told_runs-known}
 use Rattle.farm_laws.proofs.Numbered.{lease-there, leases-numbered, number-at, tail_of}
 use Rattle.farm_laws.proofs.Stepped.{Stepped}
 use Rattle.farm_books.specs.Kept.{AreLeases, booked, leased, with_lease, with_mark, without_lease}
@@ -113,21 +112,21 @@ marked-marks run told test helds ls some all are =
 -- What an entry reports.
 
 -- whether a run is reported with an entry appended
-reported-step : (H : List Entry) (e : Entry) (r : ReportedRun) (run : ℕ) → report_in e.what ≡ Some r →
-    is_reported (H ++ e ∷ []) run ≡ (is_reported H run || (r.run == run || false))
-reported-step H e r run is =
+reported-step : (H : List Entry) (e : Entry) (told run : ℕ) → told_in e.what ≡ Some told →
+    is_reported (H ++ e ∷ []) run ≡ (is_reported H run || (told == run || false))
+reported-step H e told run is =
     is_reported-grow H e run
-    ∙ ap (λ (x : Option ReportedRun). is_reported H run || list_any (λ (y : ReportedRun). y.run == run) (cons_option x [])) is
+    ∙ ap (λ (x : Option ℕ). is_reported H run || list_any (λ (y : ℕ). y == run) (cons_option x [])) is
 
 or-false : (a : Bool) → (a || false) ≡ a
 or-false true = refl
 or-false false = refl
 
-pub unreported-step : (H : List Entry) (e : Entry) (run : ℕ) → report_in e.what ≡ None →
+pub unreported-step : (H : List Entry) (e : Entry) (run : ℕ) → told_in e.what ≡ None →
     is_reported (H ++ e ∷ []) run ≡ is_reported H run
 unreported-step H e run none =
     is_reported-grow H e run
-    ∙ ap (λ (x : Option ReportedRun). is_reported H run || list_any (λ (y : ReportedRun). y.run == run) (cons_option x [])) none
+    ∙ ap (λ (x : Option ℕ). is_reported H run || list_any (λ (y : ℕ). y == run) (cons_option x [])) none
     ∙ or-false (is_reported H run)
 
 -- a test at one number, where it was reported, and where it wasn't
@@ -150,9 +149,9 @@ one-on n k before =
     ∙ sym (ap (λ (b : Bool). if b then true else before) other))
     (cases_eq k n)
 
-pub reported-on : (H : List Entry) (e : Entry) (r : ReportedRun) (run : ℕ) → report_in e.what ≡ Some r →
-    is_reported (H ++ e ∷ []) run ≡ at_one r.run true (is_reported H) run
-reported-on H e r run is = reported-step H e r run is ∙ one-on r.run run (is_reported H run)
+pub reported-on : (H : List Entry) (e : Entry) (told run : ℕ) → told_in e.what ≡ Some told →
+    is_reported (H ++ e ∷ []) run ≡ at_one told true (is_reported H) run
+reported-on H e told run is = reported-step H e told run is ∙ one-on told run (is_reported H run)
 
 one-off : (n k : ℕ) (test : ℕ → Bool) (longer : ℕ → Bool) → longer k ≡ at_one n true test k → test n ≡ false →
     at_one n false longer k ≡ test k
@@ -166,10 +165,10 @@ one-off n k test longer is none =
     ap (λ (b : Bool). if b then false else longer k) other ∙ is ∙ ap (λ (b : Bool). if b then true else test k) other)
     (cases_eq k n)
 
-pub reported-off : (H : List Entry) (e : Entry) (r : ReportedRun) (run : ℕ) → report_in e.what ≡ Some r →
-    is_reported H r.run ≡ false → at_one r.run false (is_reported (H ++ e ∷ [])) run ≡ is_reported H run
-reported-off H e r run is none =
-    one-off r.run run (is_reported H) (is_reported (H ++ e ∷ [])) (reported-on H e r run is) none
+pub reported-off : (H : List Entry) (e : Entry) (told run : ℕ) → told_in e.what ≡ Some told →
+    is_reported H told ≡ false → at_one told false (is_reported (H ++ e ∷ [])) run ≡ is_reported H run
+reported-off H e told run is none =
+    one-off told run (is_reported H) (is_reported (H ++ e ∷ [])) (reported-on H e told run is) none
 
 -- Runs that have no report.
 
@@ -188,23 +187,23 @@ too-high a n run low next = grind (arith, nat_tests)
 -- the run that is handed out next
 pub next-unreported : (H : List Entry) (run : ℕ) → IsLegal H → run ≡ length (all_leases H) + 1 → is_reported H run ≡ false
 next-unreported H run legal next =
-    list_any_none (λ (r : ReportedRun). r.run == run) (reports H)
+    list_any_none (λ (told : ℕ). told == run) (told_runs H)
     (λ k d below.
-    too-high (get_or (reports H) k d).run (length (all_leases H)) run
-    (lease-low H (get_or (reports H) k d).run legal (reports-known H legal k d below)).1 next)
+    too-high (get_or (told_runs H) k d) (length (all_leases H)) run
+    (lease-low H (get_or (told_runs H) k d) legal (told_runs-known H legal k d below)).1 next)
 
 -- a run whose report stands nowhere
-unreported-part : (run : ℕ) (part : Option ReportedRun) (rs : List ReportedRun) → is_of_run run part ≡ false →
-    list_any (λ (r : ReportedRun). r.run == run) rs ≡ false →
-    list_any (λ (r : ReportedRun). r.run == run) (cons_option part rs) ≡ false
-unreported-part run None rs other rest = rest
-unreported-part run (Some r) rs other rest =
-    ap (λ (b : Bool). b || list_any (λ (x : ReportedRun). x.run == run) rs) other ∙ rest
+unreported-part : (run : ℕ) (part : Option ℕ) (runs : List ℕ) → is_of_run run part ≡ false →
+    list_any (λ (told : ℕ). told == run) runs ≡ false →
+    list_any (λ (told : ℕ). told == run) (cons_option part runs) ≡ false
+unreported-part run None runs other rest = rest
+unreported-part run (Some told) runs other rest =
+    ap (λ (b : Bool). b || list_any (λ (x : ℕ). x == run) runs) other ∙ rest
 
 unreported-all : (run : ℕ) (H : List Entry) → All (λ (e : Entry). is_report_of run e ≡ false) H → is_reported H run ≡ false
 unreported-all run [] h = refl
 unreported-all run (e ∷ H) h =
-    unreported-part run (report_in e.what) (reports H) (All-head (λ (x : Entry). is_report_of run x ≡ false) e H h)
+    unreported-part run (told_in e.what) (told_runs H) (All-head (λ (x : Entry). is_report_of run x ≡ false) e H h)
     (unreported-all run H (All-tail (λ (x : Entry). is_report_of run x ≡ false) e H h))
 
 pub nowhere-unreported : (H : List Entry) (run : ℕ) → place_of_report H run ≡ None → is_reported H run ≡ false
@@ -212,21 +211,23 @@ nowhere-unreported H run none = unreported-all run H (λ k d below. fails-from_n
 
 -- What appending an entry makes of the leases.
 
-lease-not_report : (w : What) (l : LeasedRun) → lease_in w ≡ Some l → report_in w ≡ None
-lease-not_report (Leased k w r q t p d) l h = refl
-lease-not_report (Founded x) l h = absurd (none-some l h)
-lease-not_report (Opened o) l h = absurd (none-some l h)
-lease-not_report (Reported r v _) l h = absurd (none-some l h)
-lease-not_report (Cancelled k q) l h = absurd (none-some l h)
-lease-not_report (Ordered k a n c q d) l h = absurd (none-some l h)
+lease-not_told : (w : What) (l : LeasedRun) → lease_in w ≡ Some l → told_in w ≡ None
+lease-not_told (Leased k w r q t p d) l h = refl
+lease-not_told (Founded x) l h = absurd (none-some l h)
+lease-not_told (Opened o) l h = absurd (none-some l h)
+lease-not_told (Reported r v _) l h = absurd (none-some l h)
+lease-not_told (Skipped r _) l h = absurd (none-some l h)
+lease-not_told (Cancelled k q) l h = absurd (none-some l h)
+lease-not_told (Ordered k a n c q d) l h = absurd (none-some l h)
 
-report-not_lease : (w : What) (r : ReportedRun) → report_in w ≡ Some r → lease_in w ≡ None
-report-not_lease (Reported n v _) r h = refl
-report-not_lease (Founded x) r h = absurd (none-some r h)
-report-not_lease (Opened o) r h = absurd (none-some r h)
-report-not_lease (Leased k w n q t p d) r h = absurd (none-some r h)
-report-not_lease (Cancelled k q) r h = absurd (none-some r h)
-report-not_lease (Ordered k a n c q d) r h = absurd (none-some r h)
+told-not_lease : (w : What) (told : ℕ) → told_in w ≡ Some told → lease_in w ≡ None
+told-not_lease (Reported n v _) told h = refl
+told-not_lease (Skipped n _) told h = refl
+told-not_lease (Founded x) told h = absurd (none-some told h)
+told-not_lease (Opened o) told h = absurd (none-some told h)
+told-not_lease (Leased k w n q t p d) told h = absurd (none-some told h)
+told-not_lease (Cancelled k q) told h = absurd (none-some told h)
+told-not_lease (Ordered k a n c q d) told h = absurd (none-some told h)
 
 -- the leases of a history with an entry that hands out none, or one
 same-leases : (H : List Entry) (e : Entry) → lease_in e.what ≡ None → all_leases (H ++ e ∷ []) ≡ all_leases H
@@ -239,14 +240,14 @@ pub more-leases : (H : List Entry) (e : Entry) (l : LeasedRun) → lease_in e.wh
     all_leases (H ++ e ∷ []) ≡ all_leases H ++ l ∷ []
 more-leases H e l is = all_leases-grow H e ∙ ap (λ (x : Option LeasedRun). all_leases H ++ cons_option x []) is
 
--- marks by a history and by the history with an entry that reports nothing
-quiet-marks : (H : List Entry) (e : Entry) (ls : List LeasedRun) → report_in e.what ≡ None →
+-- marks by a history and by the history with an entry that reports no run
+quiet-marks : (H : List Entry) (e : Entry) (ls : List LeasedRun) → told_in e.what ≡ None →
     tests_of (is_reported (H ++ e ∷ [])) ls ≡ tests_of (is_reported H) ls
 quiet-marks H e ls none =
     tests-same (is_reported (H ++ e ∷ [])) (is_reported H) ls (λ k d below. unreported-step H e (get_or ls k d).run none)
 
 -- none of both
-still-leases : (H : List Entry) (e : Entry) (helds : List Held) → lease_in e.what ≡ None → report_in e.what ≡ None →
+still-leases : (H : List Entry) (e : Entry) (helds : List Held) → lease_in e.what ≡ None → told_in e.what ≡ None →
     AreLeases H helds → AreLeases (H ++ e ∷ []) helds
 still-leases H e helds no_lease no_report are =
     let same = same-leases H e no_lease in
@@ -265,7 +266,7 @@ booked-leases : (H : List Entry) (e : Entry) (helds : List Held) (l : LeasedRun)
 booked-leases H e helds l legal is number are =
     let more = more-leases H e l is in
     let longer = H ++ e ∷ [] in
-    let no_report = lease-not_report e.what l is in
+    let no_report = lease-not_told e.what l is in
     let fresh : false ≡ is_reported longer l.run =
     sym (unreported-step H e l.run no_report ∙ next-unreported H l.run legal number) in
     record {
@@ -282,40 +283,40 @@ booked-leases H e helds l legal is number are =
     }
 
 -- a mark more
-marked-more : (H : List Entry) (e : Entry) (helds : List Held) (r : ReportedRun) → IsLegal H → report_in e.what ≡ Some r →
-    0 < r.run → AreLeases H helds → AreLeases (H ++ e ∷ []) (marked true (r.run - 1) helds)
-marked-more H e helds r legal is some are =
-    let same = same-leases H e (report-not_lease e.what r is) in
+marked-more : (H : List Entry) (e : Entry) (helds : List Held) (told : ℕ) → IsLegal H → told_in e.what ≡ Some told →
+    0 < told → AreLeases H helds → AreLeases (H ++ e ∷ []) (marked true (told - 1) helds)
+marked-more H e helds told legal is some are =
+    let same = same-leases H e (told-not_lease e.what told is) in
     let longer = H ++ e ∷ [] in
     record {
-      leases_are = marked-leases true (r.run - 1) helds ∙ are.leases_are ∙ sym same;
+      leases_are = marked-leases true (told - 1) helds ∙ are.leases_are ∙ sym same;
       marks_are =
-          marked-marks r.run true (is_reported H) helds (all_leases H) some (leases-numbered H legal) are.marks_are
-          ∙ sym (tests-same (is_reported longer) (at_one r.run true (is_reported H)) (all_leases H)
-          (λ k d below. reported-on H e r (get_or (all_leases H) k d).run is))
+          marked-marks told true (is_reported H) helds (all_leases H) some (leases-numbered H legal) are.marks_are
+          ∙ sym (tests-same (is_reported longer) (at_one told true (is_reported H)) (all_leases H)
+          (λ k d below. reported-on H e told (get_or (all_leases H) k d).run is))
           ∙ ap (tests_of (is_reported longer)) (sym same);
     }
 
 push-by : (H : List Entry) (e : Entry) (helds : List Held) (lease : Option LeasedRun)
-    (report : Option ReportedRun) → IsLegal H → Stepped H e.at e.what → lease_in e.what ≡ lease → report_in e.what ≡ report →
+    (report : Option ℕ) → IsLegal H → Stepped H e.at e.what → lease_in e.what ≡ lease → told_in e.what ≡ report →
     AreLeases H helds → AreLeases (H ++ e ∷ []) (with_mark true (with_lease helds lease) report)
 push-by H e helds None None legal step no_lease no_report are = still-leases H e helds no_lease no_report are
 push-by H e helds (Some l) None legal step is no_report are =
     booked-leases H e helds l legal is (leased-facts H e.at e.what l is step).number are
-push-by H e helds None (Some r) legal step no_lease is are =
-    let facts = reported-facts H e.at e.what r is step in
-    marked-more H e helds r legal is (lease-low H r.run legal (facts.lease, facts.known)).0 are
-push-by H e helds (Some l) (Some r) legal step is reported are =
-    absurd (none-some r (sym (lease-not_report e.what l is) ∙ reported))
+push-by H e helds None (Some told) legal step no_lease is are =
+    let facts = told-facts H e.at e.what told is step in
+    marked-more H e helds told legal is (lease-low H told legal (facts.lease, facts.known)).0 are
+push-by H e helds (Some l) (Some told) legal step is reported are =
+    absurd (none-some told (sym (lease-not_told e.what l is) ∙ reported))
 
 pub leases-push : (H : List Entry) (e : Entry) (helds : List Held) → IsLegal H → Stepped H e.at e.what →
-    AreLeases H helds → AreLeases (H ++ e ∷ []) (with_mark true (with_lease helds (lease_in e.what)) (report_in e.what))
+    AreLeases H helds → AreLeases (H ++ e ∷ []) (with_mark true (with_lease helds (lease_in e.what)) (told_in e.what))
 leases-push H e helds legal step are =
-    push-by H e helds (lease_in e.what) (report_in e.what) legal step refl refl are
+    push-by H e helds (lease_in e.what) (told_in e.what) legal step refl refl are
 
 -- And what is left without it.
 
-back-leases : (H : List Entry) (e : Entry) (helds : List Held) → lease_in e.what ≡ None → report_in e.what ≡ None →
+back-leases : (H : List Entry) (e : Entry) (helds : List Held) → lease_in e.what ≡ None → told_in e.what ≡ None →
     AreLeases (H ++ e ∷ []) helds → AreLeases H helds
 back-leases H e helds no_lease no_report are =
     let same = same-leases H e no_lease in
@@ -355,38 +356,38 @@ unbooked-leases H e helds l is are =
           ∙ ap (take (length helds - 1)) (are.marks_are ∙ ap (map test) more)
           ∙ take-map test (length helds - 1) (ls ++ l ∷ [])
           ∙ ap (map test) front
-          ∙ quiet-marks H e ls (lease-not_report e.what l is);
+          ∙ quiet-marks H e ls (lease-not_told e.what l is);
     }
 
-marked-less : (H : List Entry) (e : Entry) (helds : List Held) (r : ReportedRun) → IsLegal H → report_in e.what ≡ Some r →
-    0 < r.run → place_of_report H r.run ≡ None → AreLeases (H ++ e ∷ []) helds →
-    AreLeases H (marked false (r.run - 1) helds)
-marked-less H e helds r legal is some fresh are =
-    let same = same-leases H e (report-not_lease e.what r is) in
+marked-less : (H : List Entry) (e : Entry) (helds : List Held) (told : ℕ) → IsLegal H → told_in e.what ≡ Some told →
+    0 < told → place_of_report H told ≡ None → AreLeases (H ++ e ∷ []) helds →
+    AreLeases H (marked false (told - 1) helds)
+marked-less H e helds told legal is some fresh are =
+    let same = same-leases H e (told-not_lease e.what told is) in
     let longer = H ++ e ∷ [] in
     record {
-      leases_are = marked-leases false (r.run - 1) helds ∙ are.leases_are ∙ same;
+      leases_are = marked-leases false (told - 1) helds ∙ are.leases_are ∙ same;
       marks_are =
-          marked-marks r.run false (is_reported longer) helds (all_leases H) some (leases-numbered H legal)
+          marked-marks told false (is_reported longer) helds (all_leases H) some (leases-numbered H legal)
           (are.marks_are ∙ ap (tests_of (is_reported longer)) same)
-          ∙ tests-same (at_one r.run false (is_reported longer)) (is_reported H) (all_leases H)
-          (λ k d below. reported-off H e r (get_or (all_leases H) k d).run is (nowhere-unreported H r.run fresh));
+          ∙ tests-same (at_one told false (is_reported longer)) (is_reported H) (all_leases H)
+          (λ k d below. reported-off H e told (get_or (all_leases H) k d).run is (nowhere-unreported H told fresh));
     }
 
-pop-by : (H : List Entry) (e : Entry) (helds : List Held) (lease : Option LeasedRun) (report : Option ReportedRun) →
-    IsLegal H → Stepped H e.at e.what → lease_in e.what ≡ lease → report_in e.what ≡ report →
+pop-by : (H : List Entry) (e : Entry) (helds : List Held) (lease : Option LeasedRun) (report : Option ℕ) →
+    IsLegal H → Stepped H e.at e.what → lease_in e.what ≡ lease → told_in e.what ≡ report →
     AreLeases (H ++ e ∷ []) helds → AreLeases H (without_lease (with_mark false helds report) lease)
 pop-by H e helds None None legal step no_lease no_report are = back-leases H e helds no_lease no_report are
 pop-by H e helds (Some l) None legal step is no_report are = unbooked-leases H e helds l is are
-pop-by H e helds None (Some r) legal step no_lease is are =
-    let facts = reported-facts H e.at e.what r is step in
-    marked-less H e helds r legal is (lease-low H r.run legal (facts.lease, facts.known)).0 facts.first are
-pop-by H e helds (Some l) (Some r) legal step is reported are =
-    absurd (none-some r (sym (lease-not_report e.what l is) ∙ reported))
+pop-by H e helds None (Some told) legal step no_lease is are =
+    let facts = told-facts H e.at e.what told is step in
+    marked-less H e helds told legal is (lease-low H told legal (facts.lease, facts.known)).0 facts.first are
+pop-by H e helds (Some l) (Some told) legal step is reported are =
+    absurd (none-some told (sym (lease-not_told e.what l is) ∙ reported))
 
 pub leases-pop : (H : List Entry) (e : Entry) (helds : List Held) → IsLegal H → Stepped H e.at e.what →
-    AreLeases (H ++ e ∷ []) helds → AreLeases H (without_lease (with_mark false helds (report_in e.what)) (lease_in e.what))
-leases-pop H e helds legal step are = pop-by H e helds (lease_in e.what) (report_in e.what) legal step refl refl are
+    AreLeases (H ++ e ∷ []) helds → AreLeases H (without_lease (with_mark false helds (told_in e.what)) (lease_in e.what))
+leases-pop H e helds legal step are = pop-by H e helds (lease_in e.what) (told_in e.what) legal step refl refl are
 
 -- how many leases there are
 pub leases-count : (H : List Entry) (helds : List Held) → AreLeases H helds → length helds ≡ length (all_leases H)
@@ -399,7 +400,7 @@ marked-long told i [] = refl
 marked-long told zero (held ∷ helds) = refl
 marked-long told (suc i) (held ∷ helds) = ap (λ (n : ℕ). suc n) (marked-long told i helds)
 
-pub marked-length : (told : Bool) (helds : List Held) (report : Option ReportedRun) →
-    length (with_mark told helds report) ≡ length helds
-marked-length told helds None = refl
-marked-length told helds (Some r) = marked-long told (r.run - 1) helds
+pub marked-length : (mark : Bool) (helds : List Held) (report : Option ℕ) →
+    length (with_mark mark helds report) ≡ length helds
+marked-length mark helds None = refl
+marked-length mark helds (Some told) = marked-long mark (told - 1) helds

@@ -5,12 +5,11 @@ use Rattle.std.specs.Option.{IfSome}
 use Rattle.std.proofs.lemmas.List.{length-take-le}
 use Rattle.farm_types.specs.declared.key.Key.{Key}
 use Rattle.lease_book.specs.Leases.{Held}
-use Rattle.farm_entry.specs.History.{all_leases, key_in, lease_in, report_in}
+use Rattle.farm_entry.specs.History.{all_leases, key_in, lease_in, told_in}
 use Rattle.farm_entry.specs.Legal.{IsLegal}
 use Rattle.farm_entry.specs.declared.entry.Entry.{Entry}
 use Rattle.farm_entry.specs.declared.lease.LeasedRun.{LeasedRun}
-use Rattle.farm_entry.specs.declared.lease.ReportedRun.{ReportedRun}
-use Rattle.farm_laws.proofs.EntryParts.{leased-facts, reported-facts}
+use Rattle.farm_laws.proofs.EntryParts.{leased-facts, told-facts}
 use Rattle.farm_laws.proofs.Filters.{HasLease, lease_of-stays}
 use Rattle.farm_laws.proofs.Induct.{IsLegal-first, IsLegal-pushed}
 use Rattle.farm_laws.proofs.Stepped.{Stepped, stepped}
@@ -34,10 +33,10 @@ key-absent H e keys None are step is = tt
 key-absent H e keys (Some k) are step is = are k ∙ step.fresh k (sym is)
 
 -- its run has no report
-pub report-absent : (H : List Entry) (e : Entry) (runs : Places) (part : Option ReportedRun) → AreReports H runs →
-    Stepped H e.at e.what → part ≡ report_in e.what → IfSome part (λ r. get runs r.run ≡ None)
+pub report-absent : (H : List Entry) (e : Entry) (runs : Places) (part : Option ℕ) → AreReports H runs →
+    Stepped H e.at e.what → part ≡ told_in e.what → IfSome part (λ told. get runs told ≡ None)
 report-absent H e runs None are step is = tt
-report-absent H e runs (Some r) are step is = are r.run ∙ (reported-facts H e.at e.what r (sym is) step).first
+report-absent H e runs (Some told) are step is = are told ∙ (told-facts H e.at e.what told (sym is) step).first
 
 -- its lease has the next number
 pub lease-next : (H : List Entry) (e : Entry) (helds : List Held) (part : Option LeasedRun) → AreLeases H helds →
@@ -47,13 +46,13 @@ lease-next H e helds (Some l) are step is =
     (leased-facts H e.at e.what l (sym is) step).number ∙ ap (λ (n : ℕ). n + 1) (sym (leases-count H helds are))
 
 -- its report is of a run that was handed out
-pub report-known : (H : List Entry) (e : Entry) (helds : List Held) (part : Option ReportedRun) (n : ℕ) → IsLegal H →
-    AreLeases H helds → Stepped H e.at e.what → part ≡ report_in e.what → length helds ≤ n →
-    IfSome part (λ r. (0 < r.run) × (r.run ≤ n))
+pub report-known : (H : List Entry) (e : Entry) (helds : List Held) (part : Option ℕ) (n : ℕ) → IsLegal H →
+    AreLeases H helds → Stepped H e.at e.what → part ≡ told_in e.what → length helds ≤ n →
+    IfSome part (λ told. (0 < told) × (told ≤ n))
 report-known H e helds None n legal are step is long = tt
-report-known H e helds (Some r) n legal are step is long =
-    let facts = reported-facts H e.at e.what r (sym is) step in
-    let low = lease-low H r.run legal (facts.lease, facts.known) in
+report-known H e helds (Some told) n legal are step is long =
+    let facts = told-facts H e.at e.what told (sym is) step in
+    let low = lease-low H told legal (facts.lease, facts.known) in
     (omega (arith, low.0), omega (arith, low.1, long, leases-count H helds are))
 
 pub with_lease-long : (helds : List Held) (part : Option LeasedRun) →
@@ -67,8 +66,8 @@ with_lease-long helds (Some l) =
 pub pushed-books : (s t : Inside) (e : Entry) (place : ℕ) → AreBooks s → Stepped s.entries.items e.at e.what →
     IsLegal (s.entries.items ++ e ∷ []) → place ≡ length s.entries.items →
     t.entries.items ≡ s.entries.items ++ e ∷ [] → t.inbox.keys ≡ with_key s.inbox.keys (key_in e.what) place →
-    t.inbox.runs ≡ with_report s.inbox.runs (report_in e.what) place →
-    t.leases.leases ≡ with_mark true (with_lease s.leases.leases (lease_in e.what)) (report_in e.what) → AreBooks t
+    t.inbox.runs ≡ with_report s.inbox.runs (told_in e.what) place →
+    t.leases.leases ≡ with_mark true (with_lease s.leases.leases (lease_in e.what)) (told_in e.what) → AreBooks t
 pushed-books s t e place b step longer at entries keys runs leases =
     let H : List Entry = s.entries.items in
     let more = sym entries in
@@ -80,8 +79,8 @@ pushed-books s t e place b step longer at entries keys runs leases =
           (keys-push H e s.inbox.keys b.keys step.fresh));
       reports =
           subst (λ (X : List Entry). AreReports X t.inbox.runs) more
-          (subst (AreReports (H ++ e ∷ [])) (sym (runs ∙ ap (with_report s.inbox.runs (report_in e.what)) at))
-          (reports-push H e s.inbox.runs b.reports (λ r is. (reported-facts H e.at e.what r is step).first)));
+          (subst (AreReports (H ++ e ∷ [])) (sym (runs ∙ ap (with_report s.inbox.runs (told_in e.what)) at))
+          (reports-push H e s.inbox.runs b.reports (λ told is. (told-facts H e.at e.what told is step).first)));
       leases =
           subst (λ (X : List Entry). AreLeases X t.leases.leases) more
           (subst (AreLeases (H ++ e ∷ [])) (sym leases) (leases-push H e s.leases.leases b.legal step b.leases));
@@ -118,28 +117,28 @@ key-present H G e keys None l are is = tt
 key-present H G e keys (Some k) l are is =
     (length G, key-there G e keys k (subst (λ (X : List Entry). AreKeys X keys) l.split are) (sym is) (l.step.fresh k (sym is)))
 
-pub report-present : (H G : List Entry) (e : Entry) (runs : Places) (part : Option ReportedRun) → IsLast H G e →
-    AreReports H runs → part ≡ report_in e.what → IfSome part (λ r. (place : ℕ) × (get runs r.run ≡ Some place))
+pub report-present : (H G : List Entry) (e : Entry) (runs : Places) (part : Option ℕ) → IsLast H G e →
+    AreReports H runs → part ≡ told_in e.what → IfSome part (λ told. (place : ℕ) × (get runs told ≡ Some place))
 report-present H G e runs None l are is = tt
-report-present H G e runs (Some r) l are is = (
+report-present H G e runs (Some told) l are is = (
   length G,
-  report-there G e runs r (subst (λ (X : List Entry). AreReports X runs) l.split are) (sym is)
-      (reported-facts G e.at e.what r (sym is) l.step).first,
+  report-there G e runs told (subst (λ (X : List Entry). AreReports X runs) l.split are) (sym is)
+      (told-facts G e.at e.what told (sym is) l.step).first,
 )
 
 -- its report is of a run that was handed out
-pub report-booked : (H G : List Entry) (e : Entry) (helds : List Held) (part : Option ReportedRun) → IsLegal H →
-    IsLast H G e → AreLeases H helds → part ≡ report_in e.what → IfSome part (λ r. (0 < r.run) × (r.run ≤ length helds))
+pub report-booked : (H G : List Entry) (e : Entry) (helds : List Held) (part : Option ℕ) → IsLegal H →
+    IsLast H G e → AreLeases H helds → part ≡ told_in e.what → IfSome part (λ told. (0 < told) × (told ≤ length helds))
 report-booked H G e helds None legal l are is = tt
-report-booked H G e helds (Some r) legal l are is =
-    let facts = reported-facts G e.at e.what r (sym is) l.step in
-    let known : HasLease (G ++ e ∷ []) r.run =
-    (facts.lease, lease_of-stays G e r.run facts.lease facts.known) in
-    let low = lease-low H r.run legal (subst (λ (X : List Entry). HasLease X r.run) (sym l.split) known) in
+report-booked H G e helds (Some told) legal l are is =
+    let facts = told-facts G e.at e.what told (sym is) l.step in
+    let known : HasLease (G ++ e ∷ []) told =
+    (facts.lease, lease_of-stays G e told facts.lease facts.known) in
+    let low = lease-low H told legal (subst (λ (X : List Entry). HasLease X told) (sym l.split) known) in
     (omega (arith, low.0), omega (arith, low.1, leases-count H helds are))
 
 -- its lease is there
-pub lease-present : (H G : List Entry) (e : Entry) (helds more : List Held) (part : Option LeasedRun) (report : Option ReportedRun) →
+pub lease-present : (H G : List Entry) (e : Entry) (helds more : List Held) (part : Option LeasedRun) (report : Option ℕ) →
     IsLast H G e → AreLeases H helds → part ≡ lease_in e.what → more ≡ with_mark false helds report →
     IfSome part (λ x. 0 < length more)
 lease-present H G e helds more None report l are is marks = tt
@@ -151,8 +150,8 @@ lease-present H G e helds more (Some x) report l are is marks =
 -- the books without it
 pub popped-books : (s t : Inside) (G : List Entry) (e : Entry) → AreBooks s → IsLast s.entries.items G e →
     t.entries.items ≡ G → t.inbox.keys ≡ without_key s.inbox.keys (key_in e.what) →
-    t.inbox.runs ≡ without_report s.inbox.runs (report_in e.what) →
-    t.leases.leases ≡ without_lease (with_mark false s.leases.leases (report_in e.what)) (lease_in e.what) → AreBooks t
+    t.inbox.runs ≡ without_report s.inbox.runs (told_in e.what) →
+    t.leases.leases ≡ without_lease (with_mark false s.leases.leases (told_in e.what)) (lease_in e.what) → AreBooks t
 popped-books s t G e b l entries keys runs leases =
     let less = sym entries in
     record {
@@ -165,7 +164,7 @@ popped-books s t G e b l entries keys runs leases =
           subst (λ (X : List Entry). AreReports X t.inbox.runs) less
           (subst (AreReports G) (sym runs)
           (reports-pop G e s.inbox.runs (subst (λ (X : List Entry). AreReports X s.inbox.runs) l.split b.reports)
-          (λ r is. (reported-facts G e.at e.what r is l.step).first)));
+          (λ told is. (told-facts G e.at e.what told is l.step).first)));
       leases =
           subst (λ (X : List Entry). AreLeases X t.leases.leases) less
           (subst (AreLeases G) (sym leases)

@@ -10,9 +10,8 @@ use Rattle.std.specs.FinMap.{get, get-insert, get-remove, insert, remove}
 use Rattle.farm_types.specs.declared.key.Key.{Key}
 use Rattle.farm_types.proofs.FirstIndex.{fails-from_none, position-first, position-none}
 use Rattle.report_inbox.proofs.Finds.{tied, untied}
-use Rattle.farm_entry.specs.History.{has_key, is_key, is_of_run, is_report_of, key_in, place_of_key, place_of_report, report_in}
+use Rattle.farm_entry.specs.History.{has_key, is_key, is_of_run, is_report_of, key_in, place_of_key, place_of_report, told_in}
 use Rattle.farm_entry.specs.declared.entry.Entry.{Entry}
-use Rattle.farm_entry.specs.declared.lease.ReportedRun.{ReportedRun}
 use Rattle.farm_books.specs.Kept.{AreKeys, AreReports, Places, with_key, with_report, without_key, without_report}
 
 -- First places in a list with one element more.
@@ -142,58 +141,58 @@ key-there H e keys key are is fresh = are key ∙ keys-this H e key key is refl 
 
 -- Reports.
 
-other-run : (run : ℕ) (r : ReportedRun) → (run ≡ r.run → ⊥) → is_of_run run (Some r) ≡ false
-other-run run r apart = grind (arith, nat_tests)
+other-run : (run told : ℕ) → (run ≡ told → ⊥) → is_of_run run (Some told) ≡ false
+other-run run told apart = grind (arith, nat_tests)
 
-this-run : (run : ℕ) (r : ReportedRun) → run ≡ r.run → is_of_run run (Some r) ≡ true
-this-run run r same = grind (arith, nat_tests)
+this-run : (run told : ℕ) → run ≡ told → is_of_run run (Some told) ≡ true
+this-run run told same = grind (arith, nat_tests)
 
-pub reports-none : (H : List Entry) (e : Entry) (run : ℕ) → report_in e.what ≡ None →
+pub reports-none : (H : List Entry) (e : Entry) (run : ℕ) → told_in e.what ≡ None →
     place_of_report (H ++ e ∷ []) run ≡ place_of_report H run
 reports-none H e run none = position-still (is_report_of run) H e (ap (is_of_run run) none)
 
-reports-other : (H : List Entry) (e : Entry) (r : ReportedRun) (run : ℕ) → report_in e.what ≡ Some r → (run ≡ r.run → ⊥) →
+reports-other : (H : List Entry) (e : Entry) (told run : ℕ) → told_in e.what ≡ Some told → (run ≡ told → ⊥) →
     place_of_report (H ++ e ∷ []) run ≡ place_of_report H run
-reports-other H e r run is apart = position-still (is_report_of run) H e (ap (is_of_run run) is ∙ other-run run r apart)
+reports-other H e told run is apart = position-still (is_report_of run) H e (ap (is_of_run run) is ∙ other-run run told apart)
 
-reports-this : (H : List Entry) (e : Entry) (r : ReportedRun) (run : ℕ) → report_in e.what ≡ Some r → run ≡ r.run →
-    place_of_report H r.run ≡ None → place_of_report (H ++ e ∷ []) run ≡ Some (length H)
-reports-this H e r run is same fresh =
-    position-new (is_report_of run) H e (ap (place_of_report H) same ∙ fresh) (ap (is_of_run run) is ∙ this-run run r same)
+reports-this : (H : List Entry) (e : Entry) (told run : ℕ) → told_in e.what ≡ Some told → run ≡ told →
+    place_of_report H told ≡ None → place_of_report (H ++ e ∷ []) run ≡ Some (length H)
+reports-this H e told run is same fresh =
+    position-new (is_report_of run) H e (ap (place_of_report H) same ∙ fresh) (ap (is_of_run run) is ∙ this-run run told same)
 
-reports-push_by : (H : List Entry) (e : Entry) (runs : Places) (part : Option ReportedRun) → report_in e.what ≡ part →
-    AreReports H runs → ((r : ReportedRun) → part ≡ Some r → place_of_report H r.run ≡ None) →
+reports-push_by : (H : List Entry) (e : Entry) (runs : Places) (part : Option ℕ) → told_in e.what ≡ part →
+    AreReports H runs → ((told : ℕ) → part ≡ Some told → place_of_report H told ≡ None) →
     AreReports (H ++ e ∷ []) (with_report runs part (length H))
 reports-push_by H e runs None is are fresh = λ run. are run ∙ sym (reports-none H e run is)
-reports-push_by H e runs (Some r) is are fresh = λ run.
+reports-push_by H e runs (Some told) is are fresh = λ run.
     ⊎_elim
-    (λ (same : run ≡ r.run).
-    inserted-this runs r.run (length H) run same ∙ sym (reports-this H e r run is same (fresh r refl)))
-    (λ (apart : run ≢ r.run).
-    inserted-other runs r.run (length H) run apart ∙ are run ∙ sym (reports-other H e r run is apart))
-    (cases_eq run r.run)
+    (λ (same : run ≡ told).
+    inserted-this runs told (length H) run same ∙ sym (reports-this H e told run is same (fresh told refl)))
+    (λ (apart : run ≢ told).
+    inserted-other runs told (length H) run apart ∙ are run ∙ sym (reports-other H e told run is apart))
+    (cases_eq run told)
 
 pub reports-push : (H : List Entry) (e : Entry) (runs : Places) → AreReports H runs →
-    ((r : ReportedRun) → report_in e.what ≡ Some r → place_of_report H r.run ≡ None) →
-    AreReports (H ++ e ∷ []) (with_report runs (report_in e.what) (length H))
-reports-push H e runs are fresh = reports-push_by H e runs (report_in e.what) refl are fresh
+    ((told : ℕ) → told_in e.what ≡ Some told → place_of_report H told ≡ None) →
+    AreReports (H ++ e ∷ []) (with_report runs (told_in e.what) (length H))
+reports-push H e runs are fresh = reports-push_by H e runs (told_in e.what) refl are fresh
 
-reports-pop_by : (H : List Entry) (e : Entry) (runs : Places) (part : Option ReportedRun) → report_in e.what ≡ part →
-    AreReports (H ++ e ∷ []) runs → ((r : ReportedRun) → part ≡ Some r → place_of_report H r.run ≡ None) →
+reports-pop_by : (H : List Entry) (e : Entry) (runs : Places) (part : Option ℕ) → told_in e.what ≡ part →
+    AreReports (H ++ e ∷ []) runs → ((told : ℕ) → part ≡ Some told → place_of_report H told ≡ None) →
     AreReports H (without_report runs part)
 reports-pop_by H e runs None is are fresh = λ run. are run ∙ reports-none H e run is
-reports-pop_by H e runs (Some r) is are fresh = λ run.
+reports-pop_by H e runs (Some told) is are fresh = λ run.
     ⊎_elim
-    (λ (same : run ≡ r.run).
-    removed-this runs r.run run same ∙ sym (ap (place_of_report H) same ∙ fresh r refl))
-    (λ (apart : run ≢ r.run). removed-other runs r.run run apart ∙ are run ∙ reports-other H e r run is apart)
-    (cases_eq run r.run)
+    (λ (same : run ≡ told).
+    removed-this runs told run same ∙ sym (ap (place_of_report H) same ∙ fresh told refl))
+    (λ (apart : run ≢ told). removed-other runs told run apart ∙ are run ∙ reports-other H e told run is apart)
+    (cases_eq run told)
 
 pub reports-pop : (H : List Entry) (e : Entry) (runs : Places) → AreReports (H ++ e ∷ []) runs →
-    ((r : ReportedRun) → report_in e.what ≡ Some r → place_of_report H r.run ≡ None) →
-    AreReports H (without_report runs (report_in e.what))
-reports-pop H e runs are fresh = reports-pop_by H e runs (report_in e.what) refl are fresh
+    ((told : ℕ) → told_in e.what ≡ Some told → place_of_report H told ≡ None) →
+    AreReports H (without_report runs (told_in e.what))
+reports-pop H e runs are fresh = reports-pop_by H e runs (told_in e.what) refl are fresh
 
-pub report-there : (H : List Entry) (e : Entry) (runs : Places) (r : ReportedRun) → AreReports (H ++ e ∷ []) runs →
-    report_in e.what ≡ Some r → place_of_report H r.run ≡ None → get runs r.run ≡ Some (length H)
-report-there H e runs r are is fresh = are r.run ∙ reports-this H e r r.run is refl fresh
+pub report-there : (H : List Entry) (e : Entry) (runs : Places) (told : ℕ) → AreReports (H ++ e ∷ []) runs →
+    told_in e.what ≡ Some told → place_of_report H told ≡ None → get runs told ≡ Some (length H)
+report-there H e runs told are is fresh = are told ∙ reports-this H e told told is refl fresh

@@ -4,7 +4,7 @@ use Rattle.farm_types.specs.declared.stage.Stage.{Stage}
 use Rattle.farm_types.specs.declared.stage.Stage.TheVariants.{Search, Verify}
 use Rattle.lease_book.specs.Leases.{Held}
 use Rattle.lease_book.specs.Outstanding.{is_out, positions_out, same_stage as same_kind}
-use Rattle.farm_entry.specs.Due.{open_positions}
+use Rattle.farm_entry.specs.Due.{outstanding_positions}
 use Rattle.farm_entry.specs.History.{is_reported, same_stage}
 use Rattle.farm_entry.specs.declared.entry.Entry.{Entry}
 use Rattle.farm_entry.specs.declared.lease.LeasedRun.{LeasedRun}
@@ -75,7 +75,7 @@ outs-are test search stage moment (held ∷ helds) are =
     (outs-are test search stage moment helds (ap tail are))
 
 pub positions-are : (H : List Entry) (helds : List Held) (search : ℕ) (stage : Stage) (moment : ℕ) → AreLeases H helds →
-    positions_out search stage moment helds ≡ open_positions H search stage moment
+    positions_out search stage moment helds ≡ outstanding_positions H search stage moment
 positions-are H helds search stage moment are =
     outs-are (is_reported H) search stage moment helds
     (are.marks_are ∙ ap (tests_of (is_reported H)) (sym are.leases_are))

@@ -8,7 +8,6 @@ use Rattle.lease_book.specs.declared.lease.Lease.{Lease}
 use Rattle.farm_entry.specs.History.{all_leases, is_reported, place_of_key, place_of_report}
 use Rattle.farm_entry.specs.declared.entry.Entry.{Entry}
 use Rattle.farm_entry.specs.declared.lease.LeasedRun.{LeasedRun}
-use Rattle.farm_entry.specs.declared.lease.ReportedRun.{ReportedRun}
 
 -- a map of places, as lookups see it
 abbrev pub Places : Type 0
@@ -18,7 +17,7 @@ Places = FinMap nat_cmp ℕ
 abbrev pub AreKeys : List Entry → Places → Type 0
 AreKeys H keys = (key : Key) → get keys key.0 ≡ place_of_key H key
 
--- and so do the reports of runs
+-- and so do the reports of runs, with a verdict or not
 abbrev pub AreReports : List Entry → Places → Type 0
 AreReports H runs = (run : ℕ) → get runs run ≡ place_of_report H run
 
@@ -41,13 +40,13 @@ abbrev pub without_key : Places → Option Key → Places
 without_key keys None = keys
 without_key keys (Some key) = remove keys key.0
 
-abbrev pub with_report : Places → Option ReportedRun → (place : ℕ) → Places
+abbrev pub with_report : Places → Option ℕ → (place : ℕ) → Places
 with_report runs None place = runs
-with_report runs (Some r) place = insert runs r.run place
+with_report runs (Some run) place = insert runs run place
 
-abbrev pub without_report : Places → Option ReportedRun → Places
+abbrev pub without_report : Places → Option ℕ → Places
 without_report runs None = runs
-without_report runs (Some r) = remove runs r.run
+without_report runs (Some run) = remove runs run
 
 -- the lease that is booked for a run that is handed out
 abbrev pub booked : LeasedRun → Held
@@ -70,7 +69,7 @@ abbrev pub without_lease : List Held → Option LeasedRun → List Held
 without_lease helds None = helds
 without_lease helds (Some l) = take (length helds - 1) helds
 
--- the leases where the one of a report is marked so
-abbrev pub with_mark : (is_answered : Bool) → List Held → Option ReportedRun → List Held
+-- the leases where the one of a run that is reported is marked so
+abbrev pub with_mark : (is_answered : Bool) → List Held → Option ℕ → List Held
 with_mark is_answered helds None = helds
-with_mark is_answered helds (Some r) = marked is_answered (r.run - 1) helds
+with_mark is_answered helds (Some run) = marked is_answered (run - 1) helds

@@ -2,7 +2,7 @@
 
 ghost use Rattle.std.specs.Prelude.{◌≡◌, ◌<◌, ◌≤◌, ◌-◌, ◌++◌, ◌∷◌, [], length, take, Contains, IfOk, OnOk, OnErr};
 ghost use Rattle.farm_types.specs.Moment.{moment_ms};
-ghost use Rattle.farm_entry.specs.Due.{open_positions};
+ghost use Rattle.farm_entry.specs.Due.{outstanding_positions};
 ghost use Rattle.farm_entry.specs.History.{all_leases, lease_of, place_of_key, place_of_report};
 ghost use Rattle.farm_entry.specs.Legal.{IsLegal};
 
@@ -74,7 +74,7 @@ impl Books {
         self.inbox.find_key(key)
     }
 
-    /// The place of the report of a run.
+    /// The place of the report of a run, with a verdict or as one whose tree can't be tested.
     pub fn place_of_report(&self, run: u32) -> Option<u32>
         ensures { result ≡ place_of_report self.now run }
     {
@@ -104,16 +104,16 @@ impl Books {
 
     /// The positions of the open leases of a search at a stage, by the numbers of the runs. They go to the front of
     /// `out`, and how many there are is returned.
-    pub fn open_positions(
+    pub fn outstanding_positions(
         &self,
         search: u32,
         stage: Stage,
         moment: Moment,
         out: &mut [u16; OUT_MAX],
     ) -> usize
-        requires { length (open_positions self.now search stage (moment_ms moment)) ≤ OUT_MAX }
-        ensures positions { take result out.new ≡ open_positions self.now search stage (moment_ms moment) }
-        ensures count { result ≡ length (open_positions self.now search stage (moment_ms moment)) }
+        requires { length (outstanding_positions self.now search stage (moment_ms moment)) ≤ OUT_MAX }
+        ensures positions { take result out.new ≡ outstanding_positions self.now search stage (moment_ms moment) }
+        ensures count { result ≡ length (outstanding_positions self.now search stage (moment_ms moment)) }
     {
         self.leases
             .outstanding_into(search, stage, moment.ms(), out)
@@ -133,16 +133,16 @@ impl Books {
     {
         let place = self.entries.len() as u32;
         let key = entry.what.key();
-        let report = entry.what.report();
+        let told = entry.what.told();
         let lease = entry.what.lease();
-        reserve_places(&mut self.inbox, report)?;
+        reserve_places(&mut self.inbox, told)?;
         reserve_lease(&mut self.leases, lease)?;
         self.entries.reserve(1)?;
         self.entries.push_reserved(entry);
         put_key(&mut self.inbox, key, place);
-        put_report(&mut self.inbox, report, place);
+        put_report(&mut self.inbox, told, place);
         put_lease(&mut self.leases, lease);
-        put_mark(&mut self.leases, report);
+        put_mark(&mut self.leases, told);
         Ok(())
     }
 
@@ -154,11 +154,11 @@ impl Books {
         let last = self.entries.len() - 1;
         let what = &self.entries[last].what;
         let key = what.key();
-        let report = what.report();
+        let told = what.told();
         let lease = what.lease();
-        take_mark(&mut self.leases, report);
+        take_mark(&mut self.leases, told);
         take_lease(&mut self.leases, lease);
-        take_report(&mut self.inbox, report);
+        take_report(&mut self.inbox, told);
         take_key(&mut self.inbox, key);
         self.entries.truncate(last);
     }

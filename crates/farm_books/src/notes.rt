@@ -4,22 +4,22 @@ ghost use Rattle.std.specs.Prelude.{◌≡◌, ◌≤◌, ◌<◌, ◌+◌, true
 ghost use Rattle.std.specs.FinMap.{get};
 ghost use Rattle.farm_books.specs.Kept.{with_key, with_lease, with_mark, with_report, without_key, without_lease, without_report};
 
-use farm_entry::{LeasedRun, ReportedRun};
+use farm_entry::LeasedRun;
 use farm_types::{Key, Memory};
 use lease_book::{Lease, LeaseBook};
 use report_inbox::Inbox;
 
-/// Makes room for a key, and for a report.
-pub(crate) fn reserve_places(inbox: &mut Inbox, report: Option<ReportedRun>) -> Result<(), Memory>
+/// Makes room for a key, and for the report of a run.
+pub(crate) fn reserve_places(inbox: &mut Inbox, told: Option<u32>) -> Result<(), Memory>
     ensures keys { inbox.new.keys ≡ inbox.old.keys }
     ensures runs { inbox.new.runs ≡ inbox.old.runs }
     ensures room { OnOk result (1 ≤ inbox.new.room) }
-    ensures row { OnOk result (IfSome report (λ r. r.run < inbox.new.run_bound)) }
+    ensures row { OnOk result (IfSome told (λ run. run < inbox.new.run_bound)) }
 {
     inbox.reserve_keys(1)?;
-    match report {
+    match told {
         None => Ok(()),
-        Some(report) => inbox.reserve_runs(report.run),
+        Some(run) => inbox.reserve_runs(run),
     }
 }
 
@@ -36,15 +36,15 @@ pub(crate) fn put_key(inbox: &mut Inbox, key: Option<Key>, place: u32)
     }
 }
 
-/// Notes the place of a report.
-pub(crate) fn put_report(inbox: &mut Inbox, report: Option<ReportedRun>, place: u32)
-    requires row { IfSome report (λ r. r.run < inbox.old.run_bound) }
-    requires absent { IfSome report (λ r. get inbox.old.runs r.run ≡ None) }
-    ensures runs { inbox.new.runs ≡ with_report inbox.old.runs report place }
+/// Notes the place of the report of a run, with a verdict or not.
+pub(crate) fn put_report(inbox: &mut Inbox, told: Option<u32>, place: u32)
+    requires row { IfSome told (λ run. run < inbox.old.run_bound) }
+    requires absent { IfSome told (λ run. get inbox.old.runs run ≡ None) }
+    ensures runs { inbox.new.runs ≡ with_report inbox.old.runs told place }
     ensures keys { inbox.new.keys ≡ inbox.old.keys }
 {
-    if let Some(report) = report {
-        inbox.put_run(report.run, place);
+    if let Some(run) = told {
+        inbox.put_run(run, place);
     }
 }
 
@@ -59,14 +59,14 @@ pub(crate) fn take_key(inbox: &mut Inbox, key: Option<Key>)
     }
 }
 
-/// Takes a report out.
-pub(crate) fn take_report(inbox: &mut Inbox, report: Option<ReportedRun>)
-    requires { IfSome report (λ r. (place : ℕ) × (get inbox.old.runs r.run ≡ Some place)) }
-    ensures runs { inbox.new.runs ≡ without_report inbox.old.runs report }
+/// Takes the report of a run out.
+pub(crate) fn take_report(inbox: &mut Inbox, told: Option<u32>)
+    requires { IfSome told (λ run. (place : ℕ) × (get inbox.old.runs run ≡ Some place)) }
+    ensures runs { inbox.new.runs ≡ without_report inbox.old.runs told }
     ensures keys { inbox.new.keys ≡ inbox.old.keys }
 {
-    if let Some(report) = report {
-        inbox.take_run(report.run);
+    if let Some(run) = told {
+        inbox.take_run(run);
     }
 }
 
@@ -101,13 +101,13 @@ pub(crate) fn put_lease(leases: &mut LeaseBook, lease: Option<LeasedRun>)
     }
 }
 
-/// Marks the lease of a report as answered.
-pub(crate) fn put_mark(leases: &mut LeaseBook, report: Option<ReportedRun>)
-    requires { IfSome report (λ r. (0 < r.run) × (r.run ≤ length leases.old.leases)) }
-    ensures { leases.new.leases ≡ with_mark true leases.old.leases report }
+/// Marks the lease of a run that is reported as answered.
+pub(crate) fn put_mark(leases: &mut LeaseBook, told: Option<u32>)
+    requires { IfSome told (λ run. (0 < run) × (run ≤ length leases.old.leases)) }
+    ensures { leases.new.leases ≡ with_mark true leases.old.leases told }
 {
-    if let Some(report) = report {
-        leases.answered(report.run);
+    if let Some(run) = told {
+        leases.answered(run);
     }
 }
 
@@ -121,12 +121,12 @@ pub(crate) fn take_lease(leases: &mut LeaseBook, lease: Option<LeasedRun>)
     }
 }
 
-/// Takes the mark of a report's lease away.
-pub(crate) fn take_mark(leases: &mut LeaseBook, report: Option<ReportedRun>)
-    requires { IfSome report (λ r. (0 < r.run) × (r.run ≤ length leases.old.leases)) }
-    ensures { leases.new.leases ≡ with_mark false leases.old.leases report }
+/// Takes the mark of the lease of a run that was reported away.
+pub(crate) fn take_mark(leases: &mut LeaseBook, told: Option<u32>)
+    requires { IfSome told (λ run. (0 < run) × (run ≤ length leases.old.leases)) }
+    ensures { leases.new.leases ≡ with_mark false leases.old.leases told }
 {
-    if let Some(report) = report {
-        leases.unanswered(report.run);
+    if let Some(run) = told {
+        leases.unanswered(run);
     }
 }

@@ -4,12 +4,12 @@ use Rattle.std.specs.Option.{option_and_then, option_map}
 use Rattle.std.proofs.lemmas.Option.{none-some, slice_get_read}
 use Rattle.farm_entry.specs.History.{lease_in, lease_of, opening_numbered}
 use Rattle.farm_entry.specs.Legal.{IsLegal}
-use Rattle.farm_entry.specs.Reply.{reply_to, reply_to_report}
+use Rattle.farm_entry.specs.Reply.{reply_to, reply_to_report, reply_to_skip}
 use Rattle.farm_entry.specs.declared.decision.Decision.{Decision}
 use Rattle.farm_entry.specs.declared.decision.Decision.TheVariants as decision
 use Rattle.farm_entry.specs.declared.entry.Entry.{Entry}
 use Rattle.farm_entry.specs.declared.entry.What.{What}
-use Rattle.farm_entry.specs.declared.entry.What.TheVariants.{Founded, Opened, Leased, Reported, Cancelled, Ordered}
+use Rattle.farm_entry.specs.declared.entry.What.TheVariants.{Founded, Opened, Leased, Reported, Skipped, Cancelled, Ordered}
 use Rattle.farm_entry.specs.declared.lease.LeasedRun.{LeasedRun}
 use Rattle.farm_entry.specs.declared.reply.Reply.{Reply}
 use Rattle.farm_laws.proofs.Replies.{reply-there, slice_get-last}
@@ -40,6 +40,9 @@ lease-handed_out G (Leased key worker run search stage position deadline) r same
     made _ _ (opening_numbered G search) r (λ x. refl) same
 lease-handed_out G (Reported run verdict did) r same =
     replied-by (lease_of G run) (reply_to_report G verdict did) None r
+    (λ l is. made _ None (opening_numbered G l.search) r (λ x. refl) is) same
+lease-handed_out G (Skipped run did) r same =
+    replied-by (lease_of G run) (reply_to_skip G did) None r
     (λ l is. made _ None (opening_numbered G l.search) r (λ x. refl) is) same
 lease-handed_out G (Cancelled key search) r same = there _ r same
 lease-handed_out G (Ordered key agent order commit search day) r same = there _ r same

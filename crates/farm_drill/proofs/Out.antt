@@ -7,10 +7,9 @@ use Rattle.std.proofs.lemmas.List.{take_all}
 use Rattle.std.proofs.lemmas.List.Elements.{All-nil, All-push, All-weaker}
 use mathlib.Core.Logic.{dite}
 use native.Mathlib.Decide.{ℕ_discrete}
-use Rattle.farm_entry.specs.History.{all_leases, is_of_run, is_report_of, is_reported, lease_in, report_in}
+use Rattle.farm_entry.specs.History.{all_leases, is_of_run, is_report_of, is_reported, lease_in, told_in}
 use Rattle.farm_entry.specs.declared.entry.Entry.{Entry}
 use Rattle.farm_entry.specs.declared.lease.LeasedRun.{LeasedRun}
-use Rattle.farm_entry.specs.declared.lease.ReportedRun.{ReportedRun}
 use Rattle.farm_entry.proofs.Growing.{all_leases-grow}
 use Rattle.farm_drill.specs.Ends.{AllReported}
 use Rattle.farm_drill.specs.Reported.{AreOut, is_marked}
@@ -60,14 +59,14 @@ out-lease H e lease old new is here others before =
     (λ unmarked. absurd (true≢false (sym here ∙ unmarked))))
 
 -- the entry reports a run, whose mark may be taken
-pub out-report : (H : List Entry) (e : Entry) (report : ReportedRun) (old new : List Bool) → lease_in e.what ≡ None
-    → report_in e.what ≡ Some report → ((n : ℕ) → n ≢ report.run → is_marked new n ≡ is_marked old n)
+pub out-report : (H : List Entry) (e : Entry) (run : ℕ) (old new : List Bool) → lease_in e.what ≡ None
+    → told_in e.what ≡ Some run → ((n : ℕ) → n ≢ run → is_marked new n ≡ is_marked old n)
     → AreOut H old → AreOut (H ++ e ∷ []) new
-out-report H e report old new none is others before =
+out-report H e run old new none is others before =
     out-same H e old new none
-    (λ l unmarked. dite (ℕ_discrete l.run report.run)
+    (λ l unmarked. dite (ℕ_discrete l.run run)
     (λ same.
-    let eq : report.run == l.run ≡ true = grind (arith, nat_tests, same) in
+    let eq : run == l.run ≡ true = grind (arith, nat_tests, same) in
     inr (ap (is_of_run l.run) is ∙ eq))
     (λ apart. inl (sym (others l.run apart) ∙ unmarked)))
     before

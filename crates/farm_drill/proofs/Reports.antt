@@ -8,7 +8,7 @@ use Rattle.farm_types.specs.declared.key.Key.{Key}
 use Rattle.farm_types.specs.declared.moment.Moment.{Moment}
 use Rattle.weight_exact.specs.declared.run.Verdict.{Verdict}
 use Rattle.farm_entry.specs.Decision.{decide, fate_of, moment_used, report_decision}
-use Rattle.farm_entry.specs.History.{all_leases, has_key, is_of_run, is_report_of, is_reported, lease_of, opening_numbered, place_of_key, place_of_report, report_in, reports}
+use Rattle.farm_entry.specs.History.{all_leases, has_key, is_of_run, is_report_of, is_reported, lease_of, opening_numbered, place_of_key, place_of_report, told_in, told_runs}
 use Rattle.farm_entry.specs.Legal.{IsLegal}
 use Rattle.farm_entry.specs.Playing.{after}
 use Rattle.farm_entry.specs.declared.command.Command.TheVariants.{Report}
@@ -17,7 +17,6 @@ use Rattle.farm_entry.specs.declared.decision.Decision.TheVariants.{Refuse, Repe
 use Rattle.farm_entry.specs.declared.entry.Entry.{Entry}
 use Rattle.farm_entry.specs.declared.entry.What.TheVariants.{Reported}
 use Rattle.farm_entry.specs.declared.lease.LeasedRun.{LeasedRun}
-use Rattle.farm_entry.specs.declared.lease.ReportedRun.{ReportedRun}
 use Rattle.farm_entry.specs.declared.limits.TheConstants.{MAX_ENTRIES}
 use Rattle.farm_entry.specs.declared.refusal.Refusal.{Refusal}
 use Rattle.farm_entry.specs.declared.refusal.Refusal.TheVariants.{Full}
@@ -33,17 +32,17 @@ use Rattle.farm_drill.proofs.Leases.{full-is}
 
 -- Whether a run is reported, entry by entry.
 
-one-report : (run : ℕ) (o : Option ReportedRun) (rs : List ReportedRun)
-    → list_any (λ (r : ReportedRun). r.run == run) (cons_option o rs)
-    ≡ (is_of_run run o || list_any (λ (r : ReportedRun). r.run == run) rs)
-one-report run None rs = refl
-one-report run (Some r) rs = refl
+one-report : (run : ℕ) (o : Option ℕ) (runs : List ℕ)
+    → list_any (λ (told : ℕ). told == run) (cons_option o runs)
+    ≡ (is_of_run run o || list_any (λ (told : ℕ). told == run) runs)
+one-report run None runs = refl
+one-report run (Some told) runs = refl
 
 pub reported-any : (run : ℕ) (H : List Entry) → is_reported H run ≡ list_any (is_report_of run) H
 reported-any run [] = refl
 reported-any run (e ∷ H) =
-    one-report run (report_in e.what) (reports H)
-    ∙ ap (λ (b : Bool). is_of_run run (report_in e.what) || b) (reported-any run H)
+    one-report run (told_in e.what) (told_runs H)
+    ∙ ap (λ (b : Bool). is_of_run run (told_in e.what) || b) (reported-any run H)
 
 -- what is reported stays so
 pub reported-stays : (run : ℕ) (H more : List Entry) → is_reported H run ≡ true → is_reported (H ++ more) run ≡ true

@@ -45,8 +45,8 @@ fn note_run(out: &mut Vec<bool>, entry: &Entry) -> bool
     match entry.what.lease() {
         Some(lease) => put_mark(out, lease.run, true),
         None => {
-            if let Some(report) = entry.what.report() {
-                put_mark(out, report.run, false);
+            if let Some(run) = entry.what.told() {
+                put_mark(out, run, false);
             }
             true
         }

@@ -133,9 +133,9 @@ fn mark(marks: &mut Vec<bool>, entry: &Entry)
     ensures { (run : ℕ) → is_marked marks.new.items run ≡ true
         → (is_marked marks.old.items run ≡ true) ⊎ (is_report_of run entry.now ≡ true) }
 {
-    if let Some(report) = entry.what.report() {
-        if (report.run as usize) < marks.len() {
-            marks[report.run as usize] = true;
+    if let Some(run) = entry.what.told() {
+        if (run as usize) < marks.len() {
+            marks[run as usize] = true;
         }
     }
 }

@@ -13,8 +13,7 @@ use farm_types::{Key, Memory};
 use shared_farm::{Pass, SharedFarm};
 use std::alloc::Global;
 use std::sync::Wait;
-use weight_exact::Verdict;
-use worker_core::{Action, Event, WorkerCore};
+use worker_core::{Action, Event, Tested, WorkerCore};
 
 /// How a worker came to its end.
 #[derive(Clone, Copy, Debug, PartialEq, Eq)]
@@ -117,7 +116,7 @@ impl Worker {
             Action::Draw => Ok(Event::Drew(self.draw())),
             Action::AskLease(key) => self.lease(rt, alloc, farm, pass, key),
             Action::RunTest(_) => self.test(),
-            Action::SendReport(run, verdict) => report(rt, alloc, farm, pass, run, verdict),
+            Action::SendReport(run, tested) => report(rt, alloc, farm, pass, run, tested),
             Action::Stop(_) => Err(Ended::Done),
         }
     }
@@ -168,28 +167,35 @@ impl Worker {
 
     /// Runs the test of the run that was leased last.
     fn test(&self) -> Result<Event, Ended>
-        ensures { IfSome self.now.held (λ held. result ≡ Ok (Event.Ran (planned_verdict held.search held.position))) }
+        ensures { IfSome self.now.held
+            (λ held. result ≡ Ok (Event.Ran (Tested.Verdict (planned_verdict held.search held.position)))) }
     {
         match self.held {
-            Some(held) => Ok(Event::Ran(planned_verdict(held.search, held.position))),
+            Some(held) => {
+                let verdict = planned_verdict(held.search, held.position);
+                Ok(Event::Ran(Tested::Verdict(verdict)))
+            }
             None => Err(Ended::Done),
         }
     }
 }
 
-/// Reports a verdict.
+/// Reports what a test came to.
 fn report<R: Wait>(
     rt: &R,
     alloc: Global,
     farm: &SharedFarm<CalmDisk>,
     pass: &mut Pass,
     run: u32,
-    verdict: Verdict,
+    tested: Tested,
 ) -> Result<Event, Ended>
     requires { IsReady farm.now pass.old }
     ensures { IsReady farm.entry.now pass.new }
 {
-    let command = Command::Report { run, verdict };
+    let command = match tested {
+        Tested::Verdict(verdict) => Command::Report { run, verdict },
+        Tested::Untestable => Command::Skip { run },
+    };
     match farm.enter(rt, alloc, pass, &command, drill_moment()) {
         Ok(_) => Ok(Event::Noted),
         Err(fault) => Err(Ended::from(fault)),

@@ -4,7 +4,7 @@ use Rattle.std.specs.List.{cons_option, filter_map}
 use Rattle.std.proofs.lemmas.List.Elements.{filter_map-append}
 use Rattle.farm_types.specs.declared.moment.Moment.{Moment}
 use Rattle.farm_entry.specs.Decision.{last_moment}
-use Rattle.farm_entry.specs.History.{all_leases, cancellations, cancelled_in, lease_in, opening_in, openings, order_in, order_lines, report_in, reports}
+use Rattle.farm_entry.specs.History.{all_leases, cancellations, cancelled_in, lease_in, opening_in, openings, order_in, order_lines, report_in, reports, skip_in, skips, told_in, told_runs}
 use Rattle.farm_entry.specs.declared.entry.Entry.{Entry}
 use Rattle.farm_entry.specs.declared.entry.What.{What}
 
@@ -21,6 +21,12 @@ all_leases-grow H e = parts-grow lease_in H e
 
 pub reports-grow : (H : List Entry) (e : Entry) → reports (H ++ e ∷ []) ≡ reports H ++ cons_option (report_in e.what) []
 reports-grow H e = parts-grow report_in H e
+
+pub skips-grow : (H : List Entry) (e : Entry) → skips (H ++ e ∷ []) ≡ skips H ++ cons_option (skip_in e.what) []
+skips-grow H e = parts-grow skip_in H e
+
+pub told_runs-grow : (H : List Entry) (e : Entry) → told_runs (H ++ e ∷ []) ≡ told_runs H ++ cons_option (told_in e.what) []
+told_runs-grow H e = parts-grow told_in H e
 
 pub cancellations-grow : (H : List Entry) (e : Entry) →
     cancellations (H ++ e ∷ []) ≡ cancellations H ++ cons_option (cancelled_in e.what) []

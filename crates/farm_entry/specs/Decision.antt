@@ -23,13 +23,15 @@ use Rattle.farm_entry.specs.Standing.{is_active, standing}
 use Rattle.farm_entry.specs.declared.decision.Decision.{Decision}
 use Rattle.farm_entry.specs.declared.decision.Decision.TheVariants.{New, Refuse, Repeat, Show}
 use Rattle.farm_entry.specs.declared.command.Command.{Command}
-use Rattle.farm_entry.specs.declared.command.Command.TheVariants.{Open, Lease as LeaseRun, Report as ReportRun, Cancel, TakeRevert, ShowSearch, ShowFarm, ShowOrders}
+use Rattle.farm_entry.specs.declared.command.Command.TheVariants.{Open, Lease as LeaseRun, Report as ReportRun, Skip as SkipRun, Cancel, TakeRevert, ShowSearch, ShowFarm, ShowOrders}
 use Rattle.farm_entry.specs.declared.command.OpenAsk.{OpenAsk}
 use Rattle.farm_entry.specs.declared.entry.Entry.{Entry}
 use Rattle.farm_entry.specs.declared.entry.Fate.{Fate}
 use Rattle.farm_entry.specs.declared.entry.Fate.TheVariants.{Counted, Late, Over}
+use Rattle.farm_entry.specs.declared.entry.SkipFate.{SkipFate}
+use Rattle.farm_entry.specs.declared.entry.SkipFate.TheVariants as skip
 use Rattle.farm_entry.specs.declared.entry.What.{What}
-use Rattle.farm_entry.specs.declared.entry.What.TheVariants.{Opened, Leased, Reported, Cancelled, Ordered}
+use Rattle.farm_entry.specs.declared.entry.What.TheVariants.{Opened, Leased, Reported, Skipped, Cancelled, Ordered}
 use Rattle.farm_entry.specs.declared.lease.DueRun.{DueRun}
 use Rattle.farm_entry.specs.declared.lease.LeasedRun.{LeasedRun}
 use Rattle.farm_entry.specs.declared.limits.TheConstants.{MAX_ENTRIES, MAX_SEARCHES}
@@ -64,12 +66,14 @@ abbrev pub shape_decision : Command → Option Decision
 shape_decision (Open ask) = refuse_opening (opening_of ask 0)
 shape_decision _ = None
 
--- Then the key, or for a report the run: a command that was done before gets its first reply again.
+-- Then the key, or for a report, with a verdict or not, the run: a command that was done before gets its first reply
+-- again.
 
 abbrev pub key_of : Command → Option Key
 key_of (Open ask) = Some ask.key
 key_of (LeaseRun key worker) = Some key
 key_of (ReportRun run verdict) = None
+key_of (SkipRun run) = None
 key_of (Cancel key search) = Some key
 key_of (TakeRevert key agent) = Some key
 key_of (ShowSearch search) = None
@@ -104,6 +108,7 @@ keyed_decision H q (Some key) = option_map (repeat_or_clash H q) (place_of_key H
 
 abbrev pub known_decision : List Entry → Command → Option Decision
 known_decision H (ReportRun run verdict) = option_map Repeat (place_of_report H run)
+known_decision H (SkipRun run) = option_map Repeat (place_of_report H run)
 known_decision H q = keyed_decision H q (key_of q)
 
 -- Then a full history, which still shows.
@@ -163,6 +168,21 @@ report_decision H run verdict m None = Refuse (UnknownRun run)
 report_decision H run verdict m (Some l) =
     add_at m (Reported run verdict (fate_of H l verdict (opening_numbered H l.search)))
 
+-- what becomes of the first report of a run whose tree can't be tested: it is taken where the search stands at the
+-- run's stage, and else late
+abbrev pub skip_fate_at : Standing → LeasedRun → SkipFate
+skip_fate_at Searching l = if same_stage l.stage Search then skip.Taken else skip.Late
+skip_fate_at (Verifying culprit) l = if same_stage l.stage Verify then skip.Taken else skip.Late
+skip_fate_at _ l = skip.Late
+
+abbrev pub skip_fate_of : List Entry → LeasedRun → Option Opening → SkipFate
+skip_fate_of H l None = skip.Late
+skip_fate_of H l (Some o) = skip_fate_at (standing H o) l
+
+abbrev pub skip_decision : List Entry → (run : ℕ) → Moment → Option LeasedRun → Decision
+skip_decision H run m None = Refuse (UnknownRun run)
+skip_decision H run m (Some l) = add_at m (Skipped run (skip_fate_of H l (opening_numbered H l.search)))
+
 abbrev pub cancel_decision : List Entry → Key → (search : ℕ) → Moment → Option Opening → Decision
 cancel_decision H key search m None = Refuse (UnknownSearch search)
 cancel_decision H key search m (Some o) =
@@ -181,6 +201,7 @@ abbrev pub own_decision : List Entry → Command → Moment → Decision
 own_decision H (Open ask) m = open_decision H ask m
 own_decision H (LeaseRun key worker) m = lease_decision H key worker m (next_run H (moment_ms m))
 own_decision H (ReportRun run verdict) m = report_decision H run verdict m (lease_of H run)
+own_decision H (SkipRun run) m = skip_decision H run m (lease_of H run)
 own_decision H (Cancel key search) m = cancel_decision H key search m (opening_numbered H search)
 own_decision H (TakeRevert key agent) m = revert_decision key agent m (next_order_at H (moment_ms m))
 own_decision H (ShowSearch search) m = page_decision H search (opening_numbered H search)

@@ -4,10 +4,10 @@ use Rattle.std.specs.List.{filter_map}
 use Rattle.std.specs.Option.{option_map}
 use Rattle.farm_types.specs.declared.stage.Stage.{Stage}
 use Rattle.farm_types.specs.declared.stage.Stage.TheVariants.{Search, Verify}
-use Rattle.weight_exact.specs.Plan.{plan}
+use Rattle.open_positions.specs.Open.{open_plan}
 use Rattle.farm_rules.specs.Due.{due_search, due_verify}
 use Rattle.farm_rules.specs.Reruns.{reruns_at}
-use Rattle.farm_entry.specs.History.{is_reported, last_lease, leases, openings, reruns, runs, same_stage}
+use Rattle.farm_entry.specs.History.{is_reported, last_lease, leases, openings, reruns, runs, same_stage, skipped}
 use Rattle.farm_entry.specs.Setup.{setup_of}
 use Rattle.farm_entry.specs.Standing.{standing}
 use Rattle.farm_entry.specs.declared.entry.Entry.{Entry}
@@ -26,8 +26,8 @@ abbrev pub open_leases : List Entry → (search : ℕ) → Stage → (moment : �
 open_leases H search stage moment = filter (λ l. same_stage l.stage stage && is_open H moment l) (leases H search)
 
 -- their positions, by the numbers of the runs
-abbrev pub open_positions : List Entry → (search : ℕ) → Stage → (moment : ℕ) → List ℕ
-open_positions H search stage moment = map (λ l. l.position) (open_leases H search stage moment)
+abbrev pub outstanding_positions : List Entry → (search : ℕ) → Stage → (moment : ℕ) → List ℕ
+outstanding_positions H search stage moment = map (λ l. l.position) (open_leases H search stage moment)
 
 -- The leases of a search that are outstanding at a moment: those that are open, of the stage at which the search
 -- stands. The rules below take their positions
@@ -42,13 +42,14 @@ outstanding H o moment = outstanding_at (standing H o) H o.search moment
 -- where a search that is searching is to run next
 abbrev pub due_searching : List Entry → Opening → (moment : ℕ) → Option ℕ
 due_searching H o moment =
-    due_search (plan (setup_of o) (runs H o.search) o.width) (open_positions H o.search Search moment)
+    due_search (open_plan (setup_of o) (runs H o.search) (skipped H o.search) o.width)
+    (outstanding_positions H o.search Search moment)
 
 -- where a search that verifies a culprit is to run next
 abbrev pub due_verifying : List Entry → Opening → (culprit moment : ℕ) → Option ℕ
 due_verifying H o culprit moment =
     due_verify culprit (reruns_at culprit (reruns H o.search)) (reruns_at (culprit - 1) (reruns H o.search))
-    (open_positions H o.search Verify moment) o.reruns
+    (outstanding_positions H o.search Verify moment) o.reruns
 
 abbrev pub due_at : Standing → List Entry → Opening → (moment : ℕ) → Option DueRun
 due_at Searching H o moment =

@@ -12,10 +12,13 @@ use Rattle.farm_entry.specs.Settings.{settings_daily, settings_lease_ms, setting
 use Rattle.farm_entry.specs.declared.entry.Entry.{Entry}
 use Rattle.farm_entry.specs.declared.entry.Fate.{Fate}
 use Rattle.farm_entry.specs.declared.entry.Fate.TheVariants.{Counted, Over}
+use Rattle.farm_entry.specs.declared.entry.SkipFate.{SkipFate}
+use Rattle.farm_entry.specs.declared.entry.SkipFate.TheVariants.{Taken}
 use Rattle.farm_entry.specs.declared.entry.What.{What}
-use Rattle.farm_entry.specs.declared.entry.What.TheVariants.{Founded, Opened, Leased, Reported, Cancelled, Ordered}
+use Rattle.farm_entry.specs.declared.entry.What.TheVariants.{Founded, Opened, Leased, Reported, Skipped, Cancelled, Ordered}
 use Rattle.farm_entry.specs.declared.lease.LeasedRun.{LeasedRun}
 use Rattle.farm_entry.specs.declared.lease.ReportedRun.{ReportedRun}
+use Rattle.farm_entry.specs.declared.lease.SkippedRun.{SkippedRun}
 use Rattle.farm_entry.specs.declared.opening.Opening.{Opening}
 use Rattle.farm_entry.specs.declared.order_page.OrderLine.{OrderLine}
 use Rattle.farm_entry.specs.declared.settings.Settings.{Settings}
@@ -39,6 +42,16 @@ abbrev pub report_in : What → Option ReportedRun
 report_in (Reported run verdict fate) = Some (record { run = run; verdict = verdict; fate = fate })
 report_in _ = None
 
+abbrev pub skip_in : What → Option SkippedRun
+skip_in (Skipped run fate) = Some (record { run = run; fate = fate })
+skip_in _ = None
+
+-- the run that was reported: with a verdict, or as one whose tree can't be tested
+abbrev pub told_in : What → Option ℕ
+told_in (Reported run verdict _) = Some run
+told_in (Skipped run _) = Some run
+told_in _ = None
+
 -- the number of a search that was cancelled
 abbrev pub cancelled_in : What → Option ℕ
 cancelled_in (Cancelled key search) = Some search
@@ -55,6 +68,7 @@ key_in (Founded settings) = None
 key_in (Opened opening) = Some opening.key
 key_in (Leased key worker run search stage position deadline) = Some key
 key_in (Reported run verdict _) = None
+key_in (Skipped run _) = None
 key_in (Cancelled key search) = Some key
 key_in (Ordered key agent order commit search day) = Some key
 
@@ -85,6 +99,13 @@ all_leases H = filter_map (λ e. lease_in e.what) H
 abbrev pub reports : List Entry → List ReportedRun
 reports H = filter_map (λ e. report_in e.what) H
 
+abbrev pub skips : List Entry → List SkippedRun
+skips H = filter_map (λ e. skip_in e.what) H
+
+-- the runs that were reported, with a verdict or not
+abbrev pub told_runs : List Entry → List ℕ
+told_runs H = filter_map (λ e. told_in e.what) H
+
 abbrev pub cancellations : List Entry → List ℕ
 cancellations H = filter_map (λ e. cancelled_in e.what) H
 
@@ -103,9 +124,9 @@ lease_of H run = find (λ l. l.run == run) (all_leases H)
 abbrev pub leases : List Entry → (search : ℕ) → List LeasedRun
 leases H search = filter (λ l. l.search == search) (all_leases H)
 
--- whether a run has a report
+-- whether a run was reported, with a verdict or as one whose tree can't be tested
 abbrev pub is_reported : List Entry → (run : ℕ) → Bool
-is_reported H run = list_any (λ r. r.run == run) (reports H)
+is_reported H run = list_any (λ told. told == run) (told_runs H)
 
 -- whether two stages are the same
 abbrev pub same_stage : Stage → Stage → Bool
@@ -142,6 +163,23 @@ runs H search = counted H search Search
 -- the reruns by which its culprit is verified
 abbrev pub reruns : List Entry → (search : ℕ) → List Run
 reruns H search = counted H search Verify
+
+abbrev pub is_taken : SkipFate → Bool
+is_taken Taken = true
+is_taken _ = false
+
+-- the position of a lease of a search
+abbrev pub position_for : (search : ℕ) → LeasedRun → Option ℕ
+position_for search l = if l.search == search then Some l.position else None
+
+-- the position that a skip closes, where it was taken and is of a search
+abbrev pub skipped_position : List Entry → (search : ℕ) → SkippedRun → Option ℕ
+skipped_position H search r =
+    if is_taken r.fate then option_and_then (position_for search) (lease_of H r.run) else None
+
+-- the positions of a search whose trees can't be tested, in the order in which that was said. One may stand twice
+abbrev pub skipped : List Entry → (search : ℕ) → List ℕ
+skipped H search = filter_map (skipped_position H search) (skips H)
 
 -- whether a lease is of a search
 abbrev pub is_of_search : (search : ℕ) → Option LeasedRun → Bool
@@ -182,14 +220,14 @@ has_key key e = is_key key (key_in e.what)
 abbrev pub place_of_key : List Entry → Key → Option ℕ
 place_of_key H key = position (has_key key) H
 
--- whether a report is there and is of a run
-abbrev pub is_of_run : (run : ℕ) → Option ReportedRun → Bool
+-- whether a number is there and is that of a run
+abbrev pub is_of_run : (run : ℕ) → Option ℕ → Bool
 is_of_run run None = false
-is_of_run run (Some r) = r.run == run
+is_of_run run (Some told) = told == run
 
--- whether an entry is the report of a run
+-- whether an entry is the report of a run, with a verdict or not
 abbrev pub is_report_of : (run : ℕ) → Entry → Bool
-is_report_of run e = is_of_run run (report_in e.what)
+is_report_of run e = is_of_run run (told_in e.what)
 
 -- the place of the report of a run
 abbrev pub place_of_report : List Entry → (run : ℕ) → Option ℕ

@@ -6,11 +6,11 @@ use Rattle.flake_rate.specs.Rate.{rate_denominator, rate_numerator}
 use Rattle.farm_entry.specs.Decision.{decide}
 use Rattle.farm_entry.specs.declared.decision.Decision.TheVariants.{New}
 use Rattle.farm_entry.specs.declared.command.Command.{Command}
-use Rattle.farm_entry.specs.declared.command.Command.TheVariants.{Open, Lease, Report, Cancel, TakeRevert}
+use Rattle.farm_entry.specs.declared.command.Command.TheVariants.{Open, Lease, Report, Skip, Cancel, TakeRevert}
 use Rattle.farm_entry.specs.declared.command.OpenAsk.{OpenAsk}
 use Rattle.farm_entry.specs.declared.entry.Entry.{Entry}
 use Rattle.farm_entry.specs.declared.entry.What.{What}
-use Rattle.farm_entry.specs.declared.entry.What.TheVariants.{Founded, Opened, Leased, Reported, Cancelled, Ordered}
+use Rattle.farm_entry.specs.declared.entry.What.TheVariants.{Founded, Opened, Leased, Reported, Skipped, Cancelled, Ordered}
 use Rattle.farm_entry.specs.declared.opening.Opening.{Opening}
 
 -- the open that an opening names
@@ -34,6 +34,7 @@ command_of (Founded settings) = None
 command_of (Opened o) = Some (Open (ask_of o))
 command_of (Leased key worker run search stage position deadline) = Some (Lease key worker)
 command_of (Reported run verdict _) = Some (Report run verdict)
+command_of (Skipped run _) = Some (Skip run)
 command_of (Cancelled key search) = Some (Cancel key search)
 command_of (Ordered key agent order commit search day) = Some (TakeRevert key agent)
 

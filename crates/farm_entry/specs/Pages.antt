@@ -1,9 +1,10 @@
 -- What is shown of a farm.
-use Rattle.std.specs.Prelude.{ℕ, Bool, not, ◌&&◌, List, length, map, count_by}
+use Rattle.std.specs.Prelude.{ℕ, Bool, not, ◌&&◌, List, length, map, filter, count_by}
 use Rattle.std.specs.List.{range_with_len}
+use Rattle.open_positions.specs.Open.{is_skipped}
 use Rattle.weight_exact.specs.Share.{basis_points}
 use Rattle.weight_exact.specs.Weights.{hypotheses}
-use Rattle.farm_entry.specs.History.{is_counted, leases, openings, order_lines, reports, reruns, runs}
+use Rattle.farm_entry.specs.History.{is_counted, leases, openings, order_lines, reports, reruns, runs, skipped}
 use Rattle.farm_entry.specs.Setup.{budget_of_search, setup_of}
 use Rattle.farm_entry.specs.Standing.{is_active, is_confirmed, is_searching, is_verifying, named_commit, standing}
 use Rattle.farm_entry.specs.declared.entry.Entry.{Entry}
@@ -17,6 +18,10 @@ abbrev pub shares_of : List Entry → Opening → List ℕ
 shares_of H o =
     map (basis_points (setup_of o) (runs H o.search)) (range_with_len 1 (hypotheses (setup_of o)))
 
+-- the positions of a search that were skipped, rising, each once. Position 0 is the base
+abbrev pub untestable_of : List Entry → Opening → List ℕ
+untestable_of H o = filter (is_skipped (skipped H o.search)) (range_with_len 0 (hypotheses (setup_of o)))
+
 -- what is shown of a search
 abbrev pub page_of : List Entry → Opening → SearchPage
 page_of H o = record {
@@ -29,6 +34,7 @@ page_of H o = record {
   standing = standing H o;
   commit = named_commit o (standing H o);
   shares = shares_of H o;
+  untestable = untestable_of H o;
 }
 
 -- how many searches stand so

@@ -4,7 +4,8 @@ use suspect_range::Suspect;
 use weight_exact::Verdict;
 
 /// What a farm is asked to do, or to show. The commands with a key are done once: sent again with the same contents,
-/// they are answered as the first time. A report is told by its run instead. The last three change nothing.
+/// they are answered as the first time. A report, with a verdict or as a skip, is told by its run instead. The last
+/// three change nothing.
 #[derive(Debug, PartialEq, Eq, Drop)]
 pub enum Command {
     /// To open a search.
@@ -22,6 +23,11 @@ pub enum Command {
         run: u32,
         /// What the test said.
         verdict: Verdict,
+    },
+    /// To take it that the tree of a run can't be tested.
+    Skip {
+        /// The number of the run, from 1.
+        run: u32,
     },
     /// To end a search without a result.
     Cancel {

@@ -58,6 +58,13 @@ pub enum What {
         /// What the report did to the search.
         fate: Fate,
     },
+    /// A run was reported, for the first time, as one whose tree can't be tested.
+    Skipped {
+        /// The number of the run.
+        run: u32,
+        /// What the report did to the search.
+        fate: SkipFate,
+    },
     /// A search was cancelled.
     Cancelled {
         /// The key of the request.
@@ -92,6 +99,15 @@ pub enum Fate {
     /// It would have taken the search past its budget, beyond which weights no longer fit exact numbers. It ended the
     /// search, as inconclusive.
     Over,
+}
+
+/// What a report did to its search that says that the run's tree can't be tested.
+#[derive(Clone, Copy, Debug, PartialEq, Eq, Hash)]
+pub enum SkipFate {
+    /// It closes the run's position: the search runs nothing there any more.
+    Taken,
+    /// It came when the search had no more use for it. It is recorded, and closes nothing.
+    Late,
 }
 
 impl Entry {
@@ -135,6 +151,10 @@ impl What {
             What::Reported { run, verdict, fate } => Ok(What::Reported {
                 run: *run,
                 verdict: *verdict,
+                fate: *fate,
+            }),
+            What::Skipped { run, fate } => Ok(What::Skipped {
+                run: *run,
                 fate: *fate,
             }),
             What::Cancelled { key, search } => Ok(What::Cancelled {

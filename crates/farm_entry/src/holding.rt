@@ -2,9 +2,9 @@
 
 ghost use Rattle.std.specs.Prelude.{◌≡◌, is_some, IfOk};
 ghost use Rattle.std.specs.Option.{option_copied};
-ghost use Rattle.farm_entry.specs.History.{cancelled_in, key_in, lease_in, opening_in, order_in, report_in, settings_in};
+ghost use Rattle.farm_entry.specs.History.{cancelled_in, key_in, lease_in, opening_in, order_in, report_in, settings_in, skip_in, told_in};
 
-use crate::{LeasedRun, Opening, OrderLine, ReportedRun, Settings, What};
+use crate::{LeasedRun, Opening, OrderLine, ReportedRun, Settings, SkippedRun, What};
 use farm_types::{Key, Memory};
 use std::ops::Deref;
 
@@ -66,6 +66,29 @@ impl What {
         }
     }
 
+    /// The report that the entry records of a run whose tree can't be tested.
+    pub fn skip(&self) -> Option<SkippedRun>
+        ensures { result ≡ skip_in self.now }
+    {
+        match self {
+            What::Skipped { run, fate } => Some(SkippedRun {
+                run: *run,
+                fate: *fate,
+            }),
+            _ => None,
+        }
+    }
+
+    /// The run that the entry reports, with a verdict or not.
+    pub fn told(&self) -> Option<u32>
+        ensures { result ≡ told_in self.now }
+    {
+        match self {
+            What::Reported { run, .. } | What::Skipped { run, .. } => Some(*run),
+            _ => None,
+        }
+    }
+
     /// The number of the search that the entry cancels.
     pub fn cancelled(&self) -> Option<u32>
         ensures { result ≡ cancelled_in self.now }
@@ -104,7 +127,7 @@ impl What {
         ensures { result ≡ key_in self.now }
     {
         match self {
-            What::Founded { .. } | What::Reported { .. } => None,
+            What::Founded { .. } | What::Reported { .. } | What::Skipped { .. } => None,
             What::Opened(opening) => Some(opening.deref().key),
             What::Leased { key, .. } | What::Cancelled { key, .. } | What::Ordered { key, .. } => {
                 Some(*key)

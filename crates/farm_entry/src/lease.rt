@@ -1,4 +1,4 @@
-use crate::Fate;
+use crate::{Fate, SkipFate};
 use farm_types::Stage;
 use weight_exact::Verdict;
 
@@ -26,6 +26,15 @@ pub struct ReportedRun {
     pub verdict: Verdict,
     /// What the report did to the search.
     pub fate: Fate,
+}
+
+/// The first report of a run whose tree can't be tested, as its entry says.
+#[derive(Clone, Copy, Debug, PartialEq, Eq)]
+pub struct SkippedRun {
+    /// The number of the run, from 1.
+    pub run: u32,
+    /// What the report did to the search.
+    pub fate: SkipFate,
 }
 
 /// A run that can be handed out.

@@ -56,6 +56,7 @@ impl What {
                 run: *run,
                 verdict: *verdict,
             })),
+            What::Skipped { run, .. } => Ok(Some(Command::Skip { run: *run })),
             What::Cancelled { key, search } => Ok(Some(Command::Cancel {
                 key: *key,
                 search: *search,
@@ -88,7 +89,8 @@ impl What {
 }
 
 impl Command {
-    /// The key of the command, by which it is known again. A report is told by its run, and what only shows by nothing.
+    /// The key of the command, by which it is known again. A report is told by its run, with a
+    /// verdict or not, and what only shows by nothing.
     pub fn key(&self) -> Option<Key>
         ensures { result ≡ key_of self.now }
     {
@@ -98,6 +100,7 @@ impl Command {
             | Command::Cancel { key, .. }
             | Command::TakeRevert { key, .. } => Some(*key),
             Command::Report { .. }
+            | Command::Skip { .. }
             | Command::ShowSearch { .. }
             | Command::ShowFarm
             | Command::ShowOrders => None,

@@ -1,4 +1,4 @@
-use crate::{Fate, OrderPage, Standing};
+use crate::{Fate, OrderPage, SkipFate, Standing};
 use farm_types::{CommitId, Name, Stage};
 use item_list::ItemList;
 use weight_exact::Verdict;
@@ -46,6 +46,17 @@ pub enum Reply {
         /// Where the search stands.
         standing: Standing,
     },
+    /// It was taken that the tree of a run can't be tested.
+    Skipped {
+        /// The number of the run.
+        run: u32,
+        /// The search that the run was for.
+        search: u32,
+        /// What the report did to the search.
+        fate: SkipFate,
+        /// Where the search stands.
+        standing: Standing,
+    },
     /// A search was cancelled.
     Cancelled {
         /// The number of the search.
@@ -74,6 +85,9 @@ pub enum Reply {
 /// order, and last that of "there is no culprit".
 pub type Shares = ItemList<u32>;
 
+/// Positions of a search, rising.
+pub type Positions = ItemList<u16>;
+
 /// What is shown of a search.
 #[derive(Debug, PartialEq, Eq, Drop)]
 pub struct SearchPage {
@@ -95,6 +109,8 @@ pub struct SearchPage {
     pub commit: Option<CommitId>,
     /// How the belief is shared out.
     pub shares: Shares,
+    /// The positions whose trees can't be tested, each once.
+    pub untestable: Positions,
 }
 
 /// What is counted of a farm.

@@ -13,7 +13,8 @@ pub enum Standing {
     Vindicated(u16),
     /// That there is no culprit has reached the bar.
     NoCulprit,
-    /// The budget was used up before any hypothesis reached the bar.
+    /// The budget was used up before any hypothesis reached the bar, or positions whose trees can't be tested leave
+    /// nothing that could tell the hypotheses apart, or confirm the suspect at the bar.
     Inconclusive,
     /// The search was cancelled.
     Cancelled,

@@ -2,11 +2,11 @@
 
 ghost use Rattle.std.specs.Prelude.{◌≡◌};
 ghost use Rattle.farm_entry.specs.Decision.{run_with};
-ghost use Rattle.farm_entry.specs.History.{is_counted, is_over, same_stage};
+ghost use Rattle.farm_entry.specs.History.{is_counted, is_over, is_taken, same_stage};
 ghost use Rattle.farm_entry.specs.Pages.{is_ended_otherwise};
 ghost use Rattle.farm_entry.specs.Standing.{is_active, is_confirmed, is_searching, is_verifying};
 
-use crate::{Fate, LeasedRun, Standing};
+use crate::{Fate, LeasedRun, SkipFate, Standing};
 use farm_types::Stage;
 use weight_exact::{Run, Verdict};
 
@@ -77,6 +77,18 @@ impl Fate {
         match self {
             Fate::Over => true,
             _ => false,
+        }
+    }
+}
+
+impl SkipFate {
+    /// Whether the report closes the run's position.
+    pub fn is_taken(self) -> bool
+        ensures { result ≡ is_taken self }
+    {
+        match self {
+            SkipFate::Taken => true,
+            SkipFate::Late => false,
         }
     }
 }

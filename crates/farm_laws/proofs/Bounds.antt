@@ -6,7 +6,7 @@ use Rattle.farm_entry.specs.History.{opening_in, openings}
 use Rattle.farm_entry.specs.Legal.{IsLegal}
 use Rattle.farm_entry.specs.declared.entry.Entry.{Entry}
 use Rattle.farm_entry.specs.declared.entry.What.{What}
-use Rattle.farm_entry.specs.declared.entry.What.TheVariants.{Founded, Opened, Leased, Reported, Cancelled, Ordered}
+use Rattle.farm_entry.specs.declared.entry.What.TheVariants.{Founded, Opened, Leased, Reported, Skipped, Cancelled, Ordered}
 use Rattle.farm_entry.specs.declared.limits.TheConstants.{MAX_ENTRIES, MAX_SEARCHES}
 use Rattle.farm_entry.specs.declared.opening.Opening.{Opening}
 use Rattle.farm_entry.proofs.Growing.{openings-grow}
@@ -30,6 +30,7 @@ openings-room H m (Founded settings) facts few = omega arith
 openings-room H m (Opened o) facts few = let room : length (openings H) < MAX_SEARCHES = facts.few in omega arith
 openings-room H m (Leased key worker run search stage position deadline) facts few = omega arith
 openings-room H m (Reported run verdict _) facts few = omega arith
+openings-room H m (Skipped run _) facts few = omega arith
 openings-room H m (Cancelled key search) facts few = omega arith
 openings-room H m (Ordered key agent order commit search day) facts few = omega arith
 

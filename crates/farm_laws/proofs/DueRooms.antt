@@ -9,10 +9,9 @@ use Rattle.farm_types.specs.declared.stage.Stage.{Stage}
 use Rattle.farm_types.specs.declared.stage.Stage.TheVariants.{Search, Verify}
 use Rattle.farm_rules.specs.Due.{due_search, due_verify, first_entry, struck, times_at}
 use Rattle.farm_rules.specs.Reruns.{reruns_at}
-use Rattle.weight_exact.specs.Plan.{plan}
-use Rattle.weight_exact.proofs.Plans.{length-plan}
-use Rattle.farm_entry.specs.Due.{due_at, due_searching, due_verifying, open_leases, open_positions}
-use Rattle.farm_entry.specs.History.{reruns, runs, same_stage}
+use Rattle.open_positions.specs.Open.{open_plan}
+use Rattle.farm_entry.specs.Due.{due_at, due_searching, due_verifying, open_leases, outstanding_positions}
+use Rattle.farm_entry.specs.History.{reruns, runs, same_stage, skipped}
 use Rattle.farm_entry.specs.Setup.{setup_of}
 use Rattle.farm_entry.specs.Standing.{standing}
 use Rattle.farm_entry.specs.declared.entry.Entry.{Entry}
@@ -23,6 +22,7 @@ use Rattle.farm_entry.specs.declared.standing.Standing.{Standing}
 use Rattle.farm_entry.specs.declared.standing.Standing.TheVariants.{Searching, Verifying, Confirmed, Vindicated, NoCulprit, Inconclusive, Cancelled}
 use Rattle.farm_laws.proofs.Counts.{count_by-all, count_by-map}
 use Rattle.farm_laws.proofs.FewOut.{IsRoomed}
+use Rattle.farm_laws.proofs.OpenPlans.{length-open_plan}
 
 -- The tests of the rules.
 
@@ -80,12 +80,13 @@ search-room : (st : Standing) (H : List Entry) (o : Opening) (m : ℕ) (d : DueR
     same_stage d.stage Search ≡ true → length (open_leases H o.search Search m) < o.width
 search-room Searching H o m d h same =
     let made = made_of (λ k. record { search = o.search; stage = Search; position = k }) (due_searching H o m) d h in
-    let few : length (open_positions H o.search Search m) < length (plan (setup_of o) (runs H o.search) o.width) =
-    room_to_search (plan (setup_of o) (runs H o.search) o.width) (open_positions H o.search Search m) made.from made.there in
+    let planned : List ℕ = open_plan (setup_of o) (runs H o.search) (skipped H o.search) o.width in
+    let few : length (outstanding_positions H o.search Search m) < length planned =
+    room_to_search planned (outstanding_positions H o.search Search m) made.from made.there in
     omega (
       arith,
       few,
-      length-plan (setup_of o) (runs H o.search) o.width,
+      length-open_plan (setup_of o) (runs H o.search) (skipped H o.search) o.width,
       length-map (open_leases H o.search Search m) (λ (l : LeasedRun). l.position),
     )
 search-room (Verifying c) H o m d h same =
@@ -99,14 +100,14 @@ search-room Inconclusive H o m d h same = absurd (none-some d h)
 search-room Cancelled H o m d h same = absurd (none-some d h)
 
 verify-room : (st : Standing) (H : List Entry) (o : Opening) (m : ℕ) (d : DueRun) → due_at st H o m ≡ Some d →
-    same_stage d.stage Verify ≡ true → times_at d.position (open_positions H o.search Verify m) < o.reruns
+    same_stage d.stage Verify ≡ true → times_at d.position (outstanding_positions H o.search Verify m) < o.reruns
 verify-room (Verifying c) H o m d h same =
     let made = made_of (λ k. record { search = o.search; stage = Verify; position = k }) (due_verifying H o c m) d h in
     let there : made.from ≡ d.position = ap (λ (x : DueRun). x.position) made.makes in
-    let few : times_at made.from (open_positions H o.search Verify m) < o.reruns =
+    let few : times_at made.from (outstanding_positions H o.search Verify m) < o.reruns =
     room_to_verify c (reruns_at c (reruns H o.search)) (reruns_at (c - 1) (reruns H o.search)) o.reruns made.from
-    (open_positions H o.search Verify m) made.there in
-    subst (λ (p : ℕ). times_at p (open_positions H o.search Verify m) < o.reruns) there few
+    (outstanding_positions H o.search Verify m) made.there in
+    subst (λ (p : ℕ). times_at p (outstanding_positions H o.search Verify m) < o.reruns) there few
 verify-room Searching H o m d h same =
     absurd
     (other_stage (λ k. record { search = o.search; stage = Search; position = k }) Search Verify (λ k. refl) refl
@@ -127,7 +128,7 @@ search-roomed = λ H o m l h same tested.
 pub verify-roomed : (p : ℕ) → IsRoomed Verify (λ (l : LeasedRun). l.position == p) (λ (o : Opening). o.reruns)
 verify-roomed p = λ H o m l h same tested.
     let here : l.position ≡ p = eqb-true l.position p tested in
-    let few : times_at l.position (open_positions H o.search Verify m) < o.reruns = verify-room (standing H o) H o m _ h same in
-    let at : times_at p (open_positions H o.search Verify m) < o.reruns =
-    subst (λ (q : ℕ). times_at q (open_positions H o.search Verify m) < o.reruns) here few in
+    let few : times_at l.position (outstanding_positions H o.search Verify m) < o.reruns = verify-room (standing H o) H o m _ h same in
+    let at : times_at p (outstanding_positions H o.search Verify m) < o.reruns =
+    subst (λ (q : ℕ). times_at q (outstanding_positions H o.search Verify m) < o.reruns) here few in
     omega (arith, at, count_by-map (λ (q : ℕ). q == p) (λ (l : LeasedRun). l.position) (open_leases H o.search Verify m))

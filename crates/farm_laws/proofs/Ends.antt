@@ -1,25 +1,27 @@
 -- What a search names stays, and so does how it ended.
 use Rattle.std.proofs.Common.{◌≡◌, ◌≢◌, ◌⊎◌, inl, inr, ℕ, ◌≤◌, Bool, true, false, not, ◌&&◌, ◌||◌, if◌then◌else◌, List, [], ◌∷◌, ◌++◌, Contains, Some, refl, sym, ap, subst, ◌∙◌, arith, true≢false, ⊎_elim}
 use Rattle.std.specs.Option.{is_none}
+use Rattle.open_positions.specs.Blocks.{is_hidden}
 use Rattle.std.proofs.lemmas.Bool.{cases_Bool}
 use Rattle.farm_types.specs.declared.stage.Stage.TheVariants.{Search}
 use Rattle.weight_exact.specs.Load.{load}
 use Rattle.weight_exact.proofs.Floors.{load-none}
 use Rattle.weight_exact.specs.Share.{reached}
 use Rattle.weight_exact.specs.declared.run.Run.{Run}
-use Rattle.farm_entry.specs.History.{openings, reruns, runs, was_cancelled, went_over}
+use Rattle.farm_entry.specs.History.{openings, reruns, runs, skipped, was_cancelled, went_over}
 use Rattle.farm_entry.specs.Legal.{AreNext, IsLegal}
 use Rattle.farm_entry.specs.Setup.{budget_of_search, setup_of}
 use Rattle.farm_entry.specs.Standing.{is_active, is_searching, at_bar, standing, standing_of_reached}
 use Rattle.farm_entry.specs.declared.entry.Entry.{Entry}
 use Rattle.farm_entry.specs.declared.opening.Opening.{Opening}
 use Rattle.farm_entry.specs.declared.standing.Standing.{Standing}
-use Rattle.farm_entry.specs.declared.standing.Standing.TheVariants.{Searching, Inconclusive, Cancelled}
+use Rattle.farm_entry.specs.declared.standing.Standing.TheVariants.{Searching, Verifying, Confirmed, Vindicated, NoCulprit, Inconclusive, Cancelled}
+use Rattle.farm_laws.specs.Laws.{culprit_of}
 use Rattle.farm_laws.proofs.Filters.{was_cancelled-grow}
 use Rattle.farm_laws.proofs.Induct.{IsLegal-first, IsLegal-rest, grown}
 use Rattle.farm_laws.proofs.Opened.{each_opened, fresh-counted, opened-stays}
-use Rattle.farm_laws.proofs.RunSteps.{GrownRuns, cancel-step, over-step, reruns-step, runs-step}
-use Rattle.farm_laws.proofs.Standings.{inactive-searching, inactive-verifying, is_searching-parts, at_bar-searching, searching-is}
+use Rattle.farm_laws.proofs.RunSteps.{GrownRuns, NewSkip, cancel-step, over-step, reruns-step, runs-step, skip-step}
+use Rattle.farm_laws.proofs.Standings.{at_bar-searching, culprit-at_bar, inactive-searching, inactive-verifying, is_searching-parts, is_undecided, searching-is}
 use Rattle.farm_laws.proofs.Stepped.{Stepped}
 
 -- no runs fit every budget
@@ -59,6 +61,12 @@ pub over-kept : (H : List Entry) (e : Entry) (o : Opening) → IsLegal H → Con
     is_searching (standing H o) ≡ false → went_over (H ++ e ∷ []) o.search ≡ went_over H o.search
 over-kept H e o legal there s idle = unless (over-step H e o legal there s) (both-ways _ idle)
 
+-- the skipped positions of a search that has ended stay with an entry appended
+pub skips-kept : (H : List Entry) (e : Entry) (o : Opening) → IsLegal H → Contains (openings H) o → Stepped H e.at e.what →
+    is_active (standing H o) ≡ false → skipped (H ++ e ∷ []) o.search ≡ skipped H o.search
+skips-kept H e o legal there s ended =
+    unless (skip-step H e o legal there s) (λ (new : NewSkip H e o). both-ways _ ended new.active)
+
 -- what a search names stays
 pub at_bar-stays : (H : List Entry) (e : Entry) (o : Opening) (c : ℕ) → IsLegal H → Contains (openings H) o → Stepped H e.at e.what →
     at_bar H o ≡ Some c → at_bar (H ++ e ∷ []) o ≡ Some c
@@ -67,21 +75,46 @@ at_bar-stays H e o c legal there s is =
 
 -- a search that isn't searching never searches again
 
-still-not : (cancelled more over none : Bool) → (not cancelled && (not over && none)) ≡ false →
-    (not (cancelled || more) && (not over && none)) ≡ false
-still-not true more over none h = refl
-still-not false true over none h = refl
-still-not false false over none h = h
+still-not : (cancelled more over undecided : Bool) → (not cancelled && (not over && undecided)) ≡ false →
+    (not (cancelled || more) && (not over && undecided)) ≡ false
+still-not true more over undecided h = refl
+still-not false true over undecided h = refl
+still-not false false over undecided h = h
+
+-- a search that goes on and isn't searching names a suspect
+active-names : (s : Standing) → is_active s ≡ true → is_searching s ≡ false → (c : ℕ) × (culprit_of s ≡ Some c)
+active-names (Verifying c) goes idle = (c, refl)
+active-names Searching goes idle = absurd (true≢false idle)
+active-names (Confirmed c) goes idle = absurd (true≢false (sym goes))
+active-names (Vindicated c) goes idle = absurd (true≢false (sym goes))
+active-names NoCulprit goes idle = absurd (true≢false (sym goes))
+active-names Inconclusive goes idle = absurd (true≢false (sym goes))
+active-names Cancelled goes idle = absurd (true≢false (sym goes))
+
+-- one that has ended, since nothing of it changes but that it may be cancelled
+ended-kept : (H : List Entry) (e : Entry) (o : Opening) → IsLegal H → Contains (openings H) o → Stepped H e.at e.what →
+    is_searching (standing H o) ≡ false → is_active (standing H o) ≡ false → is_searching (standing (H ++ e ∷ []) o) ≡ false
+ended-kept H e o legal there s idle ended =
+    let longer = H ++ e ∷ [] in
+    let past : went_over longer o.search ≡ went_over H o.search = over-kept H e o legal there s idle in
+    let counted : runs longer o.search ≡ runs H o.search = runs-kept H e o legal there s idle in
+    let skips : skipped longer o.search ≡ skipped H o.search = skips-kept H e o legal there s ended in
+    let same : is_undecided longer o ≡ is_undecided H o =
+    λ i. is_none (reached (setup_of o) (counted i)) && not (is_hidden (setup_of o) (counted i) (skips i)) in
+    is_searching-parts longer o
+    ∙ (λ i. not (was_cancelled-grow H e o.search i) && (not (past i) && same i))
+    ∙ still-not (was_cancelled H o.search) _ (went_over H o.search) (is_undecided H o) (sym (is_searching-parts H o) ∙ idle)
 
 pub not_searching-kept : (H : List Entry) (e : Entry) (o : Opening) → IsLegal H → Contains (openings H) o → Stepped H e.at e.what →
     is_searching (standing H o) ≡ false → is_searching (standing (H ++ e ∷ []) o) ≡ false
 not_searching-kept H e o legal there s idle =
-    let longer = H ++ e ∷ [] in
-    let past : went_over longer o.search ≡ went_over H o.search = over-kept H e o legal there s idle in
-    let same : at_bar longer o ≡ at_bar H o = ap (reached (setup_of o)) (runs-kept H e o legal there s idle) in
-    is_searching-parts longer o
-    ∙ (λ i. not (was_cancelled-grow H e o.search i) && (not (past i) && is_none (same i)))
-    ∙ still-not (was_cancelled H o.search) _ (went_over H o.search) (is_none (at_bar H o)) (sym (is_searching-parts H o) ∙ idle)
+    ⊎_elim
+    (λ (goes : is_active (standing H o) ≡ true).
+    let names = active-names (standing H o) goes idle in
+    at_bar-searching (H ++ e ∷ []) o names.0
+    (at_bar-stays H e o names.0 legal there s (culprit-at_bar H o names.0 names.1).0))
+    (λ (ended : is_active (standing H o) ≡ false). ended-kept H e o legal there s idle ended)
+    (cases_Bool (is_active (standing H o)))
 
 -- what stays from a history on
 
@@ -118,9 +151,12 @@ end-kept H G e o ended is kept s =
     let cancelled : was_cancelled (G ++ e ∷ []) o.search ≡ was_cancelled G o.search =
     unless (cancel-step G e o is kept.opened s) (both-ways _ inactive) in
     let past : went_over (G ++ e ∷ []) o.search ≡ went_over G o.search = over-kept G e o is kept.opened s quiet in
-    let same : at_bar (G ++ e ∷ []) o ≡ at_bar G o = ap (reached (setup_of o)) (runs-kept G e o is kept.opened s quiet) in
+    let counted : runs (G ++ e ∷ []) o.search ≡ runs G o.search = runs-kept G e o is kept.opened s quiet in
+    let skips : skipped (G ++ e ∷ []) o.search ≡ skipped G o.search = skips-kept G e o is kept.opened s inactive in
     let stands : standing (G ++ e ∷ []) o ≡ standing G o =
-    λ i. if cancelled i then Cancelled else (if past i then Inconclusive else standing_of_reached o (again i) (same i)) in
+    λ i. if cancelled i then Cancelled
+    else (if past i then Inconclusive
+    else standing_of_reached o (counted i) (skips i) (again i) (reached (setup_of o) (counted i))) in
     record {
       opened = opened-stays G e o kept.opened;
       stands = stands ∙ kept.stands;
@@ -132,6 +168,23 @@ pub end-stays : (H K : List Entry) (o : Opening) → IsLegal H → AreNext H K �
 end-stays H K o legal next there ended =
     grown (λ (G : List Entry). KeptEnd H G o) (λ G e is kept s. end-kept H G e o ended is kept s)
     H K legal (record { opened = there; stands = refl; reruns_are = refl }) next
+
+-- and its skipped positions
+
+record KeptSkips (H G : List Entry) (o : Opening) : Type 0 where
+  kept : KeptEnd H G o
+  skips_are : skipped G o.search ≡ skipped H o.search
+
+pub skips-stay : (H K : List Entry) (o : Opening) → IsLegal H → AreNext H K → Contains (openings H) o →
+    is_active (standing H o) ≡ false → skipped (H ++ K) o.search ≡ skipped H o.search
+skips-stay H K o legal next there ended =
+    (grown (λ (G : List Entry). KeptSkips H G o)
+    (λ G e is all s. record {
+      kept = end-kept H G e o ended is all.kept s;
+      skips_are = skips-kept G e o is all.kept.opened s (ap is_active all.kept.stands ∙ ended) ∙ all.skips_are;
+    })
+    H K legal
+    (record { kept = record { opened = there; stands = refl; reruns_are = refl }; skips_are = refl }) next).skips_are
 
 cons-nil : (e : Entry) (H : List Entry) → e ∷ H ≡ [] → ⊥
 cons-nil e H h = let b : true ≡ false = cc in true≢false b
@@ -157,7 +210,10 @@ runs-stop H K o legal there other =
 
 pub end-final : (H K : List Entry) (o : Opening) → IsLegal (H ++ K) → Contains (openings H) o → is_active (standing H o) ≡ false →
     (standing (H ++ K) o ≡ standing H o) × (reruns (H ++ K) o.search ≡ reruns H o.search)
+    × (skipped (H ++ K) o.search ≡ skipped H o.search)
 end-final H K o legal there ended =
     let some = some-entries H o there in
-    let kept = end-stays H K o (IsLegal-first H K some legal) (IsLegal-rest H K some legal) there ended in
-    (kept.stands, kept.reruns_are)
+    let first = IsLegal-first H K some legal in
+    let rest = IsLegal-rest H K some legal in
+    let kept = end-stays H K o first rest there ended in
+    (kept.stands, kept.reruns_are, skips-stay H K o first rest there ended)

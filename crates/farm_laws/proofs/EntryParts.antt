@@ -1,29 +1,31 @@
 -- What a new entry says, by what it holds; and facts on each part of a legal history.
-use Rattle.std.proofs.Common.{◌≡◌, ℕ, List, [], ◌∷◌, ◌++◌, Option, Some, None, refl, sym, subst}
+use Rattle.std.proofs.Common.{◌≡◌, ℕ, List, [], ◌∷◌, ◌++◌, Option, Some, None, refl, sym, ap, subst}
 use Rattle.std.specs.List.{All, cons_option, filter_map}
 use Rattle.std.proofs.lemmas.List.Elements.{All-append, All-cons, All-nil}
 use Rattle.std.proofs.lemmas.Option.{none-some}
 use Rattle.farm_types.specs.declared.moment.Moment.{Moment}
-use Rattle.farm_entry.specs.History.{cancelled_in, lease_in, opening_in, order_in, report_in}
+use Rattle.farm_entry.specs.History.{cancelled_in, lease_in, opening_in, order_in, report_in, skip_in, told_in}
 use Rattle.farm_entry.specs.Legal.{IsFounding, IsLegal}
 use Rattle.farm_entry.specs.declared.entry.Entry.{Entry}
 use Rattle.farm_entry.specs.declared.entry.What.{What}
-use Rattle.farm_entry.specs.declared.entry.What.TheVariants.{Founded, Opened, Leased, Reported, Cancelled, Ordered}
+use Rattle.farm_entry.specs.declared.entry.What.TheVariants.{Founded, Opened, Leased, Reported, Skipped, Cancelled, Ordered}
 use Rattle.farm_entry.specs.declared.lease.LeasedRun.{LeasedRun}
 use Rattle.farm_entry.specs.declared.lease.ReportedRun.{ReportedRun}
+use Rattle.farm_entry.specs.declared.lease.SkippedRun.{SkippedRun}
 use Rattle.farm_entry.specs.declared.opening.Opening.{Opening}
 use Rattle.farm_entry.specs.declared.order_page.OrderLine.{OrderLine}
 use Rattle.farm_entry.proofs.Growing.{parts-grow}
 use Rattle.farm_laws.proofs.Induct.{each_legal}
-use Rattle.farm_laws.proofs.Stepped.{CancelledNext, LeasedNext, OpenedNext, OrderedNext, ReportedNext, Stepped}
+use Rattle.farm_laws.proofs.Stepped.{CancelledNext, LeasedNext, OpenedNext, OrderedNext, ReportedNext, SkippedNext, Stepped, ToldNext}
 
--- the facts of an entry that holds an opening, a lease, a report, a cancellation, an order
+-- the facts of an entry that holds an opening, a lease, a report with a verdict or not, a cancellation, an order
 
 pub opened-facts : (H : List Entry) (m : Moment) (w : What) (o : Opening) → opening_in w ≡ Some o → Stepped H m w → OpenedNext H o
 opened-facts H m (Opened x) o h s = let same : x ≡ o = cc in subst (λ (y : Opening). OpenedNext H y) same s.facts
 opened-facts H m (Founded x) o h s = absurd (none-some o h)
 opened-facts H m (Leased k w r q t p d) o h s = absurd (none-some o h)
 opened-facts H m (Reported r v _) o h s = absurd (none-some o h)
+opened-facts H m (Skipped r _) o h s = absurd (none-some o h)
 opened-facts H m (Cancelled k q) o h s = absurd (none-some o h)
 opened-facts H m (Ordered k a n c q d) o h s = absurd (none-some o h)
 
@@ -34,6 +36,7 @@ leased-facts H m (Leased k w r q t p d) l h s =
 leased-facts H m (Founded x) l h s = absurd (none-some l h)
 leased-facts H m (Opened x) l h s = absurd (none-some l h)
 leased-facts H m (Reported r v _) l h s = absurd (none-some l h)
+leased-facts H m (Skipped r _) l h s = absurd (none-some l h)
 leased-facts H m (Cancelled k q) l h s = absurd (none-some l h)
 leased-facts H m (Ordered k a n c q d) l h s = absurd (none-some l h)
 
@@ -45,8 +48,84 @@ reported-facts H m (Reported n v f) r h s =
 reported-facts H m (Founded x) r h s = absurd (none-some r h)
 reported-facts H m (Opened x) r h s = absurd (none-some r h)
 reported-facts H m (Leased k w n q t p d) r h s = absurd (none-some r h)
+reported-facts H m (Skipped n _) r h s = absurd (none-some r h)
 reported-facts H m (Cancelled k q) r h s = absurd (none-some r h)
 reported-facts H m (Ordered k a n c q d) r h s = absurd (none-some r h)
+
+pub skipped-facts : (H : List Entry) (m : Moment) (w : What) (r : SkippedRun) → skip_in w ≡ Some r → Stepped H m w →
+    SkippedNext H r.run r.fate
+skipped-facts H m (Skipped n f) r h s =
+    let same : record { run = n; fate = f } ≡ r = cc in
+    subst (λ (y : SkippedRun). SkippedNext H y.run y.fate) same s.facts
+skipped-facts H m (Founded x) r h s = absurd (none-some r h)
+skipped-facts H m (Opened x) r h s = absurd (none-some r h)
+skipped-facts H m (Leased k w n q t p d) r h s = absurd (none-some r h)
+skipped-facts H m (Reported n v _) r h s = absurd (none-some r h)
+skipped-facts H m (Cancelled k q) r h s = absurd (none-some r h)
+skipped-facts H m (Ordered k a n c q d) r h s = absurd (none-some r h)
+
+-- what is reported with a verdict, or without, is reported
+pub report-told : (w : What) (r : ReportedRun) → report_in w ≡ Some r → told_in w ≡ Some r.run
+report-told (Reported n v f) r h =
+    let same : record { run = n; verdict = v; fate = f } ≡ r = cc in ap (λ (x : ReportedRun). Some x.run) same
+report-told (Founded x) r h = absurd (none-some r h)
+report-told (Opened x) r h = absurd (none-some r h)
+report-told (Leased k w n q t p d) r h = absurd (none-some r h)
+report-told (Skipped n _) r h = absurd (none-some r h)
+report-told (Cancelled k q) r h = absurd (none-some r h)
+report-told (Ordered k a n c q d) r h = absurd (none-some r h)
+
+pub skip-told : (w : What) (r : SkippedRun) → skip_in w ≡ Some r → told_in w ≡ Some r.run
+skip-told (Skipped n f) r h =
+    let same : record { run = n; fate = f } ≡ r = cc in ap (λ (x : SkippedRun). Some x.run) same
+skip-told (Founded x) r h = absurd (none-some r h)
+skip-told (Opened x) r h = absurd (none-some r h)
+skip-told (Leased k w n q t p d) r h = absurd (none-some r h)
+skip-told (Reported n v _) r h = absurd (none-some r h)
+skip-told (Cancelled k q) r h = absurd (none-some r h)
+skip-told (Ordered k a n c q d) r h = absurd (none-some r h)
+
+-- what is told of no run is no report, with a verdict or without
+pub told-none : (w : What) → told_in w ≡ None → (report_in w ≡ None) × (skip_in w ≡ None)
+told-none (Founded x) h = (refl, refl)
+told-none (Opened x) h = (refl, refl)
+told-none (Leased k w n q t p d) h = (refl, refl)
+told-none (Reported n v _) h = absurd (none-some n (sym h))
+told-none (Skipped n _) h = absurd (none-some n (sym h))
+told-none (Cancelled k q) h = (refl, refl)
+told-none (Ordered k a n c q d) h = (refl, refl)
+
+-- no entry reports a run both with a verdict and without
+pub skip-no_report : (w : What) (r : SkippedRun) → skip_in w ≡ Some r → report_in w ≡ None
+skip-no_report (Skipped n f) r h = refl
+skip-no_report (Founded x) r h = refl
+skip-no_report (Opened x) r h = refl
+skip-no_report (Leased k w n q t p d) r h = refl
+skip-no_report (Reported n v _) r h = absurd (none-some r h)
+skip-no_report (Cancelled k q) r h = refl
+skip-no_report (Ordered k a n c q d) r h = refl
+
+pub report-no_skip : (w : What) (r : ReportedRun) → report_in w ≡ Some r → skip_in w ≡ None
+report-no_skip (Reported n v _) r h = refl
+report-no_skip (Founded x) r h = refl
+report-no_skip (Opened x) r h = refl
+report-no_skip (Leased k w n q t p d) r h = refl
+report-no_skip (Skipped n _) r h = absurd (none-some r h)
+report-no_skip (Cancelled k q) r h = refl
+report-no_skip (Ordered k a n c q d) r h = refl
+
+pub told-facts : (H : List Entry) (m : Moment) (w : What) (run : ℕ) → told_in w ≡ Some run → Stepped H m w → ToldNext H run
+told-facts H m (Reported n v _) run h s =
+    let same : n ≡ run = cc in
+    subst (ToldNext H) same (record { lease = s.facts.lease; known = s.facts.known; first = s.facts.first })
+told-facts H m (Skipped n _) run h s =
+    let same : n ≡ run = cc in
+    subst (ToldNext H) same (record { lease = s.facts.lease; known = s.facts.known; first = s.facts.first })
+told-facts H m (Founded x) run h s = absurd (none-some run h)
+told-facts H m (Opened x) run h s = absurd (none-some run h)
+told-facts H m (Leased k w n q t p d) run h s = absurd (none-some run h)
+told-facts H m (Cancelled k q) run h s = absurd (none-some run h)
+told-facts H m (Ordered k a n c q d) run h s = absurd (none-some run h)
 
 pub cancelled-facts : (H : List Entry) (m : Moment) (w : What) (q : ℕ) → cancelled_in w ≡ Some q → Stepped H m w → CancelledNext H q
 cancelled-facts H m (Cancelled k x) q h s = let same : x ≡ q = cc in subst (λ (y : ℕ). CancelledNext H y) same s.facts
@@ -54,6 +133,7 @@ cancelled-facts H m (Founded x) q h s = absurd (none-some q h)
 cancelled-facts H m (Opened x) q h s = absurd (none-some q h)
 cancelled-facts H m (Leased k w n x t p d) q h s = absurd (none-some q h)
 cancelled-facts H m (Reported n v _) q h s = absurd (none-some q h)
+cancelled-facts H m (Skipped n _) q h s = absurd (none-some q h)
 cancelled-facts H m (Ordered k a n c x d) q h s = absurd (none-some q h)
 
 pub ordered-facts : (H : List Entry) (m : Moment) (w : What) (x : OrderLine) → order_in w ≡ Some x → Stepped H m w →
@@ -65,6 +145,7 @@ ordered-facts H m (Founded y) x h s = absurd (none-some x h)
 ordered-facts H m (Opened y) x h s = absurd (none-some x h)
 ordered-facts H m (Leased k w n q t p d) x h s = absurd (none-some x h)
 ordered-facts H m (Reported n v _) x h s = absurd (none-some x h)
+ordered-facts H m (Skipped n _) x h s = absurd (none-some x h)
 ordered-facts H m (Cancelled k q) x h s = absurd (none-some x h)
 
 -- what holds of the value, if there is one, holds of the list of it

@@ -6,12 +6,13 @@ use Rattle.std.proofs.lemmas.List.Elements.{All-head, All-tail, filter-append, f
 use Rattle.std.proofs.lemmas.List.Folds.{find-append, list_any-append}
 use Rattle.farm_types.specs.declared.stage.Stage.{Stage}
 use Rattle.weight_exact.specs.declared.run.Run.{Run}
-use Rattle.farm_entry.specs.History.{all_leases, cancellations, cancelled_in, counted, counted_run, is_counted, is_of_search, is_over, is_reported, lease_in, lease_of, leases, opening_in, opening_numbered, openings, report_in, reports, run_of, was_cancelled, went_over}
+use Rattle.farm_entry.specs.History.{all_leases, cancellations, cancelled_in, counted, counted_run, is_counted, is_of_search, is_over, is_reported, lease_in, lease_of, leases, is_taken, opening_in, opening_numbered, openings, position_for, report_in, reports, run_of, skip_in, skipped, skipped_position, skips, told_in, told_runs, was_cancelled, went_over}
 use Rattle.farm_entry.specs.declared.entry.Entry.{Entry}
 use Rattle.farm_entry.specs.declared.lease.LeasedRun.{LeasedRun}
 use Rattle.farm_entry.specs.declared.lease.ReportedRun.{ReportedRun}
+use Rattle.farm_entry.specs.declared.lease.SkippedRun.{SkippedRun}
 use Rattle.farm_entry.specs.declared.opening.Opening.{Opening}
-use Rattle.farm_entry.proofs.Growing.{all_leases-grow, cancellations-grow, openings-grow, reports-grow}
+use Rattle.farm_entry.proofs.Growing.{all_leases-grow, cancellations-grow, openings-grow, reports-grow, skips-grow, told_runs-grow}
 
 -- lists
 
@@ -56,6 +57,10 @@ HasLease H run = (l : LeasedRun) × (lease_of H run ≡ Some l)
 abbrev pub ReportsKnown : List Entry → Type 0
 ReportsKnown H = All (λ (r : ReportedRun). HasLease H r.run) (reports H)
 
+-- the same of those that were reported without a verdict
+abbrev pub SkipsKnown : List Entry → Type 0
+SkipsKnown H = All (λ (r : SkippedRun). HasLease H r.run) (skips H)
+
 lease_of-same : (H : List Entry) (e : Entry) (run : ℕ) → HasLease H run → lease_of (H ++ e ∷ []) run ≡ lease_of H run
 lease_of-same H e run h = lease_of-stays H e run h.0 h.1 ∙ sym h.1
 
@@ -79,6 +84,19 @@ counted-grow H e s stage known =
     (filter_map-same longer (counted_run H s stage) (reports H)
     (All-imp (λ (r : ReportedRun). HasLease H r.run) (λ (r : ReportedRun). longer r ≡ counted_run H s stage r) (reports H) same known))
 
+-- the skipped positions of a search
+pub skipped-grow : (H : List Entry) (e : Entry) (s : ℕ) → SkipsKnown H →
+    skipped (H ++ e ∷ []) s ≡ skipped H s ++ filter_map (skipped_position (H ++ e ∷ []) s) (cons_option (skip_in e.what) [])
+skipped-grow H e s known =
+    let longer = skipped_position (H ++ e ∷ []) s in
+    let same : (r : SkippedRun) → HasLease H r.run → longer r ≡ skipped_position H s r =
+    λ r h. ap (λ (l : Option LeasedRun). if is_taken r.fate then option_and_then (position_for s) l else None) (lease_of-same H e r.run h) in
+    ap (filter_map longer) (skips-grow H e)
+    ∙ filter_map-append longer (skips H) (cons_option (skip_in e.what) [])
+    ∙ ap (λ (xs : List ℕ). xs ++ filter_map longer (cons_option (skip_in e.what) []))
+    (filter_map-same longer (skipped_position H s) (skips H)
+    (All-imp (λ (r : SkippedRun). HasLease H r.run) (λ (r : SkippedRun). longer r ≡ skipped_position H s r) (skips H) same known))
+
 -- whether a search went over its budget
 pub went_over-grow : (H : List Entry) (e : Entry) (s : ℕ) → ReportsKnown H →
     went_over (H ++ e ∷ []) s
@@ -101,9 +119,9 @@ was_cancelled-grow H e s =
     ap (list_any (λ (c : ℕ). c == s)) (cancellations-grow H e)
     ∙ list_any-append (λ (c : ℕ). c == s) (cancellations H) (cons_option (cancelled_in e.what) [])
 
--- whether a run has a report
+-- whether a run has a report, with a verdict or not
 pub is_reported-grow : (H : List Entry) (e : Entry) (run : ℕ) →
-    is_reported (H ++ e ∷ []) run ≡ (is_reported H run || list_any (λ (r : ReportedRun). r.run == run) (cons_option (report_in e.what) []))
+    is_reported (H ++ e ∷ []) run ≡ (is_reported H run || list_any (λ (told : ℕ). told == run) (cons_option (told_in e.what) []))
 is_reported-grow H e run =
-    ap (list_any (λ (r : ReportedRun). r.run == run)) (reports-grow H e)
-    ∙ list_any-append (λ (r : ReportedRun). r.run == run) (reports H) (cons_option (report_in e.what) [])
+    ap (list_any (λ (told : ℕ). told == run)) (told_runs-grow H e)
+    ∙ list_any-append (λ (told : ℕ). told == run) (told_runs H) (cons_option (told_in e.what) [])

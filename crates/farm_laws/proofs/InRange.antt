@@ -3,27 +3,25 @@
 use Rattle.std.proofs.Common.{◌≡◌, ◌⊎◌, inl, inr, ℕ, ◌+◌, ◌-◌, ◌<◌, ◌≤◌, ◌==◌, Bool, true, false, ◌&&◌, nat_lt, if◌then◌else◌, cond, List, [], ◌∷◌, ◌++◌, length, get_or, All, Contains, Option, Some, None, refl, sym, ap, subst, ◌∙◌, arith, true≢false}
 use Rattle.std.specs.Option.{option_map}
 use Rattle.std.proofs.lemmas.Bool.Decides.{nat_tests}
-use Rattle.std.proofs.lemmas.List.{get_or_default}
-use Rattle.std.proofs.lemmas.List.Elements.{All-contains, All-cons, All-head, All-tail, Contains-get_or}
+use Rattle.std.proofs.lemmas.List.Elements.{All-contains, All-cons, All-head, All-tail, All-weaker, Contains-get_or}
 use Rattle.std.proofs.lemmas.Option.{none-some}
 use Rattle.farm_rules.specs.Due.{due_search, due_verify, first_entry, strike, struck, times_at}
 use Rattle.farm_types.specs.Moment.{moment_ms}
 use Rattle.farm_types.specs.declared.stage.Stage.{Stage}
 use Rattle.farm_types.specs.declared.stage.Stage.TheVariants.{Search, Verify}
 use Rattle.weight_exact.specs.Load.{floor}
-use Rattle.weight_exact.specs.Plan.{pick, plan}
+use Rattle.open_positions.specs.Open.{is_skipped, open_plan}
 use Rattle.weight_exact.specs.Share.{IsReached}
 use Rattle.weight_exact.specs.Weights.{AreInRange, Setup, hypotheses, suspects, total}
 use Rattle.weight_exact.specs.declared.run.Run.{Run}
-use Rattle.weight_exact.proofs.Plans.{length-plan, pick_above, pick_within, slice_index-plan}
 use Rattle.weight_exact.proofs.Shares.{IsReached_once, total_positive}
 use Rattle.farm_entry.specs.Decision.{run_with}
-use Rattle.farm_entry.specs.Due.{due_at, due_searching, due_verifying, open_positions}
-use Rattle.farm_entry.specs.History.{all_leases, counted_run, is_counted, lease_in, leases, opening_numbered, openings, reports, runs, same_stage}
+use Rattle.farm_entry.specs.Due.{due_at, due_searching, due_verifying, outstanding_positions}
+use Rattle.farm_entry.specs.History.{all_leases, counted_run, is_counted, lease_in, leases, opening_numbered, openings, reports, runs, same_stage, skipped}
 use Rattle.farm_entry.specs.Legal.{IsLegal}
 use Rattle.farm_entry.specs.Setup.{setup_of}
 use Rattle.farm_laws.specs.Laws.{culprit_of}
-use Rattle.farm_entry.specs.Standing.{is_searching, at_bar, standing}
+use Rattle.farm_entry.specs.Standing.{at_bar, standing}
 use Rattle.farm_entry.specs.declared.entry.Entry.{Entry}
 use Rattle.farm_entry.specs.declared.lease.DueRun.{DueRun}
 use Rattle.farm_entry.specs.declared.lease.LeasedRun.{LeasedRun}
@@ -38,8 +36,9 @@ use Rattle.farm_laws.proofs.Known.{made-from, next_run-due, reports-known}
 use Rattle.farm_laws.proofs.Lists.{there-filter}
 use Rattle.farm_laws.proofs.Numbered.{lease-there, no_lease, opening-found, opening-there}
 use Rattle.farm_laws.proofs.OpenLimits.{open_within, setup_facts}
+use Rattle.farm_laws.proofs.OpenPlans.{IsOpenAbove, open_plan-open}
 use Rattle.farm_laws.proofs.RunSteps.{chosen_run, counted_run-is}
-use Rattle.farm_laws.proofs.Standings.{culprit-at_bar, searching-at_bar, some-left}
+use Rattle.farm_laws.proofs.Standings.{culprit-at_bar}
 use Rattle.farm_laws.proofs.Stepped.{Stepped}
 
 -- The entry of a plan that is due is one of the plan's.
@@ -71,14 +70,15 @@ due_search-all P entries out k h is = due-if P (nat_lt (length out) (length entr
 abbrev pub InRange : Setup → ℕ → Type 0
 InRange s k = (1 ≤ k) × (k ≤ suspects s)
 
-plan-in_range : (s : Setup) (past : List Run) (k : ℕ) → floor s.factors past < suspects s → All (InRange s) (plan s past k)
-plan-in_range s past k left =
-    λ j d below.
-    let entry : get_or (plan s past k) j d ≡ pick s past k (j + 1) =
-    get_or_default (plan s past k) j d 0 below ∙ slice_index-plan s past k j (omega (arith, below, length-plan s past k)) in
-    let above : floor s.factors past < pick s past k (j + 1) = pick_above s past k (j + 1) left in
-    let upto : pick s past k (j + 1) ≤ suspects s = pick_within s past k (j + 1) left in
-    subst (InRange s) (sym entry) (omega (arith, above), upto)
+-- a position of a plan is that of a suspect, and isn't skipped
+abbrev pub IsPlanned : Setup → (skipped : List ℕ) → ℕ → Type 0
+IsPlanned s skips k = InRange s k × (is_skipped skips k ≡ false)
+
+plan-planned : (s : Setup) (past : List Run) (skips : List ℕ) (k : ℕ) → All (IsPlanned s skips) (open_plan s past skips k)
+plan-planned s past skips k =
+    All-weaker (IsOpenAbove skips (floor s.factors past) (suspects s)) (IsPlanned s skips)
+    (λ i is. ((omega (arith, is.above), is.within), is.kept))
+    (open_plan s past skips k) (open_plan-open s past skips k)
 
 -- a rerun is due at the culprit or just below it
 one-of-two : (first second : Bool) (c k : ℕ) → 1 ≤ c → (if first then Some c else (if second then Some (c - 1) else None)) ≡ Some k →
@@ -108,23 +108,25 @@ mapped : {X Y : Type 0} (make : X → Y) (o : Option X) (y : Y) → option_map m
 mapped make None y h = absurd (none-some y h)
 mapped make (Some x) y h = (x, refl, cc)
 
+-- where a search that is searching is to run next
+pub due_searching-planned : (H : List Entry) (o : Opening) (m k : ℕ) → due_searching H o m ≡ Some k →
+    IsPlanned (setup_of o) (skipped H o.search) k
+due_searching-planned H o m k is =
+    due_search-all (IsPlanned (setup_of o) (skipped H o.search)) (open_plan (setup_of o) (runs H o.search) (skipped H o.search) o.width)
+    (outstanding_positions H o.search Search m) k (plan-planned (setup_of o) (runs H o.search) (skipped H o.search) o.width) is
+
 -- the run that is due fits the stage
 due-fits : (H : List Entry) (o : Opening) (m : ℕ) (d : DueRun) → IsLegal H → Contains (openings H) o → (st : Standing) → standing H o ≡ st →
     due_at st H o m ≡ Some d → FitsStage H o d.stage d.position
 due-fits H o m d legal there Searching stands is =
     let made = mapped (λ k. record { search = o.search; stage = Search; position = k }) (due_searching H o m) d is in
-    let none : at_bar H o ≡ None = searching-at_bar H o (ap is_searching stands) in
-    let left : floor (setup_of o).factors (runs H o.search) < suspects (setup_of o) =
-    some-left (setup_of o) (runs H o.search) (setup_facts o (open_within H o legal there)) none in
-    let fits : InRange (setup_of o) made.0 =
-    due_search-all (InRange (setup_of o)) (plan (setup_of o) (runs H o.search) o.width) (open_positions H o.search Search m) made.0
-    (plan-in_range (setup_of o) (runs H o.search) o.width left) made.1 in
+    let fits : InRange (setup_of o) made.0 = (due_searching-planned H o m made.0 made.1).0 in
     subst (λ (x : DueRun). FitsStage H o x.stage x.position) made.2
     (record { searching = λ h. fits; verifying = λ h. search-verify h })
 due-fits H o m d legal there (Verifying c) stands is =
     let made = mapped (λ k. record { search = o.search; stage = Verify; position = k }) (due_verifying H o c m) d is in
     let culprit = culprit-at_bar H o c (ap culprit_of stands) in
-    let side = due_verify-at c _ _ o.reruns made.0 (open_positions H o.search Verify m) culprit.1 made.1 in
+    let side = due_verify-at c _ _ o.reruns made.0 (outstanding_positions H o.search Verify m) culprit.1 made.1 in
     subst (λ (x : DueRun). FitsStage H o x.stage x.position) made.2
     (record { searching = λ h. search-verify (sym h); verifying = λ h. (c, culprit.0, culprit.1, culprit.2, side) })
 due-fits H o m d legal there (Confirmed c) stands is = absurd (none-some d is)

@@ -7,21 +7,22 @@ use Rattle.std.proofs.lemmas.Option.{none-some}
 use Rattle.farm_types.specs.declared.stage.Stage.TheVariants.{Search, Verify}
 use Rattle.farm_types.specs.Moment.{moment_ms}
 use Rattle.farm_entry.specs.Due.{due, due_at, due_runs, due_searching, due_verifying, next_run, sooner, soonest}
-use Rattle.farm_entry.specs.History.{all_leases, last_lease, lease_in, opening_numbered, openings, report_in}
+use Rattle.farm_entry.specs.History.{all_leases, last_lease, lease_in, opening_numbered, openings, report_in, skip_in, told_in, told_runs}
 use Rattle.farm_entry.specs.Legal.{IsLegal}
 use Rattle.farm_entry.specs.Standing.{standing}
 use Rattle.farm_entry.specs.declared.entry.Entry.{Entry}
 use Rattle.farm_entry.specs.declared.lease.DueRun.{DueRun}
 use Rattle.farm_entry.specs.declared.lease.LeasedRun.{LeasedRun}
 use Rattle.farm_entry.specs.declared.lease.ReportedRun.{ReportedRun}
+use Rattle.farm_entry.specs.declared.lease.SkippedRun.{SkippedRun}
 use Rattle.farm_entry.specs.declared.opening.Opening.{Opening}
 use Rattle.farm_entry.specs.declared.standing.Standing.{Standing}
 use Rattle.farm_entry.specs.declared.standing.Standing.TheVariants.{Searching, Verifying, Confirmed, Vindicated, NoCulprit, Inconclusive, Cancelled}
 use Rattle.farm_laws.specs.Openings.{HasOpening}
-use Rattle.farm_laws.proofs.EntryParts.{each_part, leased-facts, reported-facts}
-use Rattle.farm_laws.proofs.Filters.{HasLease, ReportsKnown, lease_of-stays, opening_numbered-stays}
+use Rattle.farm_laws.proofs.EntryParts.{each_part, leased-facts, reported-facts, skipped-facts, told-facts}
+use Rattle.farm_laws.proofs.Filters.{HasLease, ReportsKnown, SkipsKnown, lease_of-stays, opening_numbered-stays}
 use Rattle.farm_laws.proofs.Lists.{contains-head, contains-tail}
-use Rattle.farm_laws.proofs.Numbered.{no_lease, no_report, opening-found}
+use Rattle.farm_laws.proofs.Numbered.{no_lease, no_report, no_skip, no_told, opening-found}
 
 -- lists
 
@@ -53,6 +54,22 @@ reports-known =
     (λ H e r legal s is.
     let facts = reported-facts H e.at e.what r is s in
     (facts.lease, lease_of-stays H e r.run facts.lease facts.known))
+
+pub skips-known : (H : List Entry) → IsLegal H → SkipsKnown H
+skips-known =
+    each_part skip_in (λ (H : List Entry) (r : SkippedRun). HasLease H r.run) no_skip
+    (λ H e r legal s known. (known.0, lease_of-stays H e r.run known.0 known.1))
+    (λ H e r legal s is.
+    let facts = skipped-facts H e.at e.what r is s in
+    (facts.lease, lease_of-stays H e r.run facts.lease facts.known))
+
+pub told_runs-known : (H : List Entry) → IsLegal H → All (λ (run : ℕ). HasLease H run) (told_runs H)
+told_runs-known =
+    each_part told_in (λ (H : List Entry) (run : ℕ). HasLease H run) no_told
+    (λ H e run legal s known. (known.0, lease_of-stays H e run known.0 known.1))
+    (λ H e run legal s is.
+    let facts = told-facts H e.at e.what run is s in
+    (facts.lease, lease_of-stays H e run facts.lease facts.known))
 
 chosen_if : (b : Bool) (d x y : DueRun) (rest : List DueRun) → Contains rest y → (if b then d else y) ≡ x → Contains (d ∷ rest) x
 chosen_if true d x y rest there h = contains-head rest d x h

@@ -19,6 +19,7 @@ pub mod Numbered
 pub mod OnceEach
 pub mod OpenLeases
 pub mod OpenLimits
+pub mod OpenPlans
 pub mod Opened
 pub mod OrderDays
 pub mod OrdersOnce

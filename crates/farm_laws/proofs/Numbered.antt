@@ -6,11 +6,11 @@ use Rattle.std.proofs.lemmas.List.{get_or-map, map-append}
 use Rattle.std.proofs.lemmas.List.FromFn.{get_or-range_with_len}
 use Rattle.std.proofs.lemmas.Option.{none-some}
 use Rattle.farm_types.specs.declared.moment.Moment.{Moment}
-use Rattle.farm_entry.specs.History.{all_leases, lease_in, lease_of, opening_in, opening_numbered, openings, order_in, order_lines, report_in}
+use Rattle.farm_entry.specs.History.{all_leases, lease_in, lease_of, opening_in, opening_numbered, openings, order_in, order_lines, report_in, skip_in, told_in}
 use Rattle.farm_entry.specs.Legal.{IsFounding, IsLegal, ask_of}
 use Rattle.farm_entry.specs.declared.entry.Entry.{Entry}
 use Rattle.farm_entry.specs.declared.entry.What.{What}
-use Rattle.farm_entry.specs.declared.entry.What.TheVariants.{Founded, Opened, Leased, Reported, Cancelled, Ordered}
+use Rattle.farm_entry.specs.declared.entry.What.TheVariants.{Founded, Opened, Leased, Reported, Skipped, Cancelled, Ordered}
 use Rattle.farm_entry.specs.declared.lease.LeasedRun.{LeasedRun}
 use Rattle.farm_entry.specs.declared.opening.Opening.{Opening}
 use Rattle.farm_entry.specs.declared.order_page.OrderLine.{OrderLine}
@@ -68,6 +68,7 @@ no_opening (Founded s) h = refl
 no_opening (Opened o) h = absurd h
 no_opening (Leased k w r q t p d) h = absurd h
 no_opening (Reported r v _) h = absurd h
+no_opening (Skipped r _) h = absurd h
 no_opening (Cancelled k q) h = absurd h
 no_opening (Ordered k a n c q d) h = absurd h
 
@@ -76,6 +77,7 @@ no_lease (Founded s) h = refl
 no_lease (Opened o) h = absurd h
 no_lease (Leased k w r q t p d) h = absurd h
 no_lease (Reported r v _) h = absurd h
+no_lease (Skipped r _) h = absurd h
 no_lease (Cancelled k q) h = absurd h
 no_lease (Ordered k a n c q d) h = absurd h
 
@@ -84,14 +86,34 @@ no_report (Founded s) h = refl
 no_report (Opened o) h = absurd h
 no_report (Leased k w r q t p d) h = absurd h
 no_report (Reported r v _) h = absurd h
+no_report (Skipped r _) h = absurd h
 no_report (Cancelled k q) h = absurd h
 no_report (Ordered k a n c q d) h = absurd h
+
+pub no_skip : (w : What) → IsFounding w → skip_in w ≡ None
+no_skip (Founded s) h = refl
+no_skip (Opened o) h = absurd h
+no_skip (Leased k w r q t p d) h = absurd h
+no_skip (Reported r v _) h = absurd h
+no_skip (Skipped r _) h = absurd h
+no_skip (Cancelled k q) h = absurd h
+no_skip (Ordered k a n c q d) h = absurd h
+
+pub no_told : (w : What) → IsFounding w → told_in w ≡ None
+no_told (Founded s) h = refl
+no_told (Opened o) h = absurd h
+no_told (Leased k w r q t p d) h = absurd h
+no_told (Reported r v _) h = absurd h
+no_told (Skipped r _) h = absurd h
+no_told (Cancelled k q) h = absurd h
+no_told (Ordered k a n c q d) h = absurd h
 
 pub no_order : (w : What) → IsFounding w → order_in w ≡ None
 no_order (Founded s) h = refl
 no_order (Opened o) h = absurd h
 no_order (Leased k w r q t p d) h = absurd h
 no_order (Reported r v _) h = absurd h
+no_order (Skipped r _) h = absurd h
 no_order (Cancelled k q) h = absurd h
 no_order (Ordered k a n c q d) h = absurd h
 

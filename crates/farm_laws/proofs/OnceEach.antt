@@ -1,21 +1,18 @@
--- What stands once in each legal history: a key, and the report of a run.
+-- What stands once in each legal history: a key, and the report of a run, with a verdict or not.
 use Rattle.std.proofs.Common.{◌≡◌, ◌≢◌, ℕ, false, List, [], Option, Some, None, All, AllPairs, sym, ap, subst}
 use Rattle.std.proofs.lemmas.Bool.{eqb-false}
 use Rattle.std.proofs.lemmas.List.Elements.{All-nil}
 use Rattle.farm_types.specs.declared.key.Key.{Key}
-use Rattle.farm_types.specs.declared.moment.Moment.{Moment}
 use Rattle.farm_types.proofs.FirstIndex.{fails-from_none}
-use Rattle.farm_entry.specs.History.{has_key, is_key, is_of_run, is_report_of, key_in, place_of_key, place_of_report, report_in, reports}
+use Rattle.farm_entry.specs.History.{has_key, is_key, is_of_run, is_report_of, key_in, place_of_key, place_of_report, report_in, reports, told_in, told_runs}
 use Rattle.farm_laws.specs.Laws.{keys}
 use Rattle.farm_entry.specs.Legal.{IsLegal}
 use Rattle.farm_entry.specs.declared.entry.Entry.{Entry}
-use Rattle.farm_entry.specs.declared.entry.What.{What}
-use Rattle.farm_entry.specs.declared.entry.What.TheVariants.{Founded, Opened, Leased, Reported, Cancelled, Ordered}
 use Rattle.farm_entry.specs.declared.lease.ReportedRun.{ReportedRun}
-use Rattle.farm_entry.proofs.Growing.{parts-grow, reports-grow}
+use Rattle.farm_entry.proofs.Growing.{parts-grow, reports-grow, told_runs-grow}
+use Rattle.farm_laws.proofs.EntryParts.{report-told, reported-facts, told-facts}
 use Rattle.farm_laws.proofs.Induct.{each_legal}
 use Rattle.farm_laws.proofs.Pairs.{All-parts, AllPairs-more, AllPairs-nil}
-use Rattle.farm_laws.proofs.Stepped.{KindFacts}
 
 -- Keys.
 
@@ -42,27 +39,30 @@ keys-once =
 -- Reports.
 
 -- a run that an entry doesn't report isn't the one that it reports
-other_run : (run : ℕ) (part : Option ReportedRun) (r : ReportedRun) → is_of_run run part ≡ false → part ≡ Some r → r.run ≢ run
-other_run run part r differs holds =
-    eqb-false r.run run (subst (λ (o : Option ReportedRun). is_of_run run o ≡ false) holds differs)
+other_run : (run : ℕ) (part : Option ℕ) (told : ℕ) → is_of_run run part ≡ false → part ≡ Some told → told ≢ run
+other_run run part told differs holds =
+    eqb-false told run (subst (λ (o : Option ℕ). is_of_run run o ≡ false) holds differs)
 
 -- a run with no report differs from each reported one
+told-differ : (H : List Entry) (run : ℕ) → place_of_report H run ≡ None → All (λ (told : ℕ). told ≢ run) (told_runs H)
+told-differ H run none =
+    All-parts (λ (e : Entry). told_in e.what) (λ (told : ℕ). told ≢ run) H
+    (λ k d below told holds. other_run run _ told (fails-from_none (is_report_of run) H d none k below) holds)
+
+-- of those with a verdict too
 runs-differ : (H : List Entry) (run : ℕ) → place_of_report H run ≡ None → All (λ (r : ReportedRun). r.run ≢ run) (reports H)
 runs-differ H run none =
     All-parts (λ (e : Entry). report_in e.what) (λ (r : ReportedRun). r.run ≢ run) H
-    (λ k d below r holds. other_run run _ r (fails-from_none (is_report_of run) H d none k below) holds)
+    (λ k d below r holds. other_run run _ r.run (fails-from_none (is_report_of run) H d none k below) (report-told _ r holds))
 
--- an entry that reports a run comes where it had no report
-pub first_report : (H : List Entry) (m : Moment) (what : What) (r : ReportedRun) → KindFacts H m what → report_in what ≡ Some r → place_of_report H r.run ≡ None
-first_report H m (Founded settings) r facts holds = cc
-first_report H m (Opened o) r facts holds = cc
-first_report H m (Leased key worker run search stage position deadline) r facts holds = cc
-first_report H m (Reported run verdict fate) r facts holds =
-    let reported : ReportedRun = record { run = run; verdict = verdict; fate = fate } in
-    let same : reported ≡ r = cc in
-    subst (λ (x : ReportedRun). place_of_report H x.run ≡ None) same facts.first
-first_report H m (Cancelled key search) r facts holds = cc
-first_report H m (Ordered key agent order commit search day) r facts holds = cc
+pub told-once : (H : List Entry) → IsLegal H → AllPairs (λ (a b : ℕ). a ≢ b) (told_runs H)
+told-once =
+    let R : ℕ → ℕ → Type 0 = λ a b. a ≢ b in
+    each_legal (λ (H : List Entry). AllPairs R (told_runs H))
+    (λ e founding. AllPairs-more R [] (told_in e.what) (AllPairs-nil R) (λ y holds. All-nil (λ (x : ℕ). R x y)))
+    (λ H e legal once step. subst (λ (rs : List ℕ). AllPairs R rs) (sym (told_runs-grow H e))
+    (AllPairs-more R (told_runs H) (told_in e.what) once
+    (λ run holds. told-differ H run (told-facts H e.at e.what run holds step).first)))
 
 pub reports-once : (H : List Entry) → IsLegal H → AllPairs (λ (a b : ReportedRun). a.run ≢ b.run) (reports H)
 reports-once =
@@ -70,4 +70,5 @@ reports-once =
     each_legal (λ (H : List Entry). AllPairs R (reports H))
     (λ e founding. AllPairs-more R [] (report_in e.what) (AllPairs-nil R) (λ y holds. All-nil (λ (x : ReportedRun). R x y)))
     (λ H e legal once step. subst (λ (rs : List ReportedRun). AllPairs R rs) (sym (reports-grow H e))
-    (AllPairs-more R (reports H) (report_in e.what) once (λ r holds. runs-differ H r.run (first_report H e.at e.what r step.facts holds))))
+    (AllPairs-more R (reports H) (report_in e.what) once
+    (λ r holds. runs-differ H r.run (reported-facts H e.at e.what r holds step).first)))

@@ -4,10 +4,9 @@ use Rattle.std.specs.List.{cons_option, list_any}
 use Rattle.std.proofs.lemmas.List.Elements.{filter-append}
 use Rattle.farm_types.specs.declared.stage.Stage.{Stage}
 use Rattle.farm_entry.specs.Due.{is_open, open_leases}
-use Rattle.farm_entry.specs.History.{is_reported, lease_in, leases, report_in, same_stage}
+use Rattle.farm_entry.specs.History.{is_reported, lease_in, leases, same_stage, told_in}
 use Rattle.farm_entry.specs.declared.entry.Entry.{Entry}
 use Rattle.farm_entry.specs.declared.lease.LeasedRun.{LeasedRun}
-use Rattle.farm_entry.specs.declared.lease.ReportedRun.{ReportedRun}
 use Rattle.farm_laws.proofs.Counts.{IsCounted, count_by-append, counted_cases, filter-fewer}
 use Rattle.farm_laws.proofs.Filters.{is_reported-grow, leases-grow}
 
@@ -35,7 +34,7 @@ before_deadline moment later deadline before going =
 pub out-before : (H : List Entry) (e : Entry) (stage : Stage) (moment later : ℕ) (l : LeasedRun) → moment ≤ later →
     is_out (H ++ e ∷ []) stage later l ≡ true → is_out H stage moment l ≡ true
 out-before H e stage moment later l before out =
-    let new : Bool = list_any (λ (r : ReportedRun). r.run == l.run) (cons_option (report_in e.what) []) in
+    let new : Bool = list_any (λ (told : ℕ). told == l.run) (cons_option (told_in e.what) []) in
     still_open (same_stage l.stage stage) (is_reported H l.run) new (nat_lt later l.deadline) (nat_lt moment l.deadline)
     (before_deadline moment later l.deadline before)
     (ap (λ (b : Bool). same_stage l.stage stage && (not b && nat_lt later l.deadline)) (sym (is_reported-grow H e l.run)) ∙ out)

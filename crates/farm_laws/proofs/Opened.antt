@@ -12,7 +12,7 @@ use Rattle.farm_entry.specs.History.{all_leases, counted, counted_run, is_counte
 use Rattle.farm_entry.specs.Legal.{IsLegal}
 use Rattle.farm_entry.specs.declared.entry.Entry.{Entry}
 use Rattle.farm_entry.specs.declared.entry.What.{What}
-use Rattle.farm_entry.specs.declared.entry.What.TheVariants.{Founded, Opened, Leased, Reported, Cancelled, Ordered}
+use Rattle.farm_entry.specs.declared.entry.What.TheVariants.{Founded, Opened, Leased, Reported, Skipped, Cancelled, Ordered}
 use Rattle.farm_entry.specs.declared.lease.LeasedRun.{LeasedRun}
 use Rattle.farm_entry.specs.declared.lease.ReportedRun.{ReportedRun}
 use Rattle.farm_entry.specs.declared.opening.Opening.{Opening}
@@ -116,6 +116,7 @@ no-report-opened (Opened x) o h = refl
 no-report-opened (Founded x) o h = refl
 no-report-opened (Leased k w r q t p d) o h = refl
 no-report-opened (Reported r v _) o h = absurd (none-some o h)
+no-report-opened (Skipped r _) o h = absurd (none-some o h)
 no-report-opened (Cancelled k q) o h = refl
 no-report-opened (Ordered k a n c q d) o h = refl
 

@@ -18,7 +18,7 @@ use Rattle.farm_entry.specs.Legal.{IsFounding, IsLegal}
 use Rattle.farm_entry.specs.Orders.{confirmed_searches, day_in, ordered, orders}
 use Rattle.farm_entry.specs.declared.entry.Entry.{Entry}
 use Rattle.farm_entry.specs.declared.entry.What.{What}
-use Rattle.farm_entry.specs.declared.entry.What.TheVariants.{Founded, Opened, Leased, Reported, Cancelled, Ordered}
+use Rattle.farm_entry.specs.declared.entry.What.TheVariants.{Founded, Opened, Leased, Reported, Skipped, Cancelled, Ordered}
 use Rattle.farm_entry.specs.declared.order_page.OrderLine.{OrderLine}
 use Rattle.farm_entry.proofs.Growing.{order_lines-grow}
 use Rattle.farm_laws.proofs.Induct.{each_legal}
@@ -36,6 +36,7 @@ has_room H m (Founded settings) line facts holds = absurd facts
 has_room H m (Opened o) line facts holds = absurd (cc)
 has_room H m (Leased key worker run search stage position deadline) line facts holds = absurd (cc)
 has_room H m (Reported run verdict _) line facts holds = absurd (cc)
+has_room H m (Skipped run _) line facts holds = absurd (cc)
 has_room H m (Cancelled key search) line facts holds = absurd (cc)
 has_room H m (Ordered key agent order commit search day) line facts holds =
     let made : OrderLine = record { order = order; agent = agent; commit = commit; search = search; day = day } in
@@ -100,6 +101,7 @@ none-founded day limit (Founded settings) founding = omega arith
 none-founded day limit (Opened o) founding = absurd founding
 none-founded day limit (Leased key worker run search stage position deadline) founding = absurd founding
 none-founded day limit (Reported run verdict _) founding = absurd founding
+none-founded day limit (Skipped run _) founding = absurd founding
 none-founded day limit (Cancelled key search) founding = absurd founding
 none-founded day limit (Ordered key agent order commit search d) founding = absurd founding
 

@@ -8,7 +8,7 @@ use Rattle.farm_rules.specs.declared.orders.NoOrder.TheVariants as none
 use Rattle.farm_types.specs.Moment.{moment_ms}
 use Rattle.farm_types.specs.declared.key.Key.{Key}
 use Rattle.farm_types.specs.declared.moment.Moment.{Moment}
-use Rattle.farm_entry.specs.Decision.{add_at, add_opening, decide, cancel_decision, full_decision, known_decision, last_moment, later, lease_decision, moment_used, or_else, own_decision, page_decision, refuse_opening, repeat_or_clash, report_decision, revert_decision, shape_decision}
+use Rattle.farm_entry.specs.Decision.{add_at, add_opening, decide, cancel_decision, full_decision, known_decision, last_moment, later, lease_decision, moment_used, or_else, own_decision, page_decision, refuse_opening, repeat_or_clash, report_decision, revert_decision, shape_decision, skip_decision}
 use Rattle.farm_entry.specs.Ask.{opening_of}
 use Rattle.farm_entry.specs.History.{openings, place_of_key}
 use Rattle.farm_entry.specs.Legal.{IsAddedBy, IsNext, ask_of, command_of}
@@ -84,6 +84,11 @@ report-says : (H : List Entry) (run : ℕ) (verdict : Verdict) (m : Moment) (l :
     report_decision H run verdict m l ≡ New e → Says (command.Report run verdict) m e
 report-says H run verdict m None e h = absurd (refused-adds _ e h)
 report-says H run verdict m (Some l) e h = says (command.Report run verdict) m _ e refl h
+
+skip-says : (H : List Entry) (run : ℕ) (m : Moment) (l : Option LeasedRun) (e : Entry) →
+    skip_decision H run m l ≡ New e → Says (command.Skip run) m e
+skip-says H run m None e h = absurd (refused-adds _ e h)
+skip-says H run m (Some l) e h = says (command.Skip run) m _ e refl h
 
 active-says : (key : Key) (search : ℕ) (m : Moment) (b : Bool) (other : Decision) (e : Entry) → (other ≡ New e → ⊥) →
     (if b then add_at m (Cancelled key search) else other) ≡ New e → Says (command.Cancel key search) m e
@@ -168,6 +173,10 @@ recorded H (command.Lease key worker) m e h =
 recorded H (command.Report run verdict) m e h =
     let q = command.Report run verdict in
     let s = report-says H run verdict (moment_used H m) _ e (passed H q m e h).own in
+    next-as H q (moment_used H m) e s (added-again H q m e h)
+recorded H (command.Skip run) m e h =
+    let q = command.Skip run in
+    let s = skip-says H run (moment_used H m) _ e (passed H q m e h).own in
     next-as H q (moment_used H m) e s (added-again H q m e h)
 recorded H (command.Cancel key search) m e h =
     let q = command.Cancel key search in

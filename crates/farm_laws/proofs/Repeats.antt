@@ -15,7 +15,7 @@ use Rattle.farm_types.specs.declared.moment.Moment.{Moment}
 use Rattle.farm_types.proofs.FirstIndex.{fails-from_none, position-first}
 use Rattle.farm_entry.specs.Decision.{decide, asked_before, asks_for, full_decision, keyed_decision, known_decision, makes_opening, moment_used, or_else, own_decision, refuse_opening, repeat_or_clash, shape_decision}
 use Rattle.farm_entry.specs.Ask.{opening_of}
-use Rattle.farm_entry.specs.History.{has_key, is_key, is_of_run, is_report_of, key_in, opening_in, openings, place_of_key, place_of_report, report_in}
+use Rattle.farm_entry.specs.History.{has_key, is_key, is_of_run, is_report_of, key_in, opening_in, openings, place_of_key, place_of_report, told_in}
 use Rattle.farm_entry.specs.Legal.{IsFounding, IsLegal, ask_of, command_of}
 use Rattle.farm_entry.specs.declared.decision.Decision.{Decision}
 use Rattle.farm_entry.specs.declared.decision.Decision.TheVariants.{Refuse, Repeat}
@@ -23,16 +23,14 @@ use Rattle.farm_entry.specs.declared.command.Command.{Command}
 use Rattle.farm_entry.specs.declared.command.Command.TheVariants as command
 use Rattle.farm_entry.specs.declared.entry.Entry.{Entry}
 use Rattle.farm_entry.specs.declared.entry.What.{What}
-use Rattle.farm_entry.specs.declared.entry.What.TheVariants.{Founded, Opened, Leased, Reported, Cancelled, Ordered}
-use Rattle.farm_entry.specs.declared.lease.ReportedRun.{ReportedRun}
+use Rattle.farm_entry.specs.declared.entry.What.TheVariants.{Founded, Opened, Leased, Reported, Skipped, Cancelled, Ordered}
 use Rattle.farm_entry.specs.declared.opening.Opening.{Opening}
 use Rattle.farm_entry.specs.declared.refusal.Refusal.TheVariants.{KeyClash}
 use Rattle.farm_laws.proofs.Again.{made_again}
-use Rattle.farm_laws.proofs.EntryParts.{opened-facts}
+use Rattle.farm_laws.proofs.EntryParts.{opened-facts, told-facts}
 use Rattle.farm_laws.proofs.Induct.{each_legal}
 use Rattle.farm_laws.proofs.Made.{is_made}
-use Rattle.farm_laws.proofs.Numbered.{no_opening, no_report}
-use Rattle.farm_laws.proofs.OnceEach.{first_report}
+use Rattle.farm_laws.proofs.Numbered.{no_opening, no_told}
 use Rattle.farm_laws.proofs.Replies.{slice_get-first, slice_get-last}
 use Rattle.farm_laws.proofs.SameEntries.{same_opening-Decides}
 use Rattle.farm_laws.proofs.Stepped.{Stepped}
@@ -68,7 +66,7 @@ same_text text = (bytes_eq-Decides text text).1 refl
 -- an entry is found by its key or by its run, and an opening is what it asks for
 pub record Placed (H : List Entry) (place : ℕ) (what : What) : Type 0 where
   pub by_key : (key : Key) → key_in what ≡ Some key → place_of_key H key ≡ Some place
-  pub by_run : (r : ReportedRun) → report_in what ≡ Some r → place_of_report H r.run ≡ Some place
+  pub by_run : (run : ℕ) → told_in what ≡ Some run → place_of_report H run ≡ Some place
   pub made : (o : Opening) → opening_in what ≡ Some o → opening_of (ask_of o) o.search ≡ Ok o
 
 pub no_key : (w : What) → IsFounding w → key_in w ≡ None
@@ -76,6 +74,7 @@ no_key (Founded s) h = refl
 no_key (Opened o) h = absurd h
 no_key (Leased k w r q t p d) h = absurd h
 no_key (Reported r v _) h = absurd h
+no_key (Skipped r _) h = absurd h
 no_key (Cancelled k q) h = absurd h
 no_key (Ordered k a n c q d) h = absurd h
 
@@ -86,14 +85,14 @@ differ o x none some = none-some x (sym none ∙ some)
 Placed-founded : (H : List Entry) (place : ℕ) (w : What) → IsFounding w → Placed H place w
 Placed-founded H place w founding = record {
   by_key = λ key is. absurd (differ (key_in w) key (no_key w founding) is);
-  by_run = λ r is. absurd (differ (report_in w) r (no_report w founding) is);
+  by_run = λ run is. absurd (differ (told_in w) run (no_told w founding) is);
   made = λ o is. absurd (differ (opening_in w) o (no_opening w founding) is);
 }
 
 Placed-stays : (H : List Entry) (e : Entry) (place : ℕ) (w : What) → Placed H place w → Placed (H ++ e ∷ []) place w
 Placed-stays H e place w p = record {
   by_key = λ key is. position-stays (has_key key) H (e ∷ []) place e (p.by_key key is);
-  by_run = λ r is. position-stays (is_report_of r.run) H (e ∷ []) place e (p.by_run r is);
+  by_run = λ run is. position-stays (is_report_of run) H (e ∷ []) place e (p.by_run run is);
   made = p.made;
 }
 
@@ -101,8 +100,8 @@ Placed-new : (H : List Entry) (e : Entry) → Stepped H e.at e.what → Placed (
 Placed-new H e s = record {
   by_key = λ key is.
       position-new (has_key key) H e (s.fresh key is) (ap (is_key key) is ∙ same_number key.0);
-  by_run = λ r is.
-      position-new (is_report_of r.run) H e (first_report H e.at e.what r s.facts is) (ap (is_of_run r.run) is ∙ same_number r.run);
+  by_run = λ run is.
+      position-new (is_report_of run) H e (told-facts H e.at e.what run is s).first (ap (is_of_run run) is ∙ same_number run);
   made = λ o is.
       let facts = opened-facts H e.at e.what o is s in
       subst (λ (n : ℕ). opening_of (ask_of o) n ≡ Ok o) (is_made (ask_of o) (length (openings H) + 1) o facts.made).number facts.made;
@@ -170,13 +169,17 @@ named-known H place at (Leased key worker run search stage position deadline) q 
       shape = refl;
       known = keyed-known H lease_it key place _ (p.by_key key refl) there (same_text worker);
     })
-named-known H place at (Reported run verdict fate) q p there is =
+named-known H place at (Reported run verdict _) q p there is =
     let report_it : Command = command.Report run verdict in
     let same : report_it ≡ q = cc in
     subst (Known H place) same (record {
       shape = refl;
-      known = ap (option_map Repeat) (p.by_run (record { run = run; verdict = verdict; fate = fate }) refl);
+      known = ap (option_map Repeat) (p.by_run run refl);
     })
+named-known H place at (Skipped run _) q p there is =
+    let skip_it : Command = command.Skip run in
+    let same : skip_it ≡ q = cc in
+    subst (Known H place) same (record { shape = refl; known = ap (option_map Repeat) (p.by_run run refl) })
 named-known H place at (Cancelled key search) q p there is =
     let cancel_it : Command = command.Cancel key search in
     let same : cancel_it ≡ q = cc in

@@ -8,12 +8,15 @@ use Rattle.farm_types.specs.Moment.{moment_ms}
 use Rattle.farm_types.specs.declared.moment.Moment.{Moment}
 use Rattle.farm_entry.specs.History.{all_leases, lease_of, opening_numbered, settings_in, settings_of}
 use Rattle.farm_entry.specs.Legal.{IsFounding, IsLegal}
-use Rattle.farm_entry.specs.Reply.{reply_at, reply_to, reply_to_report}
+use Rattle.farm_entry.specs.Reply.{reply_at, reply_to, reply_to_report, reply_to_skip}
+use Rattle.farm_entry.specs.Standing.{standing}
 use Rattle.farm_entry.specs.declared.entry.Entry.{Entry}
 use Rattle.farm_entry.specs.declared.entry.What.{What}
-use Rattle.farm_entry.specs.declared.entry.What.TheVariants.{Founded, Opened, Leased, Reported, Cancelled, Ordered}
+use Rattle.farm_entry.specs.declared.entry.What.TheVariants.{Founded, Opened, Leased, Reported, Skipped, Cancelled, Ordered}
 use Rattle.farm_entry.specs.declared.lease.LeasedRun.{LeasedRun}
+use Rattle.farm_entry.specs.declared.opening.Opening.{Opening}
 use Rattle.farm_entry.specs.declared.reply.Reply.{Reply}
+use Rattle.farm_entry.specs.declared.reply.Reply.TheVariants as reply
 use Rattle.farm_entry.specs.declared.settings.Settings.{Settings}
 use Rattle.farm_laws.specs.Openings.{HasOpening}
 use Rattle.farm_laws.proofs.Filters.{lease_of-stays, opening_numbered-stays}
@@ -52,6 +55,14 @@ IsReplied o = (r : Reply) × (o ≡ Some r)
 replied : {X : Type 0} (make : X → Reply) (o : Option X) (x : X) → o ≡ Some x → IsReplied (option_map make o)
 replied make o x h = (make x, ap (option_map make) h)
 
+-- what is made of the search of a run that was handed out is there
+reply-of_lease : (H : List Entry) (e : Entry) (run : ℕ) (l : LeasedRun) (make : Opening → Reply) → IsLegal H → lease_of H run ≡ Some l →
+    IsReplied (option_map make (opening_numbered (H ++ e ∷ []) l.search))
+reply-of_lease H e run l make legal known =
+    let there = lease-there H run l known in
+    let opened = All-contains (λ (x : LeasedRun). HasOpening H x.search) (all_leases H) l (leases-known H legal) there.0 in
+    replied make (opening_numbered (H ++ e ∷ []) l.search) opened.0 (opening_numbered-stays H e l.search opened.0 opened.1)
+
 -- the reply to an entry that may come next
 reply-new : (H : List Entry) (e : Entry) (m : Moment) (what : What) → IsLegal H → KindFacts H m what → IsReplied (reply_to (H ++ e ∷ []) what)
 reply-new H e m (Founded settings) legal facts = absurd facts
@@ -63,11 +74,12 @@ reply-new H e m (Leased key worker run search stage position deadline) legal fac
     replied _ (opening_numbered (H ++ e ∷ []) search) o (opening_numbered-stays H e search o found)
 reply-new H e m (Reported run verdict fate) legal facts =
     let l = facts.lease in
-    let there = lease-there H run l facts.known in
-    let opened = All-contains (λ (x : LeasedRun). HasOpening H x.search) (all_leases H) l (leases-known H legal) there.0 in
-    let lease : lease_of (H ++ e ∷ []) run ≡ Some l = lease_of-stays H e run l facts.known in
-    let of_lease = replied _ (opening_numbered (H ++ e ∷ []) l.search) opened.0 (opening_numbered-stays H e l.search opened.0 opened.1) in
-    (of_lease.0, ap (option_and_then (reply_to_report (H ++ e ∷ []) verdict fate)) lease ∙ of_lease.1)
+    let of_lease = reply-of_lease H e run l (λ o. reply.Reported l.run l.search verdict fate (standing (H ++ e ∷ []) o)) legal facts.known in
+    (of_lease.0, ap (option_and_then (reply_to_report (H ++ e ∷ []) verdict fate)) (lease_of-stays H e run l facts.known) ∙ of_lease.1)
+reply-new H e m (Skipped run fate) legal facts =
+    let l = facts.lease in
+    let of_lease = reply-of_lease H e run l (λ o. reply.Skipped l.run l.search fate (standing (H ++ e ∷ []) o)) legal facts.known in
+    (of_lease.0, ap (option_and_then (reply_to_skip (H ++ e ∷ []) fate)) (lease_of-stays H e run l facts.known) ∙ of_lease.1)
 reply-new H e m (Cancelled key search) legal facts = (_, refl)
 reply-new H e m (Ordered key agent order commit search day) legal facts = (_, refl)
 
@@ -103,6 +115,7 @@ founded-with (Founded settings) founding = (settings, refl)
 founded-with (Opened o) founding = absurd founding
 founded-with (Leased key worker run search stage position deadline) founding = absurd founding
 founded-with (Reported run verdict _) founding = absurd founding
+founded-with (Skipped run _) founding = absurd founding
 founded-with (Cancelled key search) founding = absurd founding
 founded-with (Ordered key agent order commit search day) founding = absurd founding
 

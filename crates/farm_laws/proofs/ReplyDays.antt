@@ -10,10 +10,10 @@ use Rattle.farm_types.specs.declared.key.Key.{Key}
 use Rattle.farm_types.specs.declared.moment.Moment.{Moment}
 use Rattle.farm_types.specs.declared.moment.TheConstants.{LAST_DAY}
 use Rattle.weight_exact.specs.declared.run.Verdict.{Verdict}
-use Rattle.farm_entry.specs.Decision.{add_at, add_opening, asked_before, cancel_decision, decide, full_decision, keyed_decision, known_decision, lease_decision, moment_used, or_else, own_decision, page_decision, refuse_opening, repeat_or_clash, report_decision, revert_decision, shape_decision}
+use Rattle.farm_entry.specs.Decision.{add_at, add_opening, asked_before, cancel_decision, decide, full_decision, keyed_decision, known_decision, lease_decision, moment_used, or_else, own_decision, page_decision, refuse_opening, repeat_or_clash, report_decision, revert_decision, shape_decision, skip_decision}
 use Rattle.farm_entry.specs.History.{lease_of, opening_numbered, order_in, order_lines, place_of_key, place_of_report}
 use Rattle.farm_entry.specs.Legal.{IsLegal}
-use Rattle.farm_entry.specs.Reply.{reply_at, reply_to, reply_to_report}
+use Rattle.farm_entry.specs.Reply.{reply_at, reply_to, reply_to_report, reply_to_skip}
 use Rattle.farm_entry.specs.Setup.{budget_of_search}
 use Rattle.farm_entry.specs.Standing.{is_active, standing}
 use Rattle.farm_entry.specs.declared.command.Command.{Command}
@@ -22,7 +22,7 @@ use Rattle.farm_entry.specs.declared.decision.Decision.{Decision}
 use Rattle.farm_entry.specs.declared.decision.Decision.TheVariants.{Refuse, Repeat, Show}
 use Rattle.farm_entry.specs.declared.entry.Entry.{Entry}
 use Rattle.farm_entry.specs.declared.entry.What.{What}
-use Rattle.farm_entry.specs.declared.entry.What.TheVariants.{Founded, Opened, Leased, Reported, Cancelled, Ordered}
+use Rattle.farm_entry.specs.declared.entry.What.TheVariants.{Founded, Opened, Leased, Reported, Skipped, Cancelled, Ordered}
 use Rattle.farm_entry.specs.declared.lease.DueRun.{DueRun}
 use Rattle.farm_entry.specs.declared.lease.LeasedRun.{LeasedRun}
 use Rattle.farm_entry.specs.declared.opening.Opening.{Opening}
@@ -50,11 +50,10 @@ mapped-days : {X : Type 0} (make : X → Reply) → ((x : X) → HasDays (make x
 mapped-days make dates None r is = absurd (none-some r is)
 mapped-days make dates (Some x) r is = let same : make x ≡ r = cc in subst HasDays same (dates x)
 
-reported-days : (H : List Entry) (verdict : Verdict) (l : Option LeasedRun) (r : Reply)
-    (make : LeasedRun → Option Reply)
+reported-days : (l : Option LeasedRun) (r : Reply) (make : LeasedRun → Option Reply)
     → ((l : LeasedRun) → make l ≡ Some r → HasDays r) → option_and_then make l ≡ Some r → HasDays r
-reported-days H verdict None r make dates is = absurd (none-some r is)
-reported-days H verdict (Some l) r make dates is = dates l is
+reported-days None r make dates is = absurd (none-some r is)
+reported-days (Some l) r make dates is = dates l is
 
 replied-days : (H : List Entry) (w : What) (r : Reply) → OrderInRange w → reply_to H w ≡ Some r → HasDays r
 replied-days H (Founded settings) r few is = absurd (none-some r is)
@@ -63,7 +62,10 @@ replied-days H (Opened o) r few is = let same : reply.Opened o.search (budget_of
 replied-days H (Leased key worker run search stage position deadline) r few is =
     mapped-days _ (λ o. tt) (opening_numbered H search) r is
 replied-days H (Reported run verdict fate) r few is =
-    reported-days H verdict (lease_of H run) r (reply_to_report H verdict fate)
+    reported-days (lease_of H run) r (reply_to_report H verdict fate)
+    (λ l said. mapped-days _ (λ o. tt) (opening_numbered H l.search) r said) is
+replied-days H (Skipped run fate) r few is =
+    reported-days (lease_of H run) r (reply_to_skip H fate)
     (λ l said. mapped-days _ (λ o. tt) (opening_numbered H l.search) r said) is
 replied-days H (Cancelled key search) r few is = let same : reply.Cancelled search ≡ r = cc in subst HasDays same tt
 replied-days H (Ordered key agent order commit search day) r few is =
@@ -108,6 +110,10 @@ report-days : (H : List Entry) (run : ℕ) (verdict : Verdict) (m : Moment) (l :
 report-days H run verdict m None = tt
 report-days H run verdict m (Some l) = tt
 
+skip-days : (H : List Entry) (run : ℕ) (m : Moment) (l : Option LeasedRun) → ShowsDays (skip_decision H run m l)
+skip-days H run m None = tt
+skip-days H run m (Some l) = tt
+
 cancel-days : (H : List Entry) (key : Key) (search : ℕ) (m : Moment) (o : Option Opening) →
     ShowsDays (cancel_decision H key search m o)
 cancel-days H key search m None = tt
@@ -128,6 +134,7 @@ own-days : (H : List Entry) (q : Command) (m : Moment) → IsLegal H → ShowsDa
 own-days H (command.Open ask) m legal = either-days _ (Refuse TooManySearches) (add_opening m _) tt (opening-days m _)
 own-days H (command.Lease key worker) m legal = lease-days H key worker m _
 own-days H (command.Report run verdict) m legal = report-days H run verdict m _
+own-days H (command.Skip run) m legal = skip-days H run m _
 own-days H (command.Cancel key search) m legal = cancel-days H key search m _
 own-days H (command.TakeRevert key agent) m legal = revert-days key agent m _
 own-days H (command.ShowSearch search) m legal = page-days H search _
@@ -143,6 +150,7 @@ shape-days : (q : Command) → ShowsDaysIn (shape_decision q)
 shape-days (command.Open ask) = refused-days _
 shape-days (command.Lease key worker) = tt
 shape-days (command.Report run verdict) = tt
+shape-days (command.Skip run) = tt
 shape-days (command.Cancel key search) = tt
 shape-days (command.TakeRevert key agent) = tt
 shape-days (command.ShowSearch search) = tt
@@ -164,6 +172,7 @@ known-days : (H : List Entry) (q : Command) → ShowsDaysIn (known_decision H q)
 known-days H (command.Open ask) = keyed-days H (command.Open ask) (Some ask.key)
 known-days H (command.Lease key worker) = keyed-days H (command.Lease key worker) (Some key)
 known-days H (command.Report run verdict) = placed-days Repeat (λ place. tt) (place_of_report H run)
+known-days H (command.Skip run) = placed-days Repeat (λ place. tt) (place_of_report H run)
 known-days H (command.Cancel key search) = keyed-days H (command.Cancel key search) (Some key)
 known-days H (command.TakeRevert key agent) = keyed-days H (command.TakeRevert key agent) (Some key)
 known-days H (command.ShowSearch search) = keyed-days H (command.ShowSearch search) None

@@ -1,4 +1,5 @@
--- How the runs of an opened search, its reruns, its end and its cancellation change with an entry appended.
+-- How the runs of an opened search, its reruns, its skipped positions, its end and its cancellation change with an entry
+-- appended.
 use Rattle.std.proofs.Common.{◌≡◌, ◌⊎◌, inl, inr, ℕ, ◌≤◌, ◌==◌, Bool, true, false, ◌&&◌, ◌||◌, nat_lt, if◌then◌else◌, List, [], ◌∷◌, ◌++◌, Contains, Option, Some, None, refl, sym, ap, subst, ◌∙◌, arith, append-nil, true≢false, ⊎_elim}
 use Rattle.std.specs.List.{cons_option, filter_map, list_any}
 use Rattle.std.specs.Option.{option_and_then}
@@ -10,21 +11,23 @@ use Rattle.farm_rules.specs.Reruns.{reruns_at}
 use Rattle.weight_exact.specs.Load.{load}
 use Rattle.weight_exact.specs.declared.run.Run.{Run}
 use Rattle.weight_exact.specs.declared.run.Verdict.{Verdict}
-use Rattle.farm_entry.specs.Decision.{fate_at, fate_of, is_past_budget, run_with}
-use Rattle.farm_entry.specs.History.{cancelled_in, counted, counted_run, is_counted, is_of_search, is_over, lease_of, opening_numbered, openings, report_in, reruns, run_of, runs, same_stage, was_cancelled, went_over}
+use Rattle.farm_entry.specs.Decision.{fate_at, fate_of, is_past_budget, run_with, skip_fate_at, skip_fate_of}
+use Rattle.farm_entry.specs.History.{cancelled_in, counted, counted_run, is_counted, is_of_search, is_over, is_taken, lease_of, opening_numbered, openings, position_for, report_in, reruns, run_of, runs, same_stage, skip_in, skipped, skipped_position, was_cancelled, went_over}
 use Rattle.farm_entry.specs.Legal.{IsLegal}
 use Rattle.farm_entry.specs.Setup.{budget_of_search, setup_of}
 use Rattle.farm_entry.specs.Standing.{is_active, is_searching, is_verifying, standing}
 use Rattle.farm_entry.specs.declared.entry.Entry.{Entry}
 use Rattle.farm_entry.specs.declared.entry.Fate.TheVariants.{Counted, Late, Over}
+use Rattle.farm_entry.specs.declared.entry.SkipFate.{SkipFate}
 use Rattle.farm_entry.specs.declared.lease.LeasedRun.{LeasedRun}
 use Rattle.farm_entry.specs.declared.lease.ReportedRun.{ReportedRun}
+use Rattle.farm_entry.specs.declared.lease.SkippedRun.{SkippedRun}
 use Rattle.farm_entry.specs.declared.opening.Opening.{Opening}
 use Rattle.farm_entry.specs.declared.standing.Standing.{Standing}
 use Rattle.farm_entry.specs.declared.standing.Standing.TheVariants.{Searching, Verifying, Confirmed, Vindicated, NoCulprit, Inconclusive, Cancelled}
-use Rattle.farm_laws.proofs.EntryParts.{cancelled-facts, reported-facts}
-use Rattle.farm_laws.proofs.Filters.{counted-grow, lease_of-stays, was_cancelled-grow, went_over-grow}
-use Rattle.farm_laws.proofs.Known.{reports-known}
+use Rattle.farm_laws.proofs.EntryParts.{cancelled-facts, reported-facts, skipped-facts}
+use Rattle.farm_laws.proofs.Filters.{counted-grow, lease_of-stays, skipped-grow, was_cancelled-grow, went_over-grow}
+use Rattle.farm_laws.proofs.Known.{reports-known, skips-known}
 use Rattle.farm_laws.proofs.Numbered.{lease-there, opening-found}
 use Rattle.farm_laws.proofs.Stepped.{Stepped}
 
@@ -268,3 +271,86 @@ pub cancel-step : (H : List Entry) (e : Entry) (o : Opening) → IsLegal H → C
     (was_cancelled (H ++ e ∷ []) o.search ≡ was_cancelled H o.search) ⊎ (is_active (standing H o) ≡ true)
 cancel-step H e o legal there s =
     cancel-step_by H e o legal there s (cancelled_in e.what) refl (was_cancelled-grow H e o.search)
+
+-- The skipped positions stay, or one is added while the search goes on at the run's stage.
+
+-- a skip is taken only in a search that goes on
+taken-active : (st : Standing) (l : LeasedRun) → is_taken (skip_fate_at st l) ≡ true → is_active st ≡ true
+taken-active Searching l h = refl
+taken-active (Verifying c) l h = refl
+taken-active (Confirmed c) l h = false-true h
+taken-active (Vindicated c) l h = false-true h
+taken-active NoCulprit l h = false-true h
+taken-active Inconclusive l h = false-true h
+taken-active Cancelled l h = false-true h
+
+pub skip_fate-here : (H : List Entry) (o : Opening) (l : LeasedRun) → IsLegal H → Contains (openings H) o → l.search ≡ o.search →
+    skip_fate_of H l (opening_numbered H l.search) ≡ skip_fate_at (standing H o) l
+skip_fate-here H o l legal there same =
+    ap (skip_fate_of H l) (ap (opening_numbered H) same ∙ opening-found H o legal there)
+
+-- a position that appending an entry adds to the skipped ones of a search
+pub record NewSkip (H : List Entry) (e : Entry) (o : Opening) : Type 0 where
+  pub lease : LeasedRun
+  pub fate : SkipFate
+  pub told : skip_in e.what ≡ Some (record { run = lease.run; fate = fate })
+  pub known : lease_of H lease.run ≡ Some lease
+  pub of_search : lease.search ≡ o.search
+  pub taken : is_taken (skip_fate_at (standing H o) lease) ≡ true
+  pub active : is_active (standing H o) ≡ true
+  pub grown : skipped (H ++ e ∷ []) o.search ≡ skipped H o.search ++ lease.position ∷ []
+
+-- the position of a skip by its parts
+abbrev pub chosen_position : (taken here : Bool) → ℕ → Option ℕ
+chosen_position taken here k = if taken then (if here then Some k else None) else None
+
+pub skipped_position-is : (H : List Entry) (s : ℕ) (r : SkippedRun) (l : LeasedRun) → lease_of H r.run ≡ Some l →
+    skipped_position H s r ≡ chosen_position (is_taken r.fate) (l.search == s) l.position
+skipped_position-is H s r l known =
+    ap (λ (x : Option LeasedRun). if is_taken r.fate then option_and_then (position_for s) x else None) known
+
+-- what a skip adds: nothing, or its position where it is taken and of the search
+added-position : (taken here : Bool) (k : ℕ) → (cons_option (chosen_position taken here k) [] ≡ [])
+    ⊎ ((taken ≡ true) × (here ≡ true) × (cons_option (chosen_position taken here k) [] ≡ k ∷ []))
+added-position true true k = inr (refl, refl, refl)
+added-position true false k = inl refl
+added-position false here k = inl refl
+
+skip-step_by : (H : List Entry) (e : Entry) (o : Opening) → IsLegal H → Contains (openings H) o → Stepped H e.at e.what →
+    (told : Option SkippedRun) → skip_in e.what ≡ told →
+    skipped (H ++ e ∷ []) o.search
+    ≡ skipped H o.search ++ filter_map (skipped_position (H ++ e ∷ []) o.search) (cons_option told []) →
+    (skipped (H ++ e ∷ []) o.search ≡ skipped H o.search) ⊎ NewSkip H e o
+skip-step_by H e o legal there s None is grown = inl (grown ∙ append-nil (skipped H o.search))
+skip-step_by H e o legal there s (Some r) is grown =
+    let facts = skipped-facts H e.at e.what r is s in
+    let l = facts.lease in
+    let number : l.run ≡ r.run = (lease-there H r.run l facts.known).1 in
+    let here : Bool = l.search == o.search in
+    let chosen : skipped_position (H ++ e ∷ []) o.search r ≡ chosen_position (is_taken r.fate) here l.position =
+    skipped_position-is (H ++ e ∷ []) o.search r l (lease_of-stays H e r.run l facts.known) in
+    let added : skipped (H ++ e ∷ []) o.search ≡ skipped H o.search ++ cons_option (chosen_position (is_taken r.fate) here l.position) [] =
+    grown ∙ ap (λ (x : Option ℕ). skipped H o.search ++ cons_option x []) chosen in
+    ⊎_elim
+    (λ (none : cons_option (chosen_position (is_taken r.fate) here l.position) [] ≡ []).
+    inl (added ∙ ap (λ (x : List ℕ). skipped H o.search ++ x) none ∙ append-nil (skipped H o.search)))
+    (λ (one : (is_taken r.fate ≡ true) × (here ≡ true) × (cons_option (chosen_position (is_taken r.fate) here l.position) [] ≡ l.position ∷ [])).
+    let same : l.search ≡ o.search = same-number l.search o.search one.1 in
+    let taken : is_taken (skip_fate_at (standing H o) l) ≡ true =
+    ap is_taken (sym (facts.ruled ∙ skip_fate-here H o l legal there same)) ∙ one.0 in
+    inr (record {
+      lease = l;
+      fate = r.fate;
+      told = is ∙ ap (λ (n : ℕ). Some (record { run = n; fate = r.fate })) (sym number);
+      known = ap (lease_of H) number ∙ facts.known;
+      of_search = same;
+      taken = taken;
+      active = taken-active (standing H o) l taken;
+      grown = added ∙ ap (λ (x : List ℕ). skipped H o.search ++ x) one.2;
+    }))
+    (added-position (is_taken r.fate) here l.position)
+
+pub skip-step : (H : List Entry) (e : Entry) (o : Opening) → IsLegal H → Contains (openings H) o → Stepped H e.at e.what →
+    (skipped (H ++ e ∷ []) o.search ≡ skipped H o.search) ⊎ NewSkip H e o
+skip-step H e o legal there s =
+    skip-step_by H e o legal there s (skip_in e.what) refl (skipped-grow H e o.search (skips-known H legal))

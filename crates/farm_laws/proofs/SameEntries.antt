@@ -11,11 +11,13 @@ use Rattle.weight_exact.specs.declared.run.Verdict.{Verdict}
 use Rattle.weight_exact.specs.contracts.run.VerdictPartialEq.TheImpl as verdict_eq
 use Rattle.farm_entry.specs.declared.entry.Entry.{Entry}
 use Rattle.farm_entry.specs.declared.entry.Fate.{Fate}
+use Rattle.farm_entry.specs.declared.entry.SkipFate.{SkipFate}
 use Rattle.farm_entry.specs.declared.entry.What.{What}
-use Rattle.farm_entry.specs.declared.entry.What.TheVariants.{Founded, Opened, Leased, Reported, Cancelled, Ordered}
+use Rattle.farm_entry.specs.declared.entry.What.TheVariants.{Founded, Opened, Leased, Reported, Skipped, Cancelled, Ordered}
 use Rattle.farm_entry.specs.declared.opening.Opening.{Opening}
 use Rattle.farm_entry.specs.contracts.entry.EntryPartialEq.TheImpl as entry_eq
 use Rattle.farm_entry.specs.contracts.entry.FatePartialEq.TheImpl as fate_eq
+use Rattle.farm_entry.specs.contracts.entry.SkipFatePartialEq.TheImpl as skip_eq
 use Rattle.farm_entry.specs.contracts.entry.WhatPartialEq.TheImpl as what_eq
 use Rattle.farm_entry.specs.contracts.opening.OpeningPartialEq.TheImpl as opening_eq
 use Rattle.farm_laws.proofs.SameValues.{same_bar-Decides, same_miss-Decides, same_moment-Decides, same_rate-Decides, same_settings-Decides}
@@ -31,6 +33,9 @@ same_verdict-Decides a b = search rules
 
 same_fate-Decides : (a b : Fate) → Decides (fate_eq.ghosts.eq a b) (a ≡ b)
 same_fate-Decides a b = search rules
+
+same_skip-Decides : (a b : SkipFate) → Decides (skip_eq.ghosts.eq a b) (a ≡ b)
+same_skip-Decides a b = search rules
 
 pub same_opening-Decides : (a b : Opening) → Decides (opening_eq.ghosts.eq a b) (a ≡ b)
 same_opening-Decides a b =
@@ -69,6 +74,8 @@ same_what-Decides (Leased k w r s t p d) (Leased k' w' r' s' t' p' d') =
 same_what-Decides (Reported r v f) (Reported r' v' f') =
     Decides-like _ (λ same. cc) (λ e. (cc, (cc, cc)))
     (Decides-and _ _ (Decides-eqb r r') (Decides-and _ _ (same_verdict-Decides v v') (same_fate-Decides f f')))
+same_what-Decides (Skipped r f) (Skipped r' f') =
+    Decides-like _ (λ same. cc) (λ e. (cc, cc)) (Decides-and _ _ (Decides-eqb r r') (same_skip-Decides f f'))
 same_what-Decides (Cancelled k s) (Cancelled k' s') =
     Decides-like _ (λ same. cc) (λ e. (cc, cc)) (Decides-and _ _ (same_key-Decides k k') (Decides-eqb s s'))
 same_what-Decides (Ordered k w o c s d) (Ordered k' w' o' c' s' d') =

@@ -1,20 +1,21 @@
 -- What a standing says of the runs behind it.
 use Rattle.std.proofs.Common.{◌≡◌, ℕ, zero, suc, ◌*◌, ◌-◌, ◌<◌, ◌≤◌, ◌==◌, Bool, true, false, not, ◌&&◌, if◌then◌else◌, List, Option, Some, None, refl, sym, ap, subst, ◌∙◌, arith, true≢false, ⊎_elim, mul-le-mul_right}
 use Rattle.std.specs.Option.{is_none}
-use Rattle.std.proofs.lemmas.Bool.{cases_Bool, cases_lt}
+use Rattle.std.proofs.lemmas.Bool.{and_parts, cases_Bool, cases_lt}
 use Rattle.std.proofs.lemmas.Bool.Decides.{nat_tests}
 use Rattle.std.proofs.lemmas.Option.{none-some}
 use Rattle.farm_rules.specs.Reruns.{Outcome, confirmed, outcome, verifying, vindicating}
+use Rattle.open_positions.specs.Blocks.{is_hidden}
 use Rattle.weight_exact.specs.Load.{floor}
 use Rattle.weight_exact.specs.Share.{reached}
 use Rattle.weight_exact.specs.Weights.{Setup, hypotheses, sum_to, suspects, total, weight}
 use Rattle.weight_exact.specs.declared.run.Run.{Run}
 use Rattle.weight_exact.proofs.Floors.{weight-floor}
 use Rattle.weight_exact.proofs.Shares.{unreached-from_none, IsReached-from_some}
-use Rattle.farm_entry.specs.History.{reruns, runs, was_cancelled, went_over}
+use Rattle.farm_entry.specs.History.{reruns, runs, skipped, was_cancelled, went_over}
 use Rattle.farm_laws.specs.Laws.{culprit_of}
 use Rattle.farm_entry.specs.Setup.{setup_of}
-use Rattle.farm_entry.specs.Standing.{is_active, is_searching, is_verifying, at_bar, standing, standing_of_outcome, standing_of_reached}
+use Rattle.farm_entry.specs.Standing.{is_active, is_searching, is_verifying, at_bar, lacks, standing, standing_of_hidden, standing_of_outcome, standing_of_reached}
 use Rattle.farm_entry.specs.declared.entry.Entry.{Entry}
 use Rattle.farm_entry.specs.declared.opening.Opening.{Opening}
 use Rattle.farm_entry.specs.declared.standing.Standing.{Standing}
@@ -50,31 +51,46 @@ inactive-verifying NoCulprit h = refl
 inactive-verifying Inconclusive h = refl
 inactive-verifying Cancelled h = refl
 
--- a search is searching where it was not cancelled, did not go over its budget, and no hypothesis is named
-outcome-not_searching : (c : ℕ) (x : Outcome) → is_searching (standing_of_outcome c x) ≡ false
-outcome-not_searching c verifying = refl
-outcome-not_searching c confirmed = refl
-outcome-not_searching c vindicating = refl
+-- A search is searching where it was not cancelled, did not go over its budget, no hypothesis is at the bar, and no
+-- hypotheses that skipped positions alone part are at the bar together.
 
-at_bar-not_searching : (o : Opening) (again : List Run) (i : ℕ) (b : Bool) →
-    is_searching (if b then NoCulprit else standing_of_outcome i (outcome i o.reruns again)) ≡ false
-at_bar-not_searching o again i true = refl
-at_bar-not_searching o again i false = outcome-not_searching i (outcome i o.reruns again)
+outcome-not_searching : (c : ℕ) (lacking : Bool) (x : Outcome) → is_searching (standing_of_outcome c lacking x) ≡ false
+outcome-not_searching c true verifying = refl
+outcome-not_searching c false verifying = refl
+outcome-not_searching c lacking confirmed = refl
+outcome-not_searching c lacking vindicating = refl
 
-reached-searching : (o : Opening) (again : List Run) (n : Option ℕ) → is_searching (standing_of_reached o again n) ≡ is_none n
-reached-searching o again None = refl
-reached-searching o again (Some i) = at_bar-not_searching o again i (i == hypotheses (setup_of o))
+at_bar-not_searching : (i : ℕ) (lacking : Bool) (x : Outcome) (b : Bool) →
+    is_searching (if b then NoCulprit else standing_of_outcome i lacking x) ≡ false
+at_bar-not_searching i lacking x true = refl
+at_bar-not_searching i lacking x false = outcome-not_searching i lacking x
 
-from-searching : (o : Opening) (cancelled over : Bool) (again : List Run) (n : Option ℕ) →
-    is_searching (if cancelled then Cancelled else (if over then Inconclusive else standing_of_reached o again n))
-    ≡ (not cancelled && (not over && is_none n))
-from-searching o true over again n = refl
-from-searching o false true again n = refl
-from-searching o false false again n = reached-searching o again n
+hidden-searching : (hidden : Bool) → is_searching (standing_of_hidden hidden) ≡ not hidden
+hidden-searching true = refl
+hidden-searching false = refl
+
+reached-searching : (o : Opening) (past : List Run) (skips : List ℕ) (again : List Run) (n : Option ℕ) →
+    is_searching (standing_of_reached o past skips again n) ≡ (is_none n && not (is_hidden (setup_of o) past skips))
+reached-searching o past skips again None = hidden-searching (is_hidden (setup_of o) past skips)
+reached-searching o past skips again (Some i) =
+    at_bar-not_searching i (lacks i o.reruns skips again) (outcome i o.reruns again) (i == hypotheses (setup_of o))
+
+from-searching : (o : Opening) (cancelled over : Bool) (past : List Run) (skips : List ℕ) (again : List Run) (n : Option ℕ) →
+    is_searching (if cancelled then Cancelled else (if over then Inconclusive else standing_of_reached o past skips again n))
+    ≡ (not cancelled && (not over && (is_none n && not (is_hidden (setup_of o) past skips))))
+from-searching o true over past skips again n = refl
+from-searching o false true past skips again n = refl
+from-searching o false false past skips again n = reached-searching o past skips again n
+
+-- whether no hypothesis is at the bar, and none are together that can't be told apart any more
+abbrev pub is_undecided : List Entry → Opening → Bool
+is_undecided H o = is_none (at_bar H o) && not (is_hidden (setup_of o) (runs H o.search) (skipped H o.search))
 
 pub is_searching-parts : (H : List Entry) (o : Opening) →
-    is_searching (standing H o) ≡ (not (was_cancelled H o.search) && (not (went_over H o.search) && is_none (at_bar H o)))
-is_searching-parts H o = from-searching o (was_cancelled H o.search) (went_over H o.search) (reruns H o.search) (at_bar H o)
+    is_searching (standing H o) ≡ (not (was_cancelled H o.search) && (not (went_over H o.search) && is_undecided H o))
+is_searching-parts H o =
+    from-searching o (was_cancelled H o.search) (went_over H o.search) (runs H o.search) (skipped H o.search)
+    (reruns H o.search) (at_bar H o)
 
 none-of : (n : Option ℕ) → is_none n ≡ true → n ≡ None
 none-of None h = refl
@@ -87,7 +103,8 @@ all-three false b c h = absurd (true≢false (sym h))
 
 -- a search that is searching names none
 pub searching-at_bar : (H : List Entry) (o : Opening) → is_searching (standing H o) ≡ true → at_bar H o ≡ None
-searching-at_bar H o h = none-of (at_bar H o) (all-three _ _ _ (sym (is_searching-parts H o) ∙ h))
+searching-at_bar H o h =
+    none-of (at_bar H o) (and_parts (is_none (at_bar H o)) _ (all-three _ _ _ (sym (is_searching-parts H o) ∙ h))).0
 
 -- a search that names some hypothesis isn't searching
 pub at_bar-searching : (H : List Entry) (o : Opening) (c : ℕ) → at_bar H o ≡ Some c → is_searching (standing H o) ≡ false
@@ -98,30 +115,36 @@ at_bar-searching H o c h =
 
 -- the suspect that a standing names is named, and no "no culprit"
 
-outcome-culprit : (i c : ℕ) (x : Outcome) → culprit_of (standing_of_outcome i x) ≡ Some c → i ≡ c
-outcome-culprit i c verifying h = cc
-outcome-culprit i c confirmed h = cc
-outcome-culprit i c vindicating h = cc
+outcome-culprit : (i c : ℕ) (lacking : Bool) (x : Outcome) → culprit_of (standing_of_outcome i lacking x) ≡ Some c → i ≡ c
+outcome-culprit i c true verifying h = absurd (none-some c h)
+outcome-culprit i c false verifying h = cc
+outcome-culprit i c lacking confirmed h = cc
+outcome-culprit i c lacking vindicating h = cc
 
-if-culprit : (o : Opening) (again : List Run) (i c : ℕ) (b : Bool) → i == hypotheses (setup_of o) ≡ b →
-    culprit_of (if b then NoCulprit else standing_of_outcome i (outcome i o.reruns again)) ≡ Some c →
-    (i ≡ c) × (i == hypotheses (setup_of o) ≡ false)
-if-culprit o again i c true e h = absurd (none-some c h)
-if-culprit o again i c false e h = (outcome-culprit i c (outcome i o.reruns again) h, e)
+if-culprit : (n i c : ℕ) (lacking : Bool) (x : Outcome) (b : Bool) → i == n ≡ b →
+    culprit_of (if b then NoCulprit else standing_of_outcome i lacking x) ≡ Some c →
+    (i ≡ c) × (i == n ≡ false)
+if-culprit n i c lacking x true e h = absurd (none-some c h)
+if-culprit n i c lacking x false e h = (outcome-culprit i c lacking x h, e)
 
-reached-culprit : (o : Opening) (again : List Run) (n : Option ℕ) (c : ℕ) → culprit_of (standing_of_reached o again n) ≡ Some c →
-    (n ≡ Some c) × (c == hypotheses (setup_of o) ≡ false)
-reached-culprit o again None c h = absurd (none-some c h)
-reached-culprit o again (Some i) c h =
-    let both = if-culprit o again i c (i == hypotheses (setup_of o)) refl h in
+hidden-culprit : (hidden : Bool) (c : ℕ) → culprit_of (standing_of_hidden hidden) ≡ Some c → ⊥
+hidden-culprit true c h = none-some c h
+hidden-culprit false c h = none-some c h
+
+reached-culprit : (o : Opening) (past : List Run) (skips : List ℕ) (again : List Run) (n : Option ℕ) (c : ℕ) →
+    culprit_of (standing_of_reached o past skips again n) ≡ Some c → (n ≡ Some c) × (c == hypotheses (setup_of o) ≡ false)
+reached-culprit o past skips again None c h = absurd (hidden-culprit (is_hidden (setup_of o) past skips) c h)
+reached-culprit o past skips again (Some i) c h =
+    let both =
+    if-culprit (hypotheses (setup_of o)) i c (lacks i o.reruns skips again) (outcome i o.reruns again) (i == hypotheses (setup_of o)) refl h in
     (ap Some both.0, subst (λ (x : ℕ). x == hypotheses (setup_of o) ≡ false) both.0 both.1)
 
-from-culprit : (o : Opening) (cancelled over : Bool) (again : List Run) (n : Option ℕ) (c : ℕ) →
-    culprit_of (if cancelled then Cancelled else (if over then Inconclusive else standing_of_reached o again n)) ≡ Some c →
+from-culprit : (o : Opening) (cancelled over : Bool) (past : List Run) (skips : List ℕ) (again : List Run) (n : Option ℕ) (c : ℕ) →
+    culprit_of (if cancelled then Cancelled else (if over then Inconclusive else standing_of_reached o past skips again n)) ≡ Some c →
     (n ≡ Some c) × (c == hypotheses (setup_of o) ≡ false)
-from-culprit o true over again n c h = absurd (none-some c h)
-from-culprit o false true again n c h = absurd (none-some c h)
-from-culprit o false false again n c h = reached-culprit o again n c h
+from-culprit o true over past skips again n c h = absurd (none-some c h)
+from-culprit o false true past skips again n c h = absurd (none-some c h)
+from-culprit o false false past skips again n c h = reached-culprit o past skips again n c h
 
 between : (c n : ℕ) → c == n ≡ false → 1 ≤ c → c ≤ n → (1 ≤ c) × (c ≤ n - 1)
 between c n other low high = (low, grind (arith, nat_tests))
@@ -129,7 +152,9 @@ between c n other low high = (low, grind (arith, nat_tests))
 pub culprit-at_bar : (H : List Entry) (o : Opening) (c : ℕ) → culprit_of (standing H o) ≡ Some c →
     (at_bar H o ≡ Some c) × (1 ≤ c) × (c ≤ suspects (setup_of o))
 culprit-at_bar H o c h =
-    let both = from-culprit o (was_cancelled H o.search) (went_over H o.search) (reruns H o.search) (at_bar H o) c h in
+    let both =
+    from-culprit o (was_cancelled H o.search) (went_over H o.search) (runs H o.search) (skipped H o.search)
+    (reruns H o.search) (at_bar H o) c h in
     let at = IsReached-from_some (setup_of o) (runs H o.search) c both.0 in
     let within = between c (hypotheses (setup_of o)) both.1 at.first at.last in
     (both.0, within.0, within.1)

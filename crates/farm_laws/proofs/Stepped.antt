@@ -13,7 +13,7 @@ use Rattle.farm_types.specs.declared.commit_id.CommitId.{CommitId}
 use Rattle.farm_types.specs.declared.key.Key.{Key}
 use Rattle.farm_types.specs.declared.moment.Moment.{Moment}
 use Rattle.farm_rules.proofs.Drafts.{next_draft-ok}
-use Rattle.farm_entry.specs.Decision.{add_at, add_opening, decide, asked_before, fate_of, full_decision, is_show, keyed_decision, known_decision, lease_decision, moment_used, or_else, own_decision, refuse_opening, repeat_or_clash, report_decision, cancel_decision, revert_decision, shape_decision}
+use Rattle.farm_entry.specs.Decision.{add_at, add_opening, decide, asked_before, fate_of, full_decision, is_show, keyed_decision, known_decision, lease_decision, moment_used, or_else, own_decision, refuse_opening, repeat_or_clash, report_decision, cancel_decision, revert_decision, shape_decision, skip_decision, skip_fate_of}
 use Rattle.farm_entry.specs.Ask.{opening_of}
 use Rattle.farm_entry.specs.Due.{next_run}
 use Rattle.farm_entry.specs.History.{all_leases, daily_limit, key_in, lease_ms, lease_of, opening_numbered, openings, order_lines, place_of_key, place_of_report}
@@ -28,8 +28,9 @@ use Rattle.farm_entry.specs.declared.lease.LeasedRun.{LeasedRun}
 use Rattle.farm_entry.specs.declared.command.Command.TheVariants as command
 use Rattle.farm_entry.specs.declared.entry.Entry.{Entry}
 use Rattle.farm_entry.specs.declared.entry.Fate.{Fate}
+use Rattle.farm_entry.specs.declared.entry.SkipFate.{SkipFate}
 use Rattle.farm_entry.specs.declared.entry.What.{What}
-use Rattle.farm_entry.specs.declared.entry.What.TheVariants.{Founded, Opened, Leased, Reported, Cancelled, Ordered}
+use Rattle.farm_entry.specs.declared.entry.What.TheVariants.{Founded, Opened, Leased, Reported, Skipped, Cancelled, Ordered}
 use Rattle.farm_entry.specs.declared.limits.TheConstants.{MAX_ENTRIES, MAX_SEARCHES}
 use Rattle.farm_entry.specs.declared.opening.Opening.{Opening}
 use Rattle.farm_entry.specs.declared.refusal.OpenFault.{OpenFault}
@@ -56,6 +57,19 @@ pub record ReportedNext (H : List Entry) (run : ℕ) (verdict : Verdict) (fate :
   pub first : place_of_report H run ≡ None
   pub ruled : fate ≡ fate_of H lease verdict (opening_numbered H lease.search)
 
+-- a run was reported as one whose tree can't be tested: it was handed out, had no report, and its fate is by the rule
+pub record SkippedNext (H : List Entry) (run : ℕ) (fate : SkipFate) : Type 0 where
+  pub lease : LeasedRun
+  pub known : lease_of H run ≡ Some lease
+  pub first : place_of_report H run ≡ None
+  pub ruled : fate ≡ skip_fate_of H lease (opening_numbered H lease.search)
+
+-- what both kinds of report have: the run was handed out, and had no report
+pub record ToldNext (H : List Entry) (run : ℕ) : Type 0 where
+  pub lease : LeasedRun
+  pub known : lease_of H run ≡ Some lease
+  pub first : place_of_report H run ≡ None
+
 -- a search was cancelled: one that went on
 pub record CancelledNext (H : List Entry) (search : ℕ) : Type 0 where
   pub opening : Opening
@@ -74,6 +88,7 @@ KindFacts H m (Opened o) = OpenedNext H o
 KindFacts H m (Leased key worker run search stage position deadline) =
     LeasedNext H m (record { run = run; search = search; stage = stage; position = position; deadline = deadline })
 KindFacts H m (Reported run verdict fate) = ReportedNext H run verdict fate
+KindFacts H m (Skipped run fate) = SkippedNext H run fate
 KindFacts H m (Cancelled key search) = CancelledNext H search
 KindFacts H m (Ordered key agent order commit search day) = OrderedNext H m order commit search day
 
@@ -124,6 +139,7 @@ keyed-adds H q (Some key) = map-adds (repeat_or_clash H q) (repeat_or_clash-adds
 
 known-adds : (H : List Entry) (q : Command) → adds (known_decision H q) ≡ false
 known-adds H (command.Report run verdict) = map-adds Repeat (λ p. refl) (place_of_report H run)
+known-adds H (command.Skip run) = map-adds Repeat (λ p. refl) (place_of_report H run)
 known-adds H (command.Open ask) = keyed-adds H (command.Open ask) (Some ask.key)
 known-adds H (command.Lease key worker) = keyed-adds H (command.Lease key worker) (Some key)
 known-adds H (command.Cancel key s) = keyed-adds H (command.Cancel key s) (Some key)
@@ -216,6 +232,14 @@ from_report H run verdict M m f (Some l) e first h =
     let what : Reported run verdict (fate_of H l verdict (opening_numbered H l.search)) ≡ Reported run verdict f = same-what _ _ h in
     (record { lease = l; known = e; first = first; ruled = cc }, same-at _ _ h)
 
+from_skip : (H : List Entry) (run : ℕ) (M m : Moment) (f : SkipFate) (l : Option LeasedRun) → lease_of H run ≡ l →
+    place_of_report H run ≡ None →
+    skip_decision H run M l ≡ New (record { at = m; what = Skipped run f }) → SkippedNext H run f × (M ≡ m)
+from_skip H run M m f None e first h = absurd (refused-adds _ _ h)
+from_skip H run M m f (Some l) e first h =
+    let what : Skipped run (skip_fate_of H l (opening_numbered H l.search)) ≡ Skipped run f = same-what _ _ h in
+    (record { lease = l; known = e; first = first; ruled = cc }, same-at _ _ h)
+
 from_active : (H : List Entry) (key : Key) (s : ℕ) (M m : Moment) (o : Opening) (b : Bool) →
     (if b then add_at M (Cancelled key s) else Refuse (SearchEnded (standing H o))) ≡ New (record { at = m; what = Cancelled key s }) →
     (b ≡ true) × (M ≡ m)
@@ -285,6 +309,11 @@ stepped_as H m (Reported run verdict f) h =
     let p = passed H (command.Report run verdict) m _ h in
     let first : place_of_report H run ≡ None = map-none Repeat (place_of_report H run) p.known in
     let own = from_report H run verdict (moment_used H m) m f (lease_of H run) refl first p.own in
+    record { at = own.1; room = room_of H p.full; fresh = λ k e. absurd (none-some k e); facts = own.0 }
+stepped_as H m (Skipped run f) h =
+    let p = passed H (command.Skip run) m _ h in
+    let first : place_of_report H run ≡ None = map-none Repeat (place_of_report H run) p.known in
+    let own = from_skip H run (moment_used H m) m f (lease_of H run) refl first p.own in
     record { at = own.1; room = room_of H p.full; fresh = λ k e. absurd (none-some k e); facts = own.0 }
 stepped_as H m (Cancelled key s) h =
     let p = passed H (command.Cancel key s) m _ h in

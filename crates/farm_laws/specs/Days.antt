@@ -10,6 +10,7 @@ abbrev pub HasDays : Reply → Type 0
 HasDays (reply.Opened search budget standing) = ⊤
 HasDays (reply.Leased run search stage position commit test deadline) = ⊤
 HasDays (reply.Reported run search verdict outcome standing) = ⊤
+HasDays (reply.Skipped run search outcome standing) = ⊤
 HasDays (reply.Cancelled search) = ⊤
 HasDays (reply.Ordered order commit search day) = day ≤ LAST_DAY
 HasDays (reply.Search page) = ⊤

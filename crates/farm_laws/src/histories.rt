@@ -4,7 +4,7 @@ ghost use Rattle.std.specs.Prelude.{◌≡◌, ◌≢◌, ◌↔◌, ℕ, ◌≤
 ghost use Rattle.std.specs.List.{range_with_len};
 ghost use Rattle.farm_rules.specs.Orders.{orders_of};
 ghost use Rattle.farm_types.specs.Moment.{moment_ms};
-ghost use Rattle.farm_entry.specs.History.{all_leases, daily_limit, lease_of, openings, order_lines, reports};
+ghost use Rattle.farm_entry.specs.History.{all_leases, daily_limit, lease_of, openings, order_lines, reports, told_runs};
 ghost use Rattle.farm_laws.specs.Laws.{keys};
 ghost use Rattle.farm_entry.specs.Legal.{IsLegal, IsNext};
 ghost use Rattle.farm_entry.specs.Orders.{orders};
@@ -23,11 +23,15 @@ pub fn each_key_stands_once()
     ensures { (H : List Entry) → IsLegal H → AllPairs (λ a b. a ≢ b) (keys H) }
 {}
 
-/// Each run has at most one report, and each reported run was handed out.
+/// Each run has at most one report, with a verdict or as one whose tree can't be tested, and each reported run was
+/// handed out.
 pub fn each_run_is_reported_once()
     ensures once { (H : List Entry) → IsLegal H → AllPairs (λ (a b : ReportedRun). a.run ≢ b.run) (reports H) }
     ensures handed_out { (H : List Entry) → IsLegal H
         → All (λ (r : ReportedRun). (l : LeasedRun) × (lease_of H r.run ≡ Some l)) (reports H) }
+    ensures told_once { (H : List Entry) → IsLegal H → AllPairs (λ (a b : ℕ). a ≢ b) (told_runs H) }
+    ensures told_of_handed_out { (H : List Entry) → IsLegal H
+        → All (λ (run : ℕ). (l : LeasedRun) × (lease_of H run ≡ Some l)) (told_runs H) }
 {}
 
 /// Moments never fall from entry to entry.

@@ -8,7 +8,7 @@ ghost use Rattle.weight_exact.specs.Load.{floor, load};
 ghost use Rattle.weight_exact.specs.Share.{IsReached};
 ghost use Rattle.weight_exact.specs.Weights.{AreInRange, suspects};
 ghost use Rattle.farm_entry.specs.Due.{open_leases, outstanding};
-ghost use Rattle.farm_entry.specs.History.{all_leases, leases, opening_numbered, openings, reruns, runs};
+ghost use Rattle.farm_entry.specs.History.{all_leases, leases, opening_numbered, openings, reruns, runs, skipped};
 ghost use Rattle.farm_laws.specs.Laws.{IsNotBefore, culprit_of};
 ghost use Rattle.farm_laws.specs.Loads.{LoadsFit};
 ghost use Rattle.farm_entry.specs.Legal.{IsLegal};
@@ -77,7 +77,8 @@ pub fn ends_are_final()
         → standing H o ≡ NoCulprit → standing (H ++ K) o ≡ NoCulprit }
     ensures any_end { (H K : List Entry) (o : Opening) → IsLegal (H ++ K) → Contains (openings H) o
         → is_active (standing H o) ≡ false
-        → (standing (H ++ K) o ≡ standing H o) × (reruns (H ++ K) o.search ≡ reruns H o.search) }
+        → (standing (H ++ K) o ≡ standing H o) × (reruns (H ++ K) o.search ≡ reruns H o.search)
+        × (skipped (H ++ K) o.search ≡ skipped H o.search) }
 {}
 
 /// The counted runs of a search never ask more of its exact arithmetic than it has room for, and neither does any

@@ -11,21 +11,20 @@ use Rattle.farm_types.specs.declared.moment.Moment.{Moment}
 use Rattle.farm_rules.specs.Orders.{candidates, earliest, has_order}
 use Rattle.farm_rules.specs.Orders as rules
 use Rattle.farm_rules.specs.declared.orders.Candidate.{Candidate}
-use Rattle.farm_entry.specs.History.{cancelled_in, lease_in, lease_of, opening_in, opening_numbered, openings, report_in}
+use Rattle.farm_entry.specs.History.{cancelled_in, lease_in, lease_of, opening_in, opening_numbered, openings, told_in}
 use Rattle.farm_entry.specs.Legal.{IsLegal}
 use Rattle.farm_entry.specs.Orders.{confirmed_at, confirmed_searches, orders}
 use Rattle.farm_entry.specs.Setup.{commit_of}
 use Rattle.farm_entry.specs.Standing.{is_confirmed, standing}
 use Rattle.farm_entry.specs.declared.entry.Entry.{Entry}
 use Rattle.farm_entry.specs.declared.entry.What.{What}
-use Rattle.farm_entry.specs.declared.entry.What.TheVariants.{Founded, Opened, Leased, Reported, Cancelled, Ordered}
+use Rattle.farm_entry.specs.declared.entry.What.TheVariants.{Founded, Opened, Leased, Reported, Skipped, Cancelled, Ordered}
 use Rattle.farm_entry.specs.declared.lease.LeasedRun.{LeasedRun}
-use Rattle.farm_entry.specs.declared.lease.ReportedRun.{ReportedRun}
 use Rattle.farm_entry.specs.declared.opening.Opening.{Opening}
 use Rattle.farm_entry.specs.declared.standing.Standing.{Standing}
 use Rattle.farm_entry.specs.declared.standing.Standing.TheVariants as standings
 use Rattle.farm_entry.proofs.Growing.{openings-grow}
-use Rattle.farm_laws.proofs.EntryParts.{reported-facts}
+use Rattle.farm_laws.proofs.EntryParts.{told-facts}
 use Rattle.farm_laws.proofs.Filters.{lease_of-stays, opening_numbered-stays}
 use Rattle.farm_laws.proofs.Numbered.{number-at, opening-found, opening-there, openings-numbered}
 use Rattle.farm_laws.proofs.Stepped.{Stepped}
@@ -226,9 +225,9 @@ low_leased-low : (H : List Entry) (low : ℕ) (x : Option LeasedRun) → low_lea
 low_leased-low H low None = omega arith
 low_leased-low H low (Some l) = low_at-low low l.search (waiting_numbered H l.search)
 
-low_after-low : (H : List Entry) (low : ℕ) (x : Option ReportedRun) → low_after H low x ≤ low
+low_after-low : (H : List Entry) (low : ℕ) (x : Option ℕ) → low_after H low x ≤ low
 low_after-low H low None = omega arith
-low_after-low H low (Some r) = low_leased-low H low (lease_of H r.run)
+low_after-low H low (Some run) = low_leased-low H low (lease_of H run)
 
 -- the search of a report, where the number was lowered below it
 reported-low : (low number : ℕ) (x : Option Candidate) → 1 ≤ number → number ≤ low_at low number x → x ≡ None
@@ -236,11 +235,41 @@ reported-low low number None some small = refl
 reported-low low number (Some c) some small =
     absurd (omega (arith, some, small, min-le_right low (number - 1)))
 
+-- of an entry that reports a run, with a verdict or not
+told-waiting : (H : List Entry) (m : Moment) (w : What) (run low : ℕ) (o : Opening) → IsLegal H → Stepped H m w →
+    told_in w ≡ Some run → (IsAbout H w o.search → (l : LeasedRun) × (lease_of H run ≡ Some l) × (l.search ≡ o.search)) →
+    waiting H o ≡ None → 1 ≤ o.search →
+    waiting_numbered (H ++ record { at = m; what = w } ∷ []) o.search ≡ waiting (H ++ record { at = m; what = w } ∷ []) o →
+    o.search ≤ low_after (H ++ record { at = m; what = w } ∷ []) low (Some run) →
+    waiting (H ++ record { at = m; what = w } ∷ []) o ≡ None
+told-waiting H m w run low o legal step is of_run none some found small =
+    let e : Entry = record { at = m; what = w } in
+    let facts = told-facts H m w run is step in
+    let l : LeasedRun = facts.lease in
+    let known : lease_of (H ++ e ∷ []) run ≡ Some l = lease_of-stays H e run l facts.known in
+    ⊎_elim
+    (λ (same : l.search ≡ o.search).
+    let lowered : low_after (H ++ e ∷ []) low (Some run) ≡ low_at low o.search (waiting_numbered (H ++ e ∷ []) o.search) =
+    ap (low_leased (H ++ e ∷ []) low) known
+    ∙ ap (λ (n : ℕ). low_at low n (waiting_numbered (H ++ e ∷ []) n)) same in
+    sym found
+    ∙ reported-low low o.search (waiting_numbered (H ++ e ∷ []) o.search) some
+    (subst (λ (n : ℕ). o.search ≤ n) lowered small))
+    (λ (other : l.search ≡ o.search → ⊥).
+    quiet-waiting H e o legal step
+    (λ about.
+    let it = of_run about in
+    other (ap (λ (x : LeasedRun). x.search) (one-lease facts.known it.1) ∙ it.2)) none)
+    (cases_eq l.search o.search)
+  where
+    one-lease : {l k : LeasedRun} → lease_of H run ≡ Some l → lease_of H run ≡ Some k → l ≡ k
+    one-lease first second = let both : Some _ ≡ Some _ = sym first ∙ second in cc
+
 -- of each kind of entries
 kind-waiting : (H : List Entry) (m : Moment) (w : What) (low : ℕ) (o : Opening) → IsLegal H →
     Stepped H m w → Contains (openings H) o → waiting H o ≡ None → 1 ≤ o.search →
     waiting_numbered (H ++ record { at = m; what = w } ∷ []) o.search ≡ waiting (H ++ record { at = m; what = w } ∷ []) o →
-    o.search ≤ low_after (H ++ record { at = m; what = w } ∷ []) low (report_in w) →
+    o.search ≤ low_after (H ++ record { at = m; what = w } ∷ []) low (told_in w) →
     waiting (H ++ record { at = m; what = w } ∷ []) o ≡ None
 kind-waiting H m (Founded x) low o legal step there none some found small = quiet-waiting H _ o legal step (λ h. h) none
 kind-waiting H m (Opened x) low o legal step there none some found small = quiet-waiting H _ o legal step (λ h. h) none
@@ -254,32 +283,15 @@ kind-waiting H m (Cancelled k q) low o legal step there none some found small =
     (λ (other : q ≡ o.search → ⊥). quiet-waiting H _ o legal step other none)
     (cases_eq q o.search)
 kind-waiting H m (Reported run v f) low o legal step there none some found small =
-    let e : Entry = record { at = m; what = Reported run v f } in
-    let r : ReportedRun = record { run = run; verdict = v; fate = f } in
-    let facts = reported-facts H m (Reported run v f) r refl step in
-    let l : LeasedRun = facts.lease in
-    let known : lease_of (H ++ e ∷ []) run ≡ Some l = lease_of-stays H e run l facts.known in
-    ⊎_elim
-    (λ (same : l.search ≡ o.search).
-    let lowered : low_after (H ++ e ∷ []) low (Some r) ≡ low_at low o.search (waiting_numbered (H ++ e ∷ []) o.search) =
-    ap (low_leased (H ++ e ∷ []) low) known
-    ∙ ap (λ (n : ℕ). low_at low n (waiting_numbered (H ++ e ∷ []) n)) same in
-    sym found
-    ∙ reported-low low o.search (waiting_numbered (H ++ e ∷ []) o.search) some
-    (subst (λ (n : ℕ). o.search ≤ n) lowered small))
-    (λ (other : l.search ≡ o.search → ⊥).
-    quiet-waiting H e o legal step
-    (λ about. other (ap (λ (x : LeasedRun). x.search) (one-lease facts.known about.1) ∙ about.2)) none)
-    (cases_eq l.search o.search)
-  where
-    one-lease : {l k : LeasedRun} → lease_of H run ≡ Some l → lease_of H run ≡ Some k → l ≡ k
-    one-lease first second = let both : Some _ ≡ Some _ = sym first ∙ second in cc
+    told-waiting H m (Reported run v f) run low o legal step refl (λ about. about) none some found small
+kind-waiting H m (Skipped run f) low o legal step there none some found small =
+    told-waiting H m (Skipped run f) run low o legal step refl (λ about. about) none some found small
 
 pushed-number : (H : List Entry) (e : Entry) (low number : ℕ) → IsLegal H → IsLegal (H ++ e ∷ []) → Stepped H e.at e.what →
-    IsServed H low → 1 ≤ number → number ≤ low_after (H ++ e ∷ []) low (report_in e.what) →
+    IsServed H low → 1 ≤ number → number ≤ low_after (H ++ e ∷ []) low (told_in e.what) →
     waiting_numbered (H ++ e ∷ []) number ≡ None
 pushed-number H e low number legal longer step s some small =
-    let least : number ≤ low = omega (arith, small, low_after-low (H ++ e ∷ []) low (report_in e.what)) in
+    let least : number ≤ low = omega (arith, small, low_after-low (H ++ e ∷ []) low (told_in e.what)) in
     let it = opened-at H number legal some (omega (arith, least, s.within)) in
     let o : Opening = it.0 in
     let found = opening-there H number o it.1 in
@@ -290,16 +302,16 @@ pushed-number H e low number legal longer step s some small =
     after
     ∙ kind-waiting H e.at e.what low o legal step found.0 before (subst (λ (n : ℕ). 1 ≤ n) same some)
     (subst (λ (n : ℕ). waiting_numbered (H ++ e ∷ []) n ≡ waiting (H ++ e ∷ []) o) same after)
-    (subst (λ (n : ℕ). n ≤ low_after (H ++ e ∷ []) low (report_in e.what)) same small)
+    (subst (λ (n : ℕ). n ≤ low_after (H ++ e ∷ []) low (told_in e.what)) same small)
 
 pub pushed-served : (H : List Entry) (e : Entry) (low : ℕ) → IsLegal H → IsLegal (H ++ e ∷ []) → Stepped H e.at e.what →
-    IsServed H low → IsServed (H ++ e ∷ []) (low_after (H ++ e ∷ []) low (report_in e.what))
+    IsServed H low → IsServed (H ++ e ∷ []) (low_after (H ++ e ∷ []) low (told_in e.what))
 pushed-served H e low legal longer step s =
     let added = cons_option (opening_in e.what) [] in
     let more : length (openings (H ++ e ∷ [])) ≡ length (openings H) + length added =
     ap length (openings-grow H e) ∙ length-append (openings H) added in
     record {
-      within = omega (arith, more, s.within, low_after-low (H ++ e ∷ []) low (report_in e.what));
+      within = omega (arith, more, s.within, low_after-low (H ++ e ∷ []) low (told_in e.what));
       none = λ number small.
           ⊎_elim
           (λ (zeroth : number ≡ 0). waiting-unopened (H ++ e ∷ []) number longer (inl zeroth))
@@ -321,6 +333,7 @@ leased-waiting H m (Leased k w n q t p d) o legal step is =
 leased-waiting H m (Founded x) o legal step is = absurd (true≢false (sym is))
 leased-waiting H m (Opened x) o legal step is = absurd (true≢false (sym is))
 leased-waiting H m (Reported run v f) o legal step is = absurd (true≢false (sym is))
+leased-waiting H m (Skipped run f) o legal step is = absurd (true≢false (sym is))
 leased-waiting H m (Cancelled k q) o legal step is = absurd (true≢false (sym is))
 leased-waiting H m (Ordered k a n c q d) o legal step is = absurd (true≢false (sym is))
 
@@ -332,6 +345,7 @@ leased-openings H m (Leased k w n q t p d) is =
 leased-openings H m (Founded x) is = absurd (true≢false (sym is))
 leased-openings H m (Opened x) is = absurd (true≢false (sym is))
 leased-openings H m (Reported run v f) is = absurd (true≢false (sym is))
+leased-openings H m (Skipped run f) is = absurd (true≢false (sym is))
 leased-openings H m (Cancelled k q) is = absurd (true≢false (sym is))
 leased-openings H m (Ordered k a n c q d) is = absurd (true≢false (sym is))
 

@@ -8,7 +8,6 @@ use Rattle.farm_entry.specs.Orders.{confirmed_at, confirmed_searches, orders}
 use Rattle.farm_entry.specs.Standing.{standing}
 use Rattle.farm_entry.specs.declared.entry.Entry.{Entry}
 use Rattle.farm_entry.specs.declared.lease.LeasedRun.{LeasedRun}
-use Rattle.farm_entry.specs.declared.lease.ReportedRun.{ReportedRun}
 use Rattle.farm_entry.specs.declared.opening.Opening.{Opening}
 
 -- a confirmed search, while its commit has no order
@@ -39,7 +38,8 @@ pub record AreLowest (H : List Entry) (lows : List ℕ) : Type 0 where
   pub as_many : length lows ≡ length H
   pub each : (k : ℕ) → k < length H → IsLowest (take (k + 1) H) (get_or lows k 0)
 
--- What a report makes of the number up to which none waits: where its search does now, one less than that search's.
+-- What a report, with a verdict or not, makes of the number up to which none waits: where its search does now, one less
+-- than that search's.
 
 abbrev pub low_at : (low search : ℕ) → Option Candidate → ℕ
 low_at low search None = low
@@ -49,6 +49,6 @@ abbrev pub low_leased : List Entry → (low : ℕ) → Option LeasedRun → ℕ
 low_leased H low None = low
 low_leased H low (Some l) = low_at low l.search (waiting_numbered H l.search)
 
-abbrev pub low_after : List Entry → (low : ℕ) → Option ReportedRun → ℕ
+abbrev pub low_after : List Entry → (low : ℕ) → (told : Option ℕ) → ℕ
 low_after H low None = low
-low_after H low (Some r) = low_leased H low (lease_of H r.run)
+low_after H low (Some run) = low_leased H low (lease_of H run)

@@ -9,7 +9,7 @@ ghost use Rattle.farm_entry.specs.Orders.{next_order_at};
 ghost use Rattle.farm_ledger.specs.Waiting.{IsLowest, IsServed, low_after};
 
 use crate::register::Register;
-use farm_entry::{Entry, Opening, ReportedRun, Settings, What};
+use farm_entry::{Entry, Opening, Settings, What};
 use farm_rules::{Draft, NoOrder};
 use farm_turns::FarmTurns;
 use farm_types::{Memory, Moment};
@@ -99,11 +99,11 @@ impl Ledger {
         ensures kept { OnErr result (self.new ≡ self.old) }
     {
         let is_lease = entry.what.lease().is_some();
-        let report = entry.what.report();
+        let told = entry.what.told();
         let before = self.lows[self.lows.len() - 1];
         self.lows.reserve(1)?;
         self.register.push(alloc, entry)?;
-        let low = low_with(&self.register, before, is_lease, report);
+        let low = low_with(&self.register, before, is_lease, told);
         self.lows.push_reserved(low);
         Ok(())
     }
@@ -120,16 +120,16 @@ impl Ledger {
 
 /// How many searches stand before the first one that waits for an order once an entry is in, by how many did before it:
 /// as many, where the entry is a lease, since that changes no search that waits.
-fn low_with(register: &Register, before: u32, is_lease: bool, report: Option<ReportedRun>) -> u32
+fn low_with(register: &Register, before: u32, is_lease: bool, told: Option<u32>) -> u32
     requires legal { IsLegal register.now }
-    requires served { IsServed register.now (low_after register.now before report) }
+    requires served { IsServed register.now (low_after register.now before told) }
     requires same { is_lease ≡ true → IsLowest register.now before }
     ensures { IsLowest register.now result }
 {
     if is_lease {
         return before;
     }
-    let low = low_after(register, before, report);
+    let low = low_after(register, before, told);
     passed(register, low)
 }
 
@@ -150,15 +150,16 @@ fn passed(register: &Register, low: u32) -> u32
     at
 }
 
-/// Up to which number no search waits for an order once a report is in, where none did up to a number before.
-fn low_after(register: &Register, low: u32, report: Option<ReportedRun>) -> u32
+/// Up to which number no search waits for an order once a run is reported, with a verdict or not, where none did up to
+/// a number before.
+fn low_after(register: &Register, low: u32, told: Option<u32>) -> u32
     requires { IsLegal register.now }
-    ensures { result ≡ low_after register.now low report }
+    ensures { result ≡ low_after register.now low told }
 {
-    let Some(report) = report else {
+    let Some(run) = told else {
         return low;
     };
-    let Some(lease) = register.state().books().lease_of(report.run) else {
+    let Some(lease) = register.state().books().lease_of(run) else {
         return low;
     };
     match register.waiting(lease.search) {

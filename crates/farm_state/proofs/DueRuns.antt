@@ -6,7 +6,7 @@ use Rattle.std.proofs.lemmas.Option.{none-some}
 use Rattle.farm_types.specs.declared.stage.Stage.{Stage}
 use Rattle.farm_types.specs.declared.stage.Stage.TheVariants.{Search, Verify}
 use Rattle.lease_book.specs.declared.lease.TheConstants.{OUT_MAX}
-use Rattle.farm_entry.specs.Due.{due, due_at, open_leases, open_positions}
+use Rattle.farm_entry.specs.Due.{due, due_at, open_leases, outstanding_positions}
 use Rattle.farm_entry.specs.History.{opening_numbered}
 use Rattle.farm_entry.specs.Legal.{IsLegal}
 use Rattle.farm_entry.specs.Standing.{standing}
@@ -39,7 +39,7 @@ state-of H n s (Some o) is h =
 
 -- few of its runs are out at a stage
 few-by : (H : List Entry) (o : Opening) (stage : Stage) (moment : ℕ) → IsLegal H → IsNotBefore H moment →
-    opening_numbered H o.search ≡ Some o → length (open_positions H o.search stage moment) ≤ OUT_MAX
+    opening_numbered H o.search ≡ Some o → length (outstanding_positions H o.search stage moment) ≤ OUT_MAX
 few-by H o Search moment legal before found =
     let there = (opening-there H o.search o found).0 in
     let few = search_leases-few H o moment legal there before in
@@ -52,12 +52,12 @@ few-by H o Verify moment legal before found =
     omega (arith, few, asked, length-map (open_leases H o.search Verify moment) (λ (l : LeasedRun). l.position))
 
 pub few-out : (H : List Entry) (n : ℕ) (s : SearchView) (stage : Stage) (moment : ℕ) → IsLegal H → IsNotBefore H moment →
-    option_map (seen H) (opening_numbered H n) ≡ Some s → length (open_positions H n stage moment) ≤ OUT_MAX
+    option_map (seen H) (opening_numbered H n) ≡ Some s → length (outstanding_positions H n stage moment) ≤ OUT_MAX
 few-out H n s stage moment legal before h =
     let it = state-of H n s (opening_numbered H n) refl h in
     let found : opening_numbered H it.opening.search ≡ Some it.opening =
     ap (opening_numbered H) (sym it.number) ∙ it.found in
-    subst (λ (k : ℕ). length (open_positions H k stage moment) ≤ OUT_MAX) (sym it.number)
+    subst (λ (k : ℕ). length (outstanding_positions H k stage moment) ≤ OUT_MAX) (sym it.number)
     (few-by H it.opening stage moment legal before found)
 
 -- what is due by its standing
@@ -70,24 +70,24 @@ due-one H n moment o st found stands =
     ap (option_and_then (λ (x : Opening). due H x moment)) found ∙ ap (λ (t : Standing). due_at t H o moment) stands
 
 pub due-searching : (H : List Entry) (n moment : ℕ) (s : SearchView) → option_map (seen H) (opening_numbered H n) ≡ Some s →
-    standing_in s ≡ Searching → due_in s (open_positions H n Search moment) ≡ due_of H n moment
+    standing_in s ≡ Searching → due_in s (outstanding_positions H n Search moment) ≡ due_of H n moment
 due-searching H n moment s h stands =
     let it = state-of H n s (opening_numbered H n) refl h in
     let o : Opening = it.opening in
     let here : standing H o ≡ Searching = ap standing_in (sym it.state) ∙ stands in
-    ap (λ (st : Standing). due_standing st s (open_positions H n Search moment)) stands
-    ∙ ap (λ (x : SearchView). due_standing Searching x (open_positions H n Search moment)) it.state
-    ∙ ap (λ (k : ℕ). due_standing Searching (seen H o) (open_positions H k Search moment)) it.number
+    ap (λ (st : Standing). due_standing st s (outstanding_positions H n Search moment)) stands
+    ∙ ap (λ (x : SearchView). due_standing Searching x (outstanding_positions H n Search moment)) it.state
+    ∙ ap (λ (k : ℕ). due_standing Searching (seen H o) (outstanding_positions H k Search moment)) it.number
     ∙ sym (due-one H n moment o Searching it.found here)
 
 pub due-verifying : (H : List Entry) (n moment c : ℕ) (s : SearchView) →
     option_map (seen H) (opening_numbered H n) ≡ Some s → standing_in s ≡ Verifying c →
-    due_in s (open_positions H n Verify moment) ≡ due_of H n moment
+    due_in s (outstanding_positions H n Verify moment) ≡ due_of H n moment
 due-verifying H n moment c s h stands =
     let it = state-of H n s (opening_numbered H n) refl h in
     let o : Opening = it.opening in
     let here : standing H o ≡ Verifying c = ap standing_in (sym it.state) ∙ stands in
-    ap (λ (st : Standing). due_standing st s (open_positions H n Verify moment)) stands
-    ∙ ap (λ (x : SearchView). due_standing (Verifying c) x (open_positions H n Verify moment)) it.state
-    ∙ ap (λ (k : ℕ). due_standing (Verifying c) (seen H o) (open_positions H k Verify moment)) it.number
+    ap (λ (st : Standing). due_standing st s (outstanding_positions H n Verify moment)) stands
+    ∙ ap (λ (x : SearchView). due_standing (Verifying c) x (outstanding_positions H n Verify moment)) it.state
+    ∙ ap (λ (k : ℕ). due_standing (Verifying c) (seen H o) (outstanding_positions H k Verify moment)) it.number
     ∙ sym (due-one H n moment o (Verifying c) it.found here)

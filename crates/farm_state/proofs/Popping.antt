@@ -1,19 +1,18 @@
 -- The last entry of a history, that is taken away.
-use Rattle.std.proofs.Common.{◌≡◌, ℕ, ◌+◌, ◌-◌, ◌<◌, List, [], ◌∷◌, ◌++◌, length, take, set, get_or, length-append, Contains, Option, Some, None, refl, sym, ap, subst, ◌∙◌, arith, length-take-le, set-set}
+use Rattle.std.proofs.Common.{◌≡◌, ℕ, ◌+◌, ◌-◌, ◌<◌, List, [], ◌∷◌, ◌++◌, length, take, set, get_or, length-append, Contains, Some, None, refl, sym, ap, subst, ◌∙◌, arith, length-take-le, set-set}
 use Rattle.std.proofs.Math.Seq.{take-append_seam}
 use Rattle.std.proofs.lemmas.List.{set-get_or}
 use Rattle.std.proofs.lemmas.List.Elements.{All-contains}
 use Rattle.std.proofs.lemmas.Option.{none-some}
-use Rattle.farm_entry.specs.History.{all_leases, cancelled_in, lease_of, opening_in, opening_numbered, openings, report_in}
+use Rattle.farm_entry.specs.History.{all_leases, cancelled_in, lease_of, opening_in, opening_numbered, openings, told_in}
 use Rattle.farm_entry.specs.Legal.{IsLegal}
 use Rattle.farm_entry.specs.declared.entry.Entry.{Entry}
 use Rattle.farm_entry.specs.declared.entry.What.{What}
-use Rattle.farm_entry.specs.declared.entry.What.TheVariants.{Founded, Opened, Leased, Reported, Cancelled, Ordered}
+use Rattle.farm_entry.specs.declared.entry.What.TheVariants.{Founded, Opened, Leased, Reported, Skipped, Cancelled, Ordered}
 use Rattle.farm_entry.specs.declared.lease.LeasedRun.{LeasedRun}
-use Rattle.farm_entry.specs.declared.lease.ReportedRun.{ReportedRun}
 use Rattle.farm_entry.specs.declared.opening.Opening.{Opening}
 use Rattle.farm_laws.specs.Openings.{HasOpening}
-use Rattle.farm_laws.proofs.EntryParts.{cancelled-facts, reported-facts}
+use Rattle.farm_laws.proofs.EntryParts.{cancelled-facts, told-facts}
 use Rattle.farm_laws.proofs.Filters.{lease_of-stays, opening_numbered-stays}
 use Rattle.farm_laws.proofs.Induct.{IsLegal-first, IsLegal-pushed}
 use Rattle.farm_laws.proofs.Known.{leases-known}
@@ -24,13 +23,9 @@ use Rattle.search_laws.specs.Steps.{IsAbout}
 use Rattle.search_state.specs.SearchView.{SearchView}
 use Rattle.state_laws.specs.Seen.{all_seen, seen}
 use Rattle.state_laws.proofs.AllStates.{set-seen}
-use Rattle.state_laws.proofs.Changes.{cancelled-not_opened, report-not_opened}
+use Rattle.state_laws.proofs.Changes.{cancelled-not_opened}
 use Rattle.farm_state.specs.Telling.{IsEnd, IsEndOf}
 use Rattle.farm_state.proofs.Searches.{IsSearchOf, search-of_opening, search-state}
-
-abbrev run_of_report : Option ReportedRun → ℕ
-run_of_report None = 0
-run_of_report (Some r) = r.run
 
 -- it may come next, after those before it
 pub end-last : (H : List Entry) (e : Entry) → IsLegal H → 1 < length H → IsEnd H e → IsLast H (take (length H - 1) H) e
@@ -136,17 +131,27 @@ about-cancel H (Founded x) q is = absurd (none-some q is)
 about-cancel H (Opened o) q is = absurd (none-some q is)
 about-cancel H (Leased k w n x t p d) q is = absurd (none-some q is)
 about-cancel H (Reported run v _) q is = absurd (none-some q is)
+about-cancel H (Skipped run _) q is = absurd (none-some q is)
 about-cancel H (Ordered k a n c x d) q is = absurd (none-some q is)
 
-pub about-report : (H : List Entry) (w : What) (r : ReportedRun) (l : LeasedRun) → report_in w ≡ Some r →
-    lease_of H r.run ≡ Some l → IsAbout H w l.search
-about-report H (Reported run v f) r l is known =
-    let run_is : r.run ≡ run = ap run_of_report (sym is) in (l, ap (lease_of H) (sym run_is) ∙ known, refl)
-about-report H (Founded x) r l is known = absurd (none-some r is)
-about-report H (Opened o) r l is known = absurd (none-some r is)
-about-report H (Leased k w n q t p d) r l is known = absurd (none-some r is)
-about-report H (Cancelled k q) r l is known = absurd (none-some r is)
-about-report H (Ordered k a n c q d) r l is known = absurd (none-some r is)
+pub about-told : (H : List Entry) (w : What) (run : ℕ) (l : LeasedRun) → told_in w ≡ Some run → lease_of H run ≡ Some l →
+    IsAbout H w l.search
+about-told H (Reported n v f) run l is known = let same : n ≡ run = cc in (l, ap (lease_of H) same ∙ known, refl)
+about-told H (Skipped n f) run l is known = let same : n ≡ run = cc in (l, ap (lease_of H) same ∙ known, refl)
+about-told H (Founded x) run l is known = absurd (none-some run is)
+about-told H (Opened o) run l is known = absurd (none-some run is)
+about-told H (Leased k w n q t p d) run l is known = absurd (none-some run is)
+about-told H (Cancelled k q) run l is known = absurd (none-some run is)
+about-told H (Ordered k a n c q d) run l is known = absurd (none-some run is)
+
+told-not_opened : (w : What) (run : ℕ) → told_in w ≡ Some run → opening_in w ≡ None
+told-not_opened (Reported n v _) run is = refl
+told-not_opened (Skipped n _) run is = refl
+told-not_opened (Founded x) run is = absurd (none-some run is)
+told-not_opened (Opened o) run is = absurd (none-some run is)
+told-not_opened (Leased k w n q t p d) run is = absurd (none-some run is)
+told-not_opened (Cancelled k q) run is = absurd (none-some run is)
+told-not_opened (Ordered k a n c q d) run is = absurd (none-some run is)
 
 -- a cancellation at the end
 pub end-cancels : (H : List Entry) (e : Entry) (q : ℕ) → IsLast H (take (length H - 1) H) e → cancelled_in e.what ≡ Some q →
@@ -162,29 +167,29 @@ end-cancels H e q l is =
     }
 
 -- a report at the end: its run was handed out, to the search that the lease names
-pub end-known : (H G : List Entry) (e : Entry) (r : ReportedRun) → IsLast H G e → report_in e.what ≡ Some r →
-    (l : LeasedRun) × (lease_of G r.run ≡ Some l) × (lease_of H r.run ≡ Some l)
-end-known H G e r l is =
-    let facts = reported-facts G e.at e.what r is l.step in (
+pub end-known : (H G : List Entry) (e : Entry) (run : ℕ) → IsLast H G e → told_in e.what ≡ Some run →
+    (l : LeasedRun) × (lease_of G run ≡ Some l) × (lease_of H run ≡ Some l)
+end-known H G e run l is =
+    let facts = told-facts G e.at e.what run is l.step in (
       facts.lease,
       facts.known,
-      ap (λ (X : List Entry). lease_of X r.run) l.split ∙ lease_of-stays G e r.run facts.lease facts.known,
+      ap (λ (X : List Entry). lease_of X run) l.split ∙ lease_of-stays G e run facts.lease facts.known,
     )
 
-pub end-reports : (H : List Entry) (e : Entry) (r : ReportedRun) (l : LeasedRun) → IsLast H (take (length H - 1) H) e →
-    report_in e.what ≡ Some r → lease_of H r.run ≡ Some l → IsEndOf H l.search
-end-reports H e r l last is known =
+pub end-reports : (H : List Entry) (e : Entry) (run : ℕ) (l : LeasedRun) → IsLast H (take (length H - 1) H) e →
+    told_in e.what ≡ Some run → lease_of H run ≡ Some l → IsEndOf H l.search
+end-reports H e run l last is known =
     let G : List Entry = take (length H - 1) H in
-    let it = end-known H G e r last is in
+    let it = end-known H G e run last is in
     let both : Some it.0 ≡ Some l = sym it.2 ∙ known in
     let same : it.0 ≡ l = cc in
-    let before : lease_of G r.run ≡ Some l = it.1 ∙ ap Some same in
+    let before : lease_of G run ≡ Some l = it.1 ∙ ap Some same in
     record {
       last = e;
       is_last = last.split;
-      opens_none = report-not_opened e.what r is;
+      opens_none = told-not_opened e.what run is;
       known =
           All-contains (λ (x : LeasedRun). HasOpening G x.search) (all_leases G) l (leases-known G last.legal)
-          (lease-there G r.run l before).0;
-      about = about-report G e.what r l is before;
+          (lease-there G run l before).0;
+      about = about-told G e.what run l is before;
     }

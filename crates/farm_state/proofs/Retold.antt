@@ -4,25 +4,26 @@ use Rattle.std.proofs.lemmas.Bool.Decides.{nat_tests}
 use Rattle.std.proofs.lemmas.Option.{none-some}
 use Rattle.farm_types.specs.declared.moment.Moment.{Moment}
 use Rattle.farm_entry.specs.Decision.{run_with}
-use Rattle.farm_entry.specs.History.{cancelled_in, lease_of, opening_numbered, openings, report_in}
+use Rattle.farm_entry.specs.History.{cancelled_in, lease_of, opening_numbered, openings, report_in, skip_in}
 use Rattle.farm_entry.specs.Legal.{IsFounding, IsLegal}
 use Rattle.farm_entry.specs.declared.entry.Entry.{Entry}
 use Rattle.farm_entry.specs.declared.entry.What.{What}
-use Rattle.farm_entry.specs.declared.entry.What.TheVariants.{Founded, Opened, Leased, Reported, Cancelled, Ordered}
+use Rattle.farm_entry.specs.declared.entry.What.TheVariants.{Founded, Opened, Leased, Reported, Skipped, Cancelled, Ordered}
 use Rattle.farm_entry.specs.declared.lease.LeasedRun.{LeasedRun}
 use Rattle.farm_entry.specs.declared.lease.ReportedRun.{ReportedRun}
+use Rattle.farm_entry.specs.declared.lease.SkippedRun.{SkippedRun}
 use Rattle.farm_entry.specs.declared.opening.Opening.{Opening}
-use Rattle.farm_laws.proofs.EntryParts.{reported-facts}
+use Rattle.farm_laws.proofs.EntryParts.{reported-facts, skipped-facts}
 use Rattle.farm_laws.proofs.Filters.{lease_of-stays, opening_numbered-stays}
 use Rattle.farm_laws.proofs.Induct.{IsLegal-first, IsLegal-pushed}
 use Rattle.farm_laws.proofs.Numbered.{lease-there, opening-found}
 use Rattle.farm_laws.proofs.Stepped.{Stepped, stepped}
 use Rattle.search_laws.specs.Steps.{IsAbout}
-use Rattle.search_state.specs.SearchView.{SearchView, after_report, cancelled}
+use Rattle.search_state.specs.SearchView.{SearchView, after_report, after_skip, cancelled}
 use Rattle.state_laws.specs.Seen.{seen}
-use Rattle.state_laws.proofs.Asking.{report-ruled, reports-few, run-placed}
-use Rattle.state_laws.proofs.Changes.{cancelled-seen, other-seen, reported-seen}
-use Rattle.farm_state.specs.Telling.{MayTake, told, told_run}
+use Rattle.state_laws.proofs.Asking.{report-ruled, reports-few, run-placed, skip-placed, skip-ruled}
+use Rattle.state_laws.proofs.Changes.{cancelled-seen, other-seen, reported-seen, skipped-seen}
+use Rattle.farm_state.specs.Telling.{MaySkip, MayTake, told, told_run, told_skip}
 use Rattle.farm_state.proofs.Searches.{search-of_lease}
 
 -- What stays with the entries that follow.
@@ -87,6 +88,16 @@ told-report G m run l o w r false legal step is known one other =
     sym (other-seen G (record { at = m; what = w }) o legal step
     (λ about. other-of l.search o.search other (one about)))
 
+told-skip : (G : List Entry) (m : Moment) (l : LeasedRun) (o : Opening) (w : What) (r : SkippedRun) (b : Bool) →
+    IsLegal G → Stepped G m w → skip_in w ≡ Some r → lease_of G r.run ≡ Some l →
+    (IsAbout G w o.search → l.search ≡ o.search) → l.search == o.search ≡ b →
+    (if b then after_skip (seen G o) l.position r.fate else seen G o) ≡ seen (G ++ record { at = m; what = w } ∷ []) o
+told-skip G m l o w r true legal step is known one same =
+    sym (skipped-seen G (record { at = m; what = w }) o r l legal is known (same-of l.search o.search same))
+told-skip G m l o w r false legal step is known one other =
+    sym (other-seen G (record { at = m; what = w }) o legal step
+    (λ about. other-of l.search o.search other (one about)))
+
 told-cancel : (G : List Entry) (m : Moment) (o : Opening) (w : What) (q : ℕ) (b : Bool) →
     IsLegal G → Stepped G m w → cancelled_in w ≡ Some q → (IsAbout G w o.search → q ≡ o.search) → q == o.search ≡ b →
     (if b then cancelled (seen G o) else seen G o) ≡ seen (G ++ record { at = m; what = w } ∷ []) o
@@ -114,6 +125,13 @@ told-what H G m (Reported run v f) o legal step leases =
     ap (λ (x : Option LeasedRun). told_run o.search x r (seen G o)) (leases run l facts.known)
     ∙ told-report G m run l o (Reported run v f) r (l.search == o.search) legal step refl facts.known
     (λ about. ap (λ (x : LeasedRun). x.search) (sym (one-lease G run l about.0 facts.known about.1)) ∙ about.2) refl
+told-what H G m (Skipped run f) o legal step leases =
+    let r : SkippedRun = record { run = run; fate = f } in
+    let facts = skipped-facts G m (Skipped run f) r refl step in
+    let l : LeasedRun = facts.lease in
+    ap (λ (x : Option LeasedRun). told_skip o.search x r (seen G o)) (leases run l facts.known)
+    ∙ told-skip G m l o (Skipped run f) r (l.search == o.search) legal step refl facts.known
+    (λ about. ap (λ (x : LeasedRun). x.search) (sym (one-lease G run l about.0 facts.known about.1)) ∙ about.2) refl
 
 told-founding : (H : List Entry) (m : Moment) (w : What) (o : Opening) → IsFounding w →
     told H o.search w (seen [] o) ≡ seen (record { at = m; what = w } ∷ []) o
@@ -121,6 +139,7 @@ told-founding H m (Founded x) o h = refl
 told-founding H m (Opened x) o h = absurd h
 told-founding H m (Leased k w n q t p d) o h = absurd h
 told-founding H m (Reported run v f) o h = absurd h
+told-founding H m (Skipped run f) o h = absurd h
 told-founding H m (Cancelled k q) o h = absurd h
 told-founding H m (Ordered k a n c q d) o h = absurd h
 
@@ -140,11 +159,41 @@ founding-report (Founded x) r h is = none-some r is
 founding-report (Opened x) r h is = absurd h
 founding-report (Leased k w n q t p d) r h is = absurd h
 founding-report (Reported run v f) r h is = absurd h
+founding-report (Skipped run f) r h is = absurd h
 founding-report (Cancelled k q) r h is = absurd h
 founding-report (Ordered k a n c q d) r h is = absurd h
 
+founding-skip : (w : What) (r : SkippedRun) → IsFounding w → skip_in w ≡ Some r → ⊥
+founding-skip (Founded x) r h is = none-some r is
+founding-skip (Opened x) r h is = absurd h
+founding-skip (Leased k w n q t p d) r h is = absurd h
+founding-skip (Reported run v f) r h is = absurd h
+founding-skip (Skipped run f) r h is = absurd h
+founding-skip (Cancelled k q) r h is = absurd h
+founding-skip (Ordered k a n c q d) r h is = absurd h
+
 one-opening : (H : List Entry) (n : ℕ) (o x : Opening) → opening_numbered H n ≡ Some x → opening_numbered H n ≡ Some o → x ≡ o
 one-opening H n o x first again = let both : Some x ≡ Some o = sym first ∙ again in cc
+
+-- a lease of an entry's run, that is of a search of the history, stood before it and was of that search
+record IsBefore (G : List Entry) (o : Opening) (run : ℕ) (l : LeasedRun) : Type 0 where
+  known : lease_of G run ≡ Some l
+  opened : Contains (openings G) o
+
+before-of : (H G : List Entry) (e : Entry) (o : Opening) (run : ℕ) (first l : LeasedRun) → IsLegal H → IsAmong H G e →
+    Contains (openings H) o → lease_of G run ≡ Some first → lease_of H run ≡ Some l → l.search ≡ o.search →
+    IsBefore G o run l
+before-of H G e o run first l legal it there held known same =
+    let lease_is : first ≡ l = one-lease H run l first known (it.leases run first held) in
+    let here : lease_of G run ≡ Some l = held ∙ ap Some lease_is in
+    let s = search-of_lease G run l it.legal here in
+    let found : opening_numbered H s.opening.search ≡ Some s.opening =
+    it.opened s.opening.search s.opening (opening-found G s.opening it.legal s.there) in
+    let number : s.opening.search ≡ o.search = sym s.same ∙ same in
+    let opening_is : s.opening ≡ o =
+    one-opening H s.opening.search o s.opening found
+    (ap (opening_numbered H) number ∙ opening-found H o legal there) in
+    record { known = here; opened = subst (Contains (openings G)) opening_is s.there }
 
 pub may-take : (H G K : List Entry) (e : Entry) (o : Opening) → IsLegal H → H ≡ (G ++ e ∷ []) ++ K →
     Contains (openings H) o → (r : ReportedRun) (l : LeasedRun) → report_in e.what ≡ Some r →
@@ -155,22 +204,30 @@ may-take H [] K e o legal split there r l is known same =
 may-take H (f ∷ G) K e o legal split there r l is known same =
     let it = among H f G K e legal split in
     let facts = reported-facts (f ∷ G) e.at e.what r is it.step in
-    let lease_is : facts.lease ≡ l = one-lease H r.run l facts.lease known (it.leases r.run facts.lease facts.known) in
-    let here : lease_of (f ∷ G) r.run ≡ Some l = facts.known ∙ ap Some lease_is in
-    let s = search-of_lease (f ∷ G) r.run l it.legal here in
-    let found : opening_numbered H s.opening.search ≡ Some s.opening =
-    it.opened s.opening.search s.opening (opening-found (f ∷ G) s.opening it.legal s.there) in
-    let number : s.opening.search ≡ o.search = sym s.same ∙ same in
-    let opening_is : s.opening ≡ o =
-    one-opening H s.opening.search o s.opening found
-    (ap (opening_numbered H) number ∙ opening-found H o legal there) in
-    let before : Contains (openings (f ∷ G)) o = subst (Contains (openings (f ∷ G))) opening_is s.there in
+    let at = before-of H (f ∷ G) e o r.run facts.lease l legal it there facts.known known same in
     record {
-      ruled = report-ruled (f ∷ G) e o r l it.legal it.step before is here same;
+      ruled = report-ruled (f ∷ G) e o r l it.legal it.step at.opened is at.known same;
       placed =
-          run-placed (f ∷ G) o l r.verdict it.legal before
-          (ap (lease_of (f ∷ G)) (lease-there (f ∷ G) r.run l here).1 ∙ here) same;
+          run-placed (f ∷ G) o l r.verdict it.legal at.opened
+          (ap (lease_of (f ∷ G)) (lease-there (f ∷ G) r.run l at.known).1 ∙ at.known) same;
       few = reports-few (f ∷ G) e o.search it.longer;
+    }
+
+pub may-skip : (H G K : List Entry) (e : Entry) (o : Opening) → IsLegal H → H ≡ (G ++ e ∷ []) ++ K →
+    Contains (openings H) o → (r : SkippedRun) (l : LeasedRun) → skip_in e.what ≡ Some r →
+    lease_of H r.run ≡ Some l → l.search ≡ o.search → MaySkip (seen G o) l r
+may-skip H [] K e o legal split there r l is known same =
+    let whole : IsLegal (e ∷ K) = subst IsLegal split legal in
+    absurd (founding-skip e.what r whole.0 is)
+may-skip H (f ∷ G) K e o legal split there r l is known same =
+    let it = among H f G K e legal split in
+    let facts = skipped-facts (f ∷ G) e.at e.what r is it.step in
+    let at = before-of H (f ∷ G) e o r.run facts.lease l legal it there facts.known known same in
+    record {
+      ruled = skip-ruled (f ∷ G) e o r l it.legal it.step at.opened is at.known same;
+      placed =
+          skip-placed (f ∷ G) o l it.legal at.opened
+          (ap (lease_of (f ∷ G)) (lease-there (f ∷ G) r.run l at.known).1 ∙ at.known) same;
     }
 
 -- Entry by entry.
@@ -197,6 +254,17 @@ may-take-at H L k e o search s legal same below is there number so_far r l repor
     let at : e ≡ get_or H k e = is ∙ ap (λ (X : List Entry). get_or X k e) same in
     subst (λ (x : SearchView). MayTake x l r) (sym so_far)
     (may-take H (take k H) (drop (k + 1) H) e o legal (parted H k e low at) there r l reports known (of_search ∙ number))
+
+-- and so may that the tree of a run can't be tested
+pub may-skip-at : (H L : List Entry) (k : ℕ) (e : Entry) (o : Opening) (search : ℕ) (s : SearchView) → IsLegal H → L ≡ H →
+    k < length L → e ≡ get_or L k e → Contains (openings H) o → search ≡ o.search → s ≡ seen (take k H) o →
+    (r : SkippedRun) (l : LeasedRun) → skip_in e.what ≡ Some r → lease_of H r.run ≡ Some l → l.search ≡ search →
+    MaySkip s l r
+may-skip-at H L k e o search s legal same below is there number so_far r l skips known of_search =
+    let low : k < length H = omega (arith, below, ap length same) in
+    let at : e ≡ get_or H k e = is ∙ ap (λ (X : List Entry). get_or X k e) same in
+    subst (λ (x : SearchView). MaySkip x l r) (sym so_far)
+    (may-skip H (take k H) (drop (k + 1) H) e o legal (parted H k e low at) there r l skips known (of_search ∙ number))
 
 -- and what is told at a place is what is held after it
 pub told-at : (H L : List Entry) (k : ℕ) (e : Entry) (o : Opening) (search : ℕ) (s t : SearchView) → IsLegal H → L ≡ H →

@@ -4,10 +4,15 @@ use Rattle.std.specs.List.{cons_option}
 use Rattle.std.specs.Option.{is_some, option_map}
 use Rattle.std.proofs.lemmas.List.{get_or-map, get_or_push, length-map}
 use Rattle.std.proofs.lemmas.List.Elements.{All-contains}
-use Rattle.farm_entry.specs.History.{all_leases, lease_of, opening_in, opening_numbered, openings}
+use Rattle.std.proofs.lemmas.Option.{none-some}
+use Rattle.farm_entry.specs.History.{all_leases, lease_of, opening_in, opening_numbered, openings, report_in, skip_in, told_in}
 use Rattle.farm_entry.specs.Legal.{IsLegal}
 use Rattle.farm_entry.specs.declared.entry.Entry.{Entry}
+use Rattle.farm_entry.specs.declared.entry.What.{What}
+use Rattle.farm_entry.specs.declared.entry.What.TheVariants.{Founded, Opened, Leased, Reported, Skipped, Cancelled, Ordered}
 use Rattle.farm_entry.specs.declared.lease.LeasedRun.{LeasedRun}
+use Rattle.farm_entry.specs.declared.lease.ReportedRun.{ReportedRun}
+use Rattle.farm_entry.specs.declared.lease.SkippedRun.{SkippedRun}
 use Rattle.farm_entry.specs.declared.opening.Opening.{Opening}
 use Rattle.farm_entry.proofs.Growing.{openings-grow}
 use Rattle.farm_laws.specs.Openings.{HasOpening, OpenWithin}
@@ -123,3 +128,15 @@ opened-some (Some o) h = (o, refl)
 pub opened-none : (x : Option Opening) → is_some x ≡ false → x ≡ None
 opened-none None h = refl
 opened-none (Some o) h = absurd (true≢false h)
+
+-- What an entry reports: a run neither with a verdict nor without one.
+pub neither-told : (w : What) → report_in w ≡ None → skip_in w ≡ None → told_in w ≡ None
+neither-told (Reported run v f) no_report no_skip =
+    let r : ReportedRun = record { run = run; verdict = v; fate = f } in absurd (none-some r (sym no_report))
+neither-told (Skipped run f) no_report no_skip =
+    let r : SkippedRun = record { run = run; fate = f } in absurd (none-some r (sym no_skip))
+neither-told (Founded settings) no_report no_skip = refl
+neither-told (Opened o) no_report no_skip = refl
+neither-told (Leased key worker run search stage position deadline) no_report no_skip = refl
+neither-told (Cancelled key search) no_report no_skip = refl
+neither-told (Ordered key agent order commit search day) no_report no_skip = refl

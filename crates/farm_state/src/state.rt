@@ -3,8 +3,8 @@
 ghost use Rattle.std.specs.Prelude.{◌≡◌, ◌<◌, ◌-◌, ◌++◌, ◌∷◌, [], None, Some, length, take, IfOk, OnOk, OnErr};
 ghost use Rattle.std.specs.Option.{option_and_then, option_copied, option_map};
 ghost use Rattle.farm_types.specs.Moment.{moment_ms};
-ghost use Rattle.farm_entry.specs.Due.{due, open_positions};
-ghost use Rattle.farm_entry.specs.History.{cancelled_in, opening_in, opening_numbered, openings, report_in};
+ghost use Rattle.farm_entry.specs.Due.{due, outstanding_positions};
+ghost use Rattle.farm_entry.specs.History.{cancelled_in, opening_in, opening_numbered, openings, report_in, skip_in, told_in};
 ghost use Rattle.farm_entry.specs.Legal.{IsLegal};
 ghost use Rattle.farm_laws.specs.Laws.{IsNotBefore};
 ghost use Rattle.search_state.specs.SearchView.{due_in};
@@ -13,7 +13,7 @@ ghost use Rattle.farm_state.specs.Telling.{IsEnd, IsEndOf};
 
 use crate::telling::retell;
 use farm_books::Books;
-use farm_entry::{DueRun, Entry, Opening, ReportedRun, Settings, Standing, What};
+use farm_entry::{DueRun, Entry, Opening, ReportedRun, Settings, SkippedRun, Standing, What};
 use farm_types::{Memory, Moment, Stage};
 use lease_book::OUT_MAX;
 use search_state::SearchState;
@@ -109,10 +109,12 @@ impl FarmState {
     ) -> Option<DueRun>
         requires before { IsNotBefore self.now (moment_ms moment) }
         requires opened { option_map (seen self.now) (opening_numbered self.now number) ≡ Some search.now }
-        ensures { result ≡ due_in search.now (open_positions self.now number stage (moment_ms moment)) }
+        ensures { result ≡ due_in search.now (outstanding_positions self.now number stage (moment_ms moment)) }
     {
         let mut out = [0; OUT_MAX];
-        let count = self.books.open_positions(number, stage, moment, &mut out);
+        let count = self
+            .books
+            .outstanding_positions(number, stage, moment, &mut out);
         search.due(&out[..count])
     }
 
@@ -133,6 +135,9 @@ impl FarmState {
         }
         if let Some(report) = entry.what.report() {
             return self.push_report(entry, report);
+        }
+        if let Some(skip) = entry.what.skip() {
+            return self.push_skip(entry, skip);
         }
         if let Some(search) = entry.what.cancelled() {
             return self.push_end(entry, search);
@@ -160,7 +165,7 @@ impl FarmState {
         }
     }
 
-    /// Adds an entry that reports a run.
+    /// Adds an entry that reports a run with a verdict.
     fn push_report(&mut self, entry: Entry, report: ReportedRun) -> Result<(), Memory>
         requires legal { IsLegal (self.old ++ entry ∷ []) }
         requires reports { report_in entry.what ≡ Some report }
@@ -173,6 +178,22 @@ impl FarmState {
         self.books.push(entry)?;
         let index = lease.search as usize - 1;
         self.searches[index].report(lease.stage, lease.run_with(report.verdict), report.fate);
+        Ok(())
+    }
+
+    /// Adds an entry that reports a run as one whose tree can't be tested.
+    fn push_skip(&mut self, entry: Entry, skip: SkippedRun) -> Result<(), Memory>
+        requires legal { IsLegal (self.old ++ entry ∷ []) }
+        requires skips { skip_in entry.what ≡ Some skip }
+        ensures pushed { OnOk result (self.new ≡ self.old ++ entry ∷ []) }
+        ensures kept { OnErr result (self.new ≡ self.old) }
+    {
+        let Some(lease) = self.books.lease_of(skip.run) else {
+            unreachable!();
+        };
+        self.books.push(entry)?;
+        let index = lease.search as usize - 1;
+        self.searches[index].skip(lease.stage, lease.position, skip.fate);
         Ok(())
     }
 
@@ -192,7 +213,7 @@ impl FarmState {
     fn push_quiet(&mut self, entry: Entry) -> Result<(), Memory>
         requires legal { IsLegal (self.old ++ entry ∷ []) }
         requires opens_none { opening_in entry.what ≡ None }
-        requires reports_none { report_in entry.what ≡ None }
+        requires reports_none { told_in entry.what ≡ None }
         requires cancels_none { cancelled_in entry.what ≡ None }
         ensures pushed { OnOk result (self.new ≡ self.old ++ entry ∷ []) }
         ensures kept { OnErr result (self.new ≡ self.old) }
@@ -213,8 +234,8 @@ impl FarmState {
         if what.is_opening() {
             return self.pop_opening();
         }
-        if let Some(report) = what.report() {
-            return self.pop_report(report.run);
+        if let Some(run) = what.told() {
+            return self.pop_report(run);
         }
         if let Some(search) = what.cancelled() {
             return self.pop_about(search);
@@ -232,11 +253,10 @@ impl FarmState {
         let _last = self.searches.pop();
     }
 
-    /// Takes the last entry away, which reports a run.
+    /// Takes the last entry away, which reports a run, with a verdict or not.
     fn pop_report(&mut self, run: u32)
         requires some { 1 < length self.old }
-        requires reports { (e : Entry) × (r : ReportedRun) × IsEnd self.old e × (report_in e.what ≡ Some r)
-            × (run ≡ r.run) }
+        requires reports { (e : Entry) × IsEnd self.old e × (told_in e.what ≡ Some run) }
         ensures { self.new ≡ take (length self.old - 1) self.old }
     {
         let Some(lease) = self.books.lease_of(run) else {
@@ -258,7 +278,7 @@ impl FarmState {
     /// Takes the last entry away, which changed the state of no search.
     fn pop_quiet(&mut self)
         requires some { 1 < length self.old }
-        requires quiet { (e : Entry) × IsEnd self.old e × (opening_in e.what ≡ None) × (report_in e.what ≡ None)
+        requires quiet { (e : Entry) × IsEnd self.old e × (opening_in e.what ≡ None) × (told_in e.what ≡ None)
             × (cancelled_in e.what ≡ None) }
         ensures { self.new ≡ take (length self.old - 1) self.old }
     {

@@ -21,7 +21,7 @@ use Rattle.farm_rules.specs.declared.orders.NoOrder.TheVariants as none
 use Rattle.farm_types.specs.declared.key.Key.{Key}
 use Rattle.weight_exact.specs.declared.run.Verdict.{Verdict}
 use Rattle.farm_entry.specs.Ask.{opening_of}
-use Rattle.farm_entry.specs.Decision.{add_at, add_opening, asked_before, cancel_decision, decide, full_decision, is_show, known_decision, lease_decision, moment_used, or_else, own_decision, page_decision, refuse_opening, repeat_or_clash, report_decision, revert_decision, shape_decision}
+use Rattle.farm_entry.specs.Decision.{add_at, add_opening, asked_before, cancel_decision, decide, full_decision, is_show, known_decision, lease_decision, moment_used, or_else, own_decision, page_decision, refuse_opening, repeat_or_clash, report_decision, revert_decision, shape_decision, skip_decision}
 use Rattle.farm_entry.specs.Due.{next_run}
 use Rattle.farm_entry.specs.History.{lease_of, opening_numbered, openings, place_of_key, place_of_report}
 use Rattle.farm_entry.specs.Orders.{next_order_at}
@@ -38,7 +38,7 @@ use Rattle.farm_entry.specs.declared.decision.Decision.{Decision}
 use Rattle.farm_entry.specs.declared.decision.Decision.TheVariants as decision
 use Rattle.farm_entry.specs.declared.entry.Entry.{Entry}
 use Rattle.farm_entry.specs.declared.entry.What.{What}
-use Rattle.farm_entry.specs.declared.entry.What.TheVariants.{Founded, Opened, Leased, Reported, Cancelled, Ordered}
+use Rattle.farm_entry.specs.declared.entry.What.TheVariants.{Founded, Opened, Leased, Reported, Skipped, Cancelled, Ordered}
 use Rattle.farm_entry.specs.Playing.{after}
 use Rattle.farm_store.specs.Answering.{history_after}
 use Rattle.farm_store.specs.Sizes.{asks_size, command_size, entries_size, what_size}
@@ -56,6 +56,7 @@ fields-within (Opened o) h most = most
 fields-within (Leased key worker run search stage position deadline) h most =
     simp (length-append, length-number_bytes) (omega (arith, h.1.few))
 fields-within (Reported run verdict fate) h most = simp (length-append, length-number_bytes) (omega arith)
+fields-within (Skipped run _) h most = simp (length-append, length-number_bytes) (omega arith)
 fields-within (Cancelled key search) h most = simp (length-append, length-number_bytes) (omega arith)
 fields-within (Ordered key agent order commit search day) h most =
     simp (length-append, length-number_bytes, length-id_bytes) (omega (arith, h.1.few))
@@ -117,6 +118,7 @@ first-takes : (most : ℕ) (q : Command) → TakesIf most (shape_decision q)
 first-takes most (command.Open ask) = shape-takes most (opening_of ask 0)
 first-takes most (command.Lease key worker) = tt
 first-takes most (command.Report run verdict) = tt
+first-takes most (command.Skip run) = tt
 first-takes most (command.Cancel key search) = tt
 first-takes most (command.TakeRevert key agent) = tt
 first-takes most (command.ShowSearch search) = tt
@@ -137,6 +139,7 @@ known-takes : (most : ℕ) (H : List Entry) (q : Command) → TakesIf most (know
 known-takes most H (command.Open ask) = place-takes most H (command.Open ask) (place_of_key H ask.key)
 known-takes most H (command.Lease key worker) = place-takes most H (command.Lease key worker) (place_of_key H key)
 known-takes most H (command.Report run verdict) = report-takes most (place_of_report H run)
+known-takes most H (command.Skip run) = report-takes most (place_of_report H run)
 known-takes most H (command.Cancel key search) = place-takes most H (command.Cancel key search) (place_of_key H key)
 known-takes most H (command.TakeRevert key agent) =
     place-takes most H (command.TakeRevert key agent) (place_of_key H key)
@@ -161,6 +164,11 @@ report_of-takes : (H : List Entry) (run : ℕ) (verdict : Verdict) (m : Moment) 
     → Takes MAX_SHORT_ENTRY_BYTES (report_decision H run verdict m lease)
 report_of-takes H run verdict m None = tt
 report_of-takes H run verdict m (Some l) = omega arith
+
+skip-takes : (H : List Entry) (run : ℕ) (m : Moment) (lease : Option LeasedRun)
+    → Takes MAX_SHORT_ENTRY_BYTES (skip_decision H run m lease)
+skip-takes H run m None = tt
+skip-takes H run m (Some l) = omega arith
 
 cancel-takes : (H : List Entry) (key : Key) (search : ℕ) (m : Moment) (opening : Option Opening)
     → Takes MAX_SHORT_ENTRY_BYTES (cancel_decision H key search m opening)
@@ -187,6 +195,7 @@ own-takes H (command.Open ask) m =
     (opening-takes m (opening_of ask (length (openings H) + 1)))
 own-takes H (command.Lease key worker) m = lease-takes H key worker m (next_run H (moment_ms m))
 own-takes H (command.Report run verdict) m = report_of-takes H run verdict m (lease_of H run)
+own-takes H (command.Skip run) m = skip-takes H run m (lease_of H run)
 own-takes H (command.Cancel key search) m = cancel-takes H key search m (opening_numbered H search)
 own-takes H (command.TakeRevert key agent) m = revert-takes key agent m (next_order_at H (moment_ms m))
 own-takes H (command.ShowSearch search) m = page-takes H search (opening_numbered H search)
@@ -232,6 +241,7 @@ command_size-most : (q : Command) → command_size q ≤ MAX_ENTRY_BYTES
 command_size-most (command.Open ask) = omega arith
 command_size-most (command.Lease key worker) = omega arith
 command_size-most (command.Report run verdict) = omega arith
+command_size-most (command.Skip run) = omega arith
 command_size-most (command.Cancel key search) = omega arith
 command_size-most (command.TakeRevert key agent) = omega arith
 command_size-most (command.ShowSearch search) = omega arith

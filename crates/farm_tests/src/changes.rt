@@ -5,14 +5,15 @@ ghost use Rattle.farm_entry.specs.Legal.{IsLegal};
 use crate::answers::print_found;
 use crate::game::start;
 use crate::texts::{number_of, word};
-use farm_entry::{Entry, Fate, Settings, What};
+use farm_entry::{Entry, Fate, Settings, SkipFate, What};
 use farm_types::{Key, Memory};
 use plain_farm::{first_illegal, is_next};
 use std::alloc::Global;
 use std::io;
 use weight_exact::Verdict;
 
-// What an entry would record: a fail of a run that is late or counts, a second founding, or a cancellation of a search.
+// What an entry would record: a fail of a run that is late or counts, a skip that is late or taken, a second founding,
+// or a cancellation of a search.
 fn what_of(text: &str) -> What {
     let (name, number) = word(text);
     let number = number_of(number);
@@ -31,6 +32,14 @@ fn what_of(text: &str) -> What {
             run: number,
             verdict: Verdict::Fail,
             fate: Fate::Counted,
+        },
+        "skipped" => What::Skipped {
+            run: number,
+            fate: SkipFate::Taken,
+        },
+        "skipped_late" => What::Skipped {
+            run: number,
+            fate: SkipFate::Late,
         },
         _ => What::Cancelled {
             key: Key(7),

@@ -32,11 +32,18 @@ fn suspects(alloc: Global, first: u8, count: u8, weight: u32) -> Result<Suspects
     Ok(Suspects::of(suspects))
 }
 
+// The bar that a word names: 19/20, or else 9/10.
+fn bar(text: &str) -> (u32, u32) {
+    if text == "19/20" { (19, 20) } else { (9, 10) }
+}
+
 // Opens a search among suspects of one weight, above commit 0: with a calm weight of 1, a flake rate of 1/10, no
-// misses, a bar of 9/10, one run at a time and one rerun on each side.
+// misses, a bar of 9/10 where no other is named, one run at a time where no width is, and one rerun on each side.
 fn open(alloc: Global, key: Key, text: &str) -> Result<Command, Memory> {
     let (first, rest) = word(text);
-    let (count, weight) = word(rest);
+    let (count, rest) = word(rest);
+    let (weight, rest) = word(rest);
+    let (width, last) = word(rest);
     let suspects = suspects(alloc, small(first), small(count), number_of(weight))?;
     let test = name_of(alloc, "t")?;
     Ok(Command::Open(OpenAsk {
@@ -47,8 +54,8 @@ fn open(alloc: Global, key: Key, text: &str) -> Result<Command, Memory> {
         calm: 1,
         rate: (1, 10),
         miss: (0, 1),
-        bar: (9, 10),
-        width: 1,
+        bar: bar(last),
+        width: number_of(width).max(1),
         reruns: 1,
     }))
 }
@@ -83,6 +90,9 @@ pub(crate) fn command_of(
             worker: name_of(alloc, "w")?,
         }),
         "report" => Ok(report(rest)),
+        "skip" => Ok(Command::Skip {
+            run: number_of(rest),
+        }),
         _ => Ok(Command::TakeRevert {
             key,
             agent: name_of(alloc, "agent")?,

@@ -1,7 +1,7 @@
 //! Plays farms by the plain program, and prints what its calls tell of them. The cases of standard input are separated
 //! by an empty line. A case begins with the farm, as `found DAILY ZONE`: with so many orders a day, in a zone so many
-//! minutes east of UTC. Each line behind it is a command (`open FIRST COUNT WEIGHT`, `lease`, `report RUN VERDICT`,
-//! `revert MOMENT`) or a question about the farm as it stands, and is printed with what it comes to. Where no moment
+//! minutes east of UTC. Each line behind it is a command (`open FIRST COUNT WEIGHT`, with a width and a bar where they
+//! are named, `lease MOMENT`, `report RUN VERDICT`, `skip RUN`, `revert MOMENT`) or a question about the farm as it stands, and is printed with what it comes to. Where no moment
 //! is asked for, it is that at which the farm was founded. A line that begins with `#` is printed as it is. The file
 //! `stdout` has what is wanted; it was worked out by hand.
 //!
@@ -34,7 +34,10 @@ fn play_command(
     name: &str,
     rest: &str,
 ) -> io::Result<()> {
-    let at = if name == "revert" { rest } else { "" };
+    let at = match name {
+        "lease" | "revert" => rest,
+        _ => "",
+    };
     let key = game.fresh_key();
     match command_of(alloc, key, name, rest) {
         Ok(command) => print_found(rt, game.answer(&command, moment_of(at))),
@@ -49,7 +52,9 @@ fn play_line(rt: &impl Print, alloc: Global, game: &mut Game, line: &str) -> io:
     print!(rt; "{line}: ")?;
     let (name, rest) = word(line);
     match name {
-        "open" | "lease" | "report" | "revert" => play_command(rt, alloc, game, name, rest),
+        "open" | "lease" | "report" | "skip" | "revert" => play_command(
+            rt, alloc, game, name, rest,
+        ),
         _ => print_told(rt, alloc, game.history(), name, rest),
     }
 }

@@ -9,8 +9,10 @@ use crate::searches::print_search;
 use crate::texts::moment_of;
 use farm_entry::{Entry, LeasedRun, What};
 use farm_types::{Key, Memory, Stage};
-use plain_farm::{due_runs, is_open, next_run, open_leases, open_positions, reply_to, totals};
-use plain_history::{counted, leases, opening_numbered, push_some, reruns, runs};
+use plain_farm::{
+    due_runs, is_open, next_run, open_leases, outstanding_positions, reply_to, totals,
+};
+use plain_history::{counted, leases, opening_numbered, push_some, reruns, runs, skipped};
 use std::alloc::Global;
 use std::io;
 
@@ -71,6 +73,7 @@ fn print_history(
         "runs" => print_found(rt, runs(alloc, history, 1)),
         "counted" => print_found(rt, counted(alloc, history, 1, Stage::Search)),
         "reruns" => print_found(rt, reruns(alloc, history, 1)),
+        "skipped" => print_found(rt, skipped(alloc, history, 1)),
         "leases" => print_found(rt, leases(alloc, history, 1)),
         "first_illegal" | "changed" | "without_first" | "no_entries" | "is_next" => {
             print_change(rt, alloc, history, name, rest)
@@ -96,7 +99,10 @@ pub(crate) fn print_told(
     match name {
         "third_is_open" => println!(rt; "{}", is_open(history, at, THIRD)),
         "open_leases" => print_found(rt, open_leases(alloc, history, 1, Stage::Search, at)),
-        "open_positions" => print_found(rt, open_positions(alloc, history, 1, Stage::Search, at)),
+        "outstanding_positions" => print_found(
+            rt,
+            outstanding_positions(alloc, history, 1, Stage::Search, at),
+        ),
         "due_runs" => print_found(rt, due_runs(alloc, history, at)),
         "next_run" => print_found(rt, next_run(alloc, history, at)),
         "totals" => print_found(rt, totals(alloc, history)),

@@ -8,7 +8,7 @@ use crate::answers::print_found;
 use crate::texts::moment_of;
 use farm_entry::{Entry, Opening, Standing};
 use farm_types::Memory;
-use plain_farm::{belief, due, first_belief, page_of, plan, shares_of, standing};
+use plain_farm::{belief, due, first_belief, page_of, plan, shares_of, standing, untestable_of};
 use posterior::Belief;
 use std::alloc::Global;
 use std::io;
@@ -70,6 +70,7 @@ pub(crate) fn print_search(
         "plan" => print_plan(rt, alloc, history, opening),
         "due" => print_found(rt, due(alloc, history, opening, moment_of(rest))),
         "shares" => print_found(rt, shares_of(alloc, history, opening)),
+        "untestable" => print_found(rt, untestable_of(alloc, history, opening)),
         "page" => print_found(rt, page_of(alloc, history, opening)),
         _ => println!(rt; "unknown"),
     }

@@ -5,19 +5,18 @@ use Rattle.std.proofs.lemmas.Bool.{cases_Bool}
 use Rattle.std.proofs.lemmas.List.Elements.{All-contains, Contains-append_right}
 use Rattle.active_order.specs.Order.{has, strike}
 use Rattle.active_order.proofs.Lists.{strike-absent, strike-gone}
-use Rattle.farm_entry.specs.History.{all_leases, cancelled_in, lease_in, opening_in, opening_numbered, openings, report_in}
+use Rattle.farm_entry.specs.History.{all_leases, cancelled_in, lease_in, lease_of, opening_in, opening_numbered, openings, told_in}
 use Rattle.farm_entry.specs.Legal.{IsLegal, ask_of}
 use Rattle.farm_entry.specs.Standing.{is_active, standing}
 use Rattle.farm_entry.specs.declared.entry.Entry.{Entry}
 use Rattle.farm_entry.specs.declared.entry.What.{What}
-use Rattle.farm_entry.specs.declared.entry.What.TheVariants.{Founded, Opened, Leased, Reported, Cancelled, Ordered}
+use Rattle.farm_entry.specs.declared.entry.What.TheVariants.{Founded, Opened, Leased, Reported, Skipped, Cancelled, Ordered}
 use Rattle.farm_entry.specs.declared.lease.LeasedRun.{LeasedRun}
-use Rattle.farm_entry.specs.declared.lease.ReportedRun.{ReportedRun}
 use Rattle.farm_entry.specs.declared.opening.Opening.{Opening}
 use Rattle.farm_entry.proofs.Growing.{openings-grow}
 use Rattle.farm_laws.specs.Openings.{HasOpening}
 use Rattle.farm_laws.proofs.Ends.{end-kept}
-use Rattle.farm_laws.proofs.EntryParts.{cancelled-facts, opened-facts, reported-facts}
+use Rattle.farm_laws.proofs.EntryParts.{cancelled-facts, opened-facts, told-facts}
 use Rattle.farm_laws.proofs.Induct.{IsLegal-pushed}
 use Rattle.farm_laws.proofs.Known.{leases-known}
 use Rattle.farm_laws.proofs.Lists.{contains-head}
@@ -328,6 +327,21 @@ about-number H e s o t legal longer turns known about leases_none =
     subst (λ (n : ℕ). IsMadeBy H e (about_move H n) t) at.1
     (about-made H e o t legal longer turns at.0 (subst (IsAbout H e.what) (sym at.1) about) leases_none)
 
+-- an entry that reports a run, with a verdict or not
+told-made : (H : List Entry) (e : Entry) (run : ℕ) (t : Turns) → IsLegal H → IsLegal (H ++ e ∷ []) → AreTurnsOf H t →
+    told_in e.what ≡ Some run → lease_in e.what ≡ None →
+    ((l : LeasedRun) → lease_of H run ≡ Some l → IsAbout H e.what l.search) →
+    IsMadeBy H e (reported_move H (lease_of H run)) t
+told-made H e run t legal longer turns is leases_none about =
+    let step : Stepped H e.at e.what = stepped H e (IsLegal-pushed H e legal longer) in
+    let facts = told-facts H e.at e.what run is step in
+    let l = facts.lease in
+    let known : HasOpening H l.search =
+    All-contains (λ (x : LeasedRun). HasOpening H x.search) (all_leases H) l (leases-known H legal)
+    (lease-there H run l facts.known).0 in
+    subst (λ (x : Option LeasedRun). IsMadeBy H e (reported_move H x) t) (sym facts.known)
+    (about-number H e l.search known.0 t legal longer turns known.1 (about l facts.known) leases_none)
+
 -- By what the entry is.
 
 made-by : (H : List Entry) (e : Entry) (w : What) (t : Turns) → IsLegal H → IsLegal (H ++ e ∷ []) → AreTurnsOf H t →
@@ -347,17 +361,12 @@ made-by H e (Leased key worker run search stage position deadline) t legal longe
     lease-step H (H ++ e ∷ []) t search (leased-turns H e l t.never t.leased legal longer turns leases)
     (same-count H e (ap opening_in is))
     (is-in H t search legal turns (leased-there H e l t.never t.leased legal longer turns leases))
-made-by H e (Reported run verdict fate) t legal longer turns is =
-    let step : Stepped H e.at e.what = stepped H e (IsLegal-pushed H e legal longer) in
-    let r : ReportedRun = record { run = run; verdict = verdict; fate = fate } in
-    let facts = reported-facts H e.at e.what r (ap report_in is) step in
-    let l = facts.lease in
-    let known : HasOpening H l.search =
-    All-contains (λ (x : LeasedRun). HasOpening H x.search) (all_leases H) l (leases-known H legal)
-    (lease-there H run l facts.known).0 in
-    subst (λ (x : Option LeasedRun). IsMadeBy H e (reported_move H x) t) (sym facts.known)
-    (about-number H e l.search known.0 t legal longer turns known.1
-    (subst (λ (w : What). IsAbout H w l.search) (sym is) (l, facts.known, refl)) (ap lease_in is))
+made-by H e (Reported run _ _) t legal longer turns is =
+    told-made H e run t legal longer turns (ap told_in is) (ap lease_in is)
+    (λ l known. subst (λ (w : What). IsAbout H w l.search) (sym is) (l, known, refl))
+made-by H e (Skipped run _) t legal longer turns is =
+    told-made H e run t legal longer turns (ap told_in is) (ap lease_in is)
+    (λ l known. subst (λ (w : What). IsAbout H w l.search) (sym is) (l, known, refl))
 made-by H e (Cancelled key search) t legal longer turns is =
     let step : Stepped H e.at e.what = stepped H e (IsLegal-pushed H e legal longer) in
     let facts = cancelled-facts H e.at e.what search (ap cancelled_in is) step in

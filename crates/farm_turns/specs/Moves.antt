@@ -6,7 +6,7 @@ use Rattle.farm_entry.specs.History.{lease_of, opening_numbered}
 use Rattle.farm_entry.specs.Standing.{is_active, standing}
 use Rattle.farm_entry.specs.declared.entry.Entry.{Entry}
 use Rattle.farm_entry.specs.declared.entry.What.{What}
-use Rattle.farm_entry.specs.declared.entry.What.TheVariants.{Founded, Opened, Leased, Reported, Cancelled, Ordered}
+use Rattle.farm_entry.specs.declared.entry.What.TheVariants.{Founded, Opened, Leased, Reported, Skipped, Cancelled, Ordered}
 use Rattle.farm_entry.specs.declared.lease.LeasedRun.{LeasedRun}
 use Rattle.farm_entry.specs.declared.limits.TheConstants.{MAX_SEARCHES}
 use Rattle.farm_entry.specs.declared.opening.Opening.{Opening}
@@ -47,6 +47,7 @@ move_in H (Founded settings) = Stay
 move_in H (Opened o) = Open o.search
 move_in H (Leased key worker run search stage position deadline) = Lease search
 move_in H (Reported run verdict _) = reported_move H (lease_of H run)
+move_in H (Skipped run _) = reported_move H (lease_of H run)
 move_in H (Cancelled key search) = about_move H search
 move_in H (Ordered key agent order commit search day) = Stay
 

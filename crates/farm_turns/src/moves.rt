@@ -17,7 +17,7 @@ pub(crate) enum Move {
     Open(u32),
     /// It leases a run of a search.
     Lease(u32),
-    /// It reports a run of an active search or cancels it, and so may end it.
+    /// It reports a run of an active search, with a verdict or not, or cancels it, and so may end it.
     Touch(u32),
 }
 
@@ -47,10 +47,12 @@ pub(crate) fn move_of(state: &FarmState, what: &What) -> Move
     match what {
         What::Opened(opening) => Move::Open(opening.deref().search),
         What::Leased { search, .. } => Move::Lease(*search),
-        What::Reported { run, .. } => match state.books().lease_of(*run) {
-            Some(lease) => touch(state, lease.search),
-            None => Move::Stay,
-        },
+        What::Reported { run, .. } | What::Skipped { run, .. } => {
+            match state.books().lease_of(*run) {
+                Some(lease) => touch(state, lease.search),
+                None => Move::Stay,
+            }
+        }
         What::Cancelled { search, .. } => touch(state, *search),
         _ => Move::Stay,
     }

@@ -4,19 +4,17 @@ use Rattle.json.specs.Print.{escape_byte, quoted}
 use Rattle.serde_json.specs.Data.{string}
 use Rattle.serde_json.specs.View.{items_of}
 use Rattle.serde_json.specs.Written.{compact_text, items_text}
-use Rattle.weight_exact.specs.declared.run.Verdict.{Verdict}
 use Rattle.farm_types.specs.CommitId.{id_digits}
 use Rattle.farm_types.specs.declared.commit_id.CommitId.{CommitId}
 use Rattle.farm_types.specs.declared.stage.Stage.{Stage}
-use Rattle.farm_entry.specs.declared.entry.Fate.{Fate}
 use Rattle.farm_entry.specs.declared.reply.Reply.TheVariants as reply
 use Rattle.farm_entry.specs.declared.reply.SearchPage.{SearchPage}
 use Rattle.farm_entry.specs.declared.reply.Totals.{Totals}
 use Rattle.farm_entry.specs.declared.standing.Standing.{Standing}
 use Rattle.farm_wire.specs.Dates.{day_text}
-use Rattle.farm_wire.specs.Members.{Named, commit_value, culprit_in, standing_word, where_some, whole, wholes, with_member}
-use Rattle.farm_wire.specs.Pieces.{commit_piece, fate_name, number_piece}
-use Rattle.farm_wire.specs.Replies.{fate_word, page_data, reply_data, reply_of, stage_word, totals_data, verdict_word}
+use Rattle.farm_wire.specs.Members.{Named, commit_value, culprit_in, standing_word, where_any, where_some, whole, wholes, with_member}
+use Rattle.farm_wire.specs.Pieces.{commit_piece, fate_name, number_piece, numbers_piece}
+use Rattle.farm_wire.specs.Replies.{page_data, reply_data, reply_of, report_data, stage_word, totals_data}
 
 -- pieces put behind a text, one after the other
 abbrev pub put_behind : List ℕ → List (List ℕ) → List ℕ
@@ -54,8 +52,8 @@ pub joined-totals : (kind : List ℕ) (t : Totals) → joined (totals_pieces kin
 unfolding totals_data with_member escape_byte
 joined-totals kind t = refl
 
-abbrev pub page_pieces : SearchPage → (shares word test : List ℕ) → List (List ℕ)
-page_pieces page shares word test =
+abbrev pub page_pieces : SearchPage → (shares word test untestable : List ℕ) → List (List ℕ)
+page_pieces page shares word test untestable =
     (codes "{\"budget\":" ++ decimal page.budget)
     ∷ commit_piece (codes ",\"commit\":") page.commit
     ∷ (codes ",\"counted\":" ++ decimal page.counted)
@@ -66,6 +64,7 @@ page_pieces page shares word test =
     ∷ compact_text (wholes shares)
     ∷ (codes ",\"standing\":" ++ quoted word)
     ∷ (codes ",\"test\":" ++ quoted test)
+    ∷ numbers_piece (codes ",\"untestable\":") untestable
     ∷ (codes ",\"verified\":" ++ decimal page.verified)
     ∷ codes "}"
     ∷ []
@@ -74,8 +73,8 @@ page_pieces page shares word test =
 abbrev standing_at : List ℕ → Option ℕ → List Named
 standing_at word culprit = (codes "standing", string word) ∷ where_some (codes "culprit") whole culprit
 
-joined-page_at : (search budget leases counted verified : ℕ) (test word shares : List ℕ) (commit : Option CommitId)
-    (culprit : Option ℕ)
+joined-page_at : (search budget leases counted verified : ℕ) (test word shares untestable : List ℕ)
+    (commit : Option CommitId) (culprit : Option ℕ)
     → joined
     ((codes "{\"budget\":" ++ decimal budget)
     ∷ commit_piece (codes ",\"commit\":") commit
@@ -87,6 +86,7 @@ joined-page_at : (search budget leases counted verified : ℕ) (test word shares
     ∷ compact_text (wholes shares)
     ∷ (codes ",\"standing\":" ++ quoted word)
     ∷ (codes ",\"test\":" ++ quoted test)
+    ∷ numbers_piece (codes ",\"untestable\":") untestable
     ∷ (codes ",\"verified\":" ++ decimal verified)
     ∷ codes "}"
     ∷ [])
@@ -99,19 +99,25 @@ joined-page_at : (search budget leases counted verified : ℕ) (test word shares
     ∷ (codes "counted", whole counted)
     ∷ (codes "verified", whole verified)
     ∷ (codes "shares", wholes shares)
-    ∷ (where_some (codes "commit") commit_value commit ++ standing_at word culprit)))
+    ∷ (where_any (codes "untestable") untestable
+    ++ (where_some (codes "commit") commit_value commit ++ standing_at word culprit))))
 unfolding with_member escape_byte
-joined-page_at search budget leases counted verified test word shares None None = refl
-joined-page_at search budget leases counted verified test word shares None (Some culprit) = refl
-joined-page_at search budget leases counted verified test word shares (Some commit) None = refl
-joined-page_at search budget leases counted verified test word shares (Some commit) (Some culprit) = refl
+joined-page_at search budget leases counted verified test word shares [] None None = refl
+joined-page_at search budget leases counted verified test word shares [] None (Some culprit) = refl
+joined-page_at search budget leases counted verified test word shares [] (Some commit) None = refl
+joined-page_at search budget leases counted verified test word shares [] (Some commit) (Some culprit) = refl
+joined-page_at search budget leases counted verified test word shares (p ∷ more) None None = refl
+joined-page_at search budget leases counted verified test word shares (p ∷ more) None (Some culprit) = refl
+joined-page_at search budget leases counted verified test word shares (p ∷ more) (Some commit) None = refl
+joined-page_at search budget leases counted verified test word shares (p ∷ more) (Some commit) (Some culprit) = refl
 
 pub joined-page : (page : SearchPage)
-    → joined (page_pieces page page.shares (standing_word page.standing) page.test) ≡ compact_text (page_data page)
+    → joined (page_pieces page page.shares (standing_word page.standing) page.test page.untestable)
+    ≡ compact_text (page_data page)
 unfolding page_data
 joined-page page =
     joined-page_at page.search page.budget page.leases page.counted page.verified page.test
-    (standing_word page.standing) page.shares page.commit (culprit_in page.standing)
+    (standing_word page.standing) page.shares page.untestable page.commit (culprit_in page.standing)
 
 abbrev pub opened_pieces : ℕ → ℕ → Standing → (word : List ℕ) → List (List ℕ)
 opened_pieces search budget standing word =
@@ -193,14 +199,12 @@ unfolding with_member escape_byte
 joined-reported_at run search verdict fate word None = refl
 joined-reported_at run search verdict fate word (Some culprit) = refl
 
-pub joined-reported : (run search : ℕ) (verdict : Verdict) (fate : Fate) (standing : Standing)
+pub joined-reported : (run search : ℕ) (verdict fate : List ℕ) (standing : Standing)
     → joined
-    (reported_pieces run search standing (fate_name (culprit_in standing)) (fate_word fate) (standing_word standing)
-    (verdict_word verdict))
-    ≡ compact_text (reply_data (reply.Reported run search verdict fate standing))
-unfolding reply_data
+    (reported_pieces run search standing (fate_name (culprit_in standing)) fate (standing_word standing) verdict)
+    ≡ compact_text (report_data run search verdict fate standing)
 joined-reported run search verdict fate standing =
-    joined-reported_at run search (verdict_word verdict) (fate_word fate) (standing_word standing) (culprit_in standing)
+    joined-reported_at run search verdict fate (standing_word standing) (culprit_in standing)
 
 abbrev pub cancelled_pieces : ℕ → List (List ℕ)
 cancelled_pieces search =

@@ -10,8 +10,9 @@ use Rattle.farm_types.specs.declared.commit_id.CommitId.{CommitId}
 use Rattle.farm_types.specs.declared.key.Key.{Key}
 use Rattle.farm_types.specs.declared.moment.Moment.{Moment}
 use Rattle.suspect_range.specs.declared.suspect.Suspect.{Suspect}
-use Rattle.weight_exact.specs.declared.run.Verdict.{Verdict}
 use Rattle.weight_exact.specs.declared.run.Verdict.TheVariants.{Fail, Pass}
+use Rattle.farm_entry.specs.declared.command.Command.{Command}
+use Rattle.farm_entry.specs.declared.command.Command.TheVariants.{Report, Skip}
 use Rattle.farm_wire.specs.Made.{id_named, moment_at}
 use Rattle.farm_wire.specs.declared.verb.Verb.{Verb}
 use Rattle.farm_wire.specs.declared.verb.Verb.TheVariants as asks
@@ -53,15 +54,20 @@ name d = option_and_then (where_passed (λ text. is_none (name_fault text))) (as
 unfoldable pub commit : Data → Option CommitId
 commit d = option_and_then id_named (as_str d)
 
--- the verdict that a text names
-abbrev pub verdict_named : List ℕ → Option Verdict
-verdict_named text =
-    if bytes_eq text (codes "pass") then Some Pass
-    else if bytes_eq text (codes "fail") then Some Fail
+-- what stands for a verdict where a tree can't be tested
+abbrev pub skip_word : List ℕ
+skip_word = codes "skip"
+
+-- what a report of a run asks for, by the word of its verdict
+abbrev pub report_named : (run : ℕ) → List ℕ → Option Command
+report_named run text =
+    if bytes_eq text (codes "pass") then Some (Report run Pass)
+    else if bytes_eq text (codes "fail") then Some (Report run Fail)
+    else if bytes_eq text skip_word then Some (Skip run)
     else None
 
-unfoldable pub verdict : Data → Option Verdict
-verdict d = option_and_then verdict_named (as_str d)
+unfoldable pub report : (run : ℕ) → Data → Option Command
+report run d = option_and_then (report_named run) (as_str d)
 
 -- what a text asks for
 abbrev pub verb_named : List ℕ → Option Verb

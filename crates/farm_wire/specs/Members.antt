@@ -41,6 +41,11 @@ abbrev pub where_some : {X : Type 0} → List ℕ → (X → Data) → Option X 
 where_some name value None = []
 where_some name value (Some x) = (name, value x) ∷ []
 
+-- an array of whole numbers as a member, where it isn't empty
+abbrev pub where_any : List ℕ → List ℕ → List Named
+where_any name [] = []
+where_any name (n ∷ numbers) = (name, wholes (n ∷ numbers)) ∷ []
+
 -- where a search stands, in a word
 abbrev pub standing_word : Standing → List ℕ
 standing_word Searching = codes "searching"

@@ -2,16 +2,22 @@
 use Rattle.std.specs.Prelude.{ℕ, List, [], ◌∷◌, ◌++◌, codes, decimal, map, true, Option, Some, None}
 use Rattle.json.specs.Print.{quoted}
 use Rattle.serde_json.specs.View.{items_of}
-use Rattle.serde_json.specs.Written.{items_text}
+use Rattle.serde_json.specs.Written.{compact_text, items_text}
 use Rattle.farm_entry.specs.declared.order_page.OrderLine.{OrderLine}
 use Rattle.farm_types.specs.CommitId.{id_digits}
 use Rattle.farm_types.specs.declared.commit_id.CommitId.{CommitId}
+use Rattle.farm_wire.specs.Members.{wholes}
 use Rattle.farm_wire.specs.Replies.{order_data}
 
 -- a number behind a piece, where there is one
 abbrev pub number_piece : List ℕ → Option ℕ → List ℕ
 number_piece piece None = []
 number_piece piece (Some n) = piece ++ decimal n
+
+-- an array of numbers behind a piece, where it isn't empty
+abbrev pub numbers_piece : List ℕ → List ℕ → List ℕ
+numbers_piece piece [] = []
+numbers_piece piece (n ∷ numbers) = piece ++ compact_text (wholes (n ∷ numbers))
 
 -- the id of a commit between quotes behind a piece, where there is one
 abbrev pub commit_piece : List ℕ → Option CommitId → List ℕ

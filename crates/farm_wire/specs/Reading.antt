@@ -86,7 +86,7 @@ lease_in json =
 
 -- a report of a run that is known
 unfoldable pub report_in : (run : ℕ) → Data → Result Command WireFault
-report_in run json = and_then (field_in field.Verdict form.verdict json) (λ verdict. Ok (command.Report run verdict))
+report_in run json = field_in field.Verdict (form.report run) json
 
 -- the run of a report, and then the rest
 unfoldable pub report_line_in : Data → Result Command WireFault

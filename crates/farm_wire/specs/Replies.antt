@@ -7,16 +7,20 @@ use Rattle.weight_exact.specs.declared.run.Verdict.{Verdict}
 use Rattle.weight_exact.specs.declared.run.Verdict.TheVariants.{Fail, Pass}
 use Rattle.farm_entry.specs.declared.entry.Fate.{Fate}
 use Rattle.farm_entry.specs.declared.entry.Fate.TheVariants.{Counted, Late, Over}
+use Rattle.farm_entry.specs.declared.entry.SkipFate.{SkipFate}
+use Rattle.farm_entry.specs.declared.entry.SkipFate.TheVariants as skip
 use Rattle.farm_entry.specs.declared.order_page.OrderLine.{OrderLine}
 use Rattle.farm_entry.specs.declared.reply.Reply.{Reply}
 use Rattle.farm_entry.specs.declared.reply.Reply.TheVariants as reply
 use Rattle.farm_entry.specs.declared.reply.SearchPage.{SearchPage}
 use Rattle.farm_entry.specs.declared.reply.Totals.{Totals}
+use Rattle.farm_entry.specs.declared.standing.Standing.{Standing}
 use Rattle.farm_entry.specs.declared.standing.Standing.TheVariants.{Cancelled}
 use Rattle.hex.specs.Hex.{encode_lower}
 use Rattle.serde_json.specs.View.{items_of}
 use Rattle.farm_wire.specs.Dates.{day_text}
-use Rattle.farm_wire.specs.Members.{Named, commit_value, object_with, standing_members, where_some, whole, wholes}
+use Rattle.farm_wire.specs.Forms.{skip_word}
+use Rattle.farm_wire.specs.Members.{Named, commit_value, object_with, standing_members, where_any, where_some, whole, wholes}
 
 abbrev pub stage_word : Stage → List ℕ
 stage_word stage.Search = codes "search"
@@ -30,6 +34,10 @@ abbrev pub fate_word : Fate → List ℕ
 fate_word Counted = codes "counted"
 fate_word Late = codes "late"
 fate_word Over = codes "over"
+
+abbrev pub skip_fate_word : SkipFate → List ℕ
+skip_fate_word skip.Taken = codes "skipped"
+skip_fate_word skip.Late = codes "late"
 
 -- the members of a reply of a kind
 abbrev pub reply_of : List ℕ → List Named → Data
@@ -45,7 +53,8 @@ page_data page =
     ∷ (codes "counted", whole page.counted)
     ∷ (codes "verified", whole page.verified)
     ∷ (codes "shares", wholes page.shares)
-    ∷ (where_some (codes "commit") commit_value page.commit ++ standing_members page.standing))
+    ∷ (where_any (codes "untestable") page.untestable
+    ++ (where_some (codes "commit") commit_value page.commit ++ standing_members page.standing)))
 
 -- totals, as a reply of a kind
 unfoldable pub totals_data : List ℕ → Totals → Data
@@ -77,6 +86,16 @@ order_data line =
     ∷ (codes "date", string (day_text line.day))
     ∷ [])
 
+-- the reply to a report, with the words for its verdict and for what it did
+abbrev pub report_data : (run search : ℕ) → (verdict fate : List ℕ) → Standing → Data
+report_data run search verdict fate standing =
+    reply_of (codes "report")
+    ((codes "run", whole run)
+    ∷ (codes "search", whole search)
+    ∷ (codes "verdict", string verdict)
+    ∷ (codes "fate", string fate)
+    ∷ standing_members standing)
+
 unfoldable pub reply_data : Reply → Data
 reply_data (reply.Opened search budget standing) =
     reply_of (codes "open")
@@ -92,12 +111,8 @@ reply_data (reply.Leased run search stage position commit test deadline) =
     ∷ (codes "deadline", whole deadline)
     ∷ [])
 reply_data (reply.Reported run search verdict fate standing) =
-    reply_of (codes "report")
-    ((codes "run", whole run)
-    ∷ (codes "search", whole search)
-    ∷ (codes "verdict", string (verdict_word verdict))
-    ∷ (codes "fate", string (fate_word fate))
-    ∷ standing_members standing)
+    report_data run search (verdict_word verdict) (fate_word fate) standing
+reply_data (reply.Skipped run search fate standing) = report_data run search skip_word (skip_fate_word fate) standing
 reply_data (reply.Cancelled search) =
     reply_of (codes "cancel") ((codes "search", whole search) ∷ standing_members Cancelled)
 reply_data (reply.Ordered order commit search day) =

@@ -8,7 +8,7 @@ ghost use Rattle.farm_wire.specs.Reading.{cancel_in, cancel_line_in, command_in,
 ghost use Rattle.farm_wire.specs.Reading.{revert_in, search_in};
 
 use crate::fields::{
-    base_in, fraction_in, key_in, miss_in, name_in, ordinal_in, small_in, suspects_in, verdict_in,
+    base_in, fraction_in, key_in, miss_in, name_in, ordinal_in, reported_in, small_in, suspects_in,
 };
 use crate::limits::MAX_COMMAND_BYTES;
 use crate::verb::Verb;
@@ -200,8 +200,7 @@ fn lease_in(alloc: Global, object: &Document<'_>) -> Result<Command, WireFault>
 fn report_in(run: u32, object: &Document<'_>) -> Result<Command, WireFault>
     ensures { result ≡ report_in run (document_data object.now) }
 {
-    let verdict = verdict_in(object)?;
-    Ok(Command::Report { run, verdict })
+    reported_in(run, object)
 }
 
 #[tactic(auto, unfolding(crate::specs::Reading::report_line_in))]

@@ -5,15 +5,14 @@ ghost use Rattle.farm_wire.specs.Forms as form;
 ghost use Rattle.farm_wire.specs.Reading.{field_in, miss_in};
 ghost use Rattle.json_tape.specs.Views.{document_data};
 
-use crate::forms::{commit, fraction, key, moment, ordinal, small, verb, verdict};
+use crate::forms::{commit, fraction, key, moment, ordinal, report, small, verb};
 use crate::texts::{name, suspects};
 use crate::verb::Verb;
 use crate::{Field, WireFault};
-use farm_entry::Suspects;
+use farm_entry::{Command, Suspects};
 use farm_types::{CommitId, Key, Moment, Name};
 use json_tape::Document;
 use std::alloc::Global;
-use weight_exact::Verdict;
 
 #[tactic(auto, unfolding(crate::specs::Reading::field_in))]
 pub(crate) fn moment_in(object: &Document<'_>) -> Result<Moment, WireFault>
@@ -59,15 +58,16 @@ pub(crate) fn base_in(object: &Document<'_>) -> Result<CommitId, WireFault>
         .ok_or(WireFault::BadField(field))
 }
 
+/// What a report of this run asks for, by its verdict.
 #[tactic(auto, unfolding(crate::specs::Reading::field_in))]
-pub(crate) fn verdict_in(object: &Document<'_>) -> Result<Verdict, WireFault>
-    ensures { result ≡ field_in Field.Verdict form.verdict (document_data object.now) }
+pub(crate) fn reported_in(run: u32, object: &Document<'_>) -> Result<Command, WireFault>
+    ensures { result ≡ field_in Field.Verdict (form.report run) (document_data object.now) }
 {
     let field = Field::Verdict;
-    object
-        .get(field.name())
-        .and_then(verdict)
-        .ok_or(WireFault::BadField(field))
+    let Some(value) = object.get(field.name()) else {
+        return Err(WireFault::BadField(field));
+    };
+    report(run, value).ok_or(WireFault::BadField(field))
 }
 
 /// A whole number below 2^32.

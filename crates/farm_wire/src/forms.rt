@@ -6,6 +6,7 @@ ghost use Rattle.farm_wire.specs.Forms as form;
 ghost use Rattle.farm_wire.specs.Made as made;
 
 use crate::verb::Verb;
+use farm_entry::Command;
 use farm_types::{CommitId, Key, Moment};
 use json_tape::Parsed;
 use suspect_range::Suspect;
@@ -74,20 +75,27 @@ fn id_named(text: &str) -> Option<CommitId>
     CommitId::read(text).ok()
 }
 
-/// What a test said.
-#[tactic(auto, unfolding(crate::specs::Forms::verdict))]
-pub(crate) fn verdict(value: Parsed<'_, '_>) -> Option<Verdict>
-    ensures { result ≡ form.verdict (data_of value.entry) }
+/// What a report of a run asks for, by what it has for a verdict: `skip` says that the run's tree can't be tested.
+#[tactic(auto, unfolding(crate::specs::Forms::report))]
+pub(crate) fn report(run: u32, value: Parsed<'_, '_>) -> Option<Command>
+    ensures { result ≡ form.report run (data_of value.entry) }
 {
-    verdict_named(value.as_str()?)
+    report_named(run, value.as_str()?)
 }
 
-fn verdict_named(text: &str) -> Option<Verdict>
-    ensures { result ≡ form.verdict_named text.now }
+fn report_named(run: u32, text: &str) -> Option<Command>
+    ensures { result ≡ form.report_named run text.now }
 {
     match text {
-        "pass" => Some(Verdict::Pass),
-        "fail" => Some(Verdict::Fail),
+        "pass" => Some(Command::Report {
+            run,
+            verdict: Verdict::Pass,
+        }),
+        "fail" => Some(Command::Report {
+            run,
+            verdict: Verdict::Fail,
+        }),
+        "skip" => Some(Command::Skip { run }),
         _ => None,
     }
 }

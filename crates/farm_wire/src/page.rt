@@ -28,6 +28,7 @@ pub(crate) fn page_text(alloc: Global, room: String, page: &SearchPage) -> Resul
     out.put_numbers(page.shares.as_slice())?;
     out.put_text(",\"standing\":", standing_word(page.standing))?;
     out.put_text(",\"test\":", page.test.text())?;
+    out.put_positions(",\"untestable\":", page.untestable.as_slice())?;
     out.put_number(",\"verified\":", page.verified as u64)?;
     out.put("}")?;
     Ok(out.into_text())

@@ -4,16 +4,18 @@ ghost use Rattle.std.specs.Prelude.{◌≡◌, ◌≤◌, IfOk, codes, string_by
 ghost use Rattle.farm_types.specs.declared.moment.TheConstants.{LAST_DAY};
 ghost use Rattle.farm_laws.specs.Days.{HasDays};
 ghost use Rattle.serde_json.specs.Written.{compact_text};
+ghost use Rattle.farm_wire.specs.Forms.{skip_word};
 ghost use Rattle.farm_wire.specs.Members.{culprit_in};
 ghost use Rattle.farm_wire.specs.Pieces.{fate_name};
-ghost use Rattle.farm_wire.specs.Replies.{fate_word, log_data, reply_data, stage_word, totals_data, verdict_word};
+ghost use Rattle.farm_wire.specs.Replies.{fate_word, log_data, reply_data, report_data, skip_fate_word, stage_word};
+ghost use Rattle.farm_wire.specs.Replies.{totals_data, verdict_word};
 
 use crate::date::day_text;
 use crate::orders::orders_text;
 use crate::page::{log_object, page_text, totals_reply};
 use crate::standing::{culprit_in, standing_word};
 use crate::text::JsonText;
-use farm_entry::{DueRun, Fate, Reply, Standing, Totals};
+use farm_entry::{DueRun, Fate, Reply, SkipFate, Standing, Totals};
 use farm_types::{CommitId, Memory, Name, Stage};
 use std::alloc::Global;
 use weight_exact::Verdict;
@@ -60,6 +62,12 @@ pub fn reply_text_in(alloc: Global, room: String, reply: &Reply) -> Result<Strin
             fate,
             standing,
         } => reported(alloc, room, *run, *search, *verdict, *fate, *standing),
+        Reply::Skipped {
+            run,
+            search,
+            fate,
+            standing,
+        } => skipped(alloc, room, *run, *search, *fate, *standing),
         Reply::Cancelled { search } => cancelled(alloc, room, *search),
         Reply::Ordered {
             order,
@@ -133,6 +141,7 @@ fn leased(
 }
 
 /// The text of a run that was reported.
+#[tactic(auto, unfolding(crate::specs::Replies::reply_data))]
 fn reported(
     alloc: Global,
     room: String,
@@ -145,13 +154,47 @@ fn reported(
     ensures { IfOk result (λ text. string_bytes text
         ≡ compact_text (reply_data (Reply.Reported run search verdict fate standing))) }
 {
+    let said = verdict_word(verdict);
+    report_text(alloc, room, run, search, said, fate_word(fate), standing)
+}
+
+/// The text of a run that was reported as one whose tree can't be tested.
+#[tactic(auto, unfolding(crate::specs::Replies::reply_data))]
+fn skipped(
+    alloc: Global,
+    room: String,
+    run: u32,
+    search: u32,
+    fate: SkipFate,
+    standing: Standing,
+) -> Result<String, Memory>
+    ensures { IfOk result (λ text. string_bytes text
+        ≡ compact_text (reply_data (Reply.Skipped run search fate standing))) }
+{
+    let did = skip_fate_word(fate);
+    report_text(alloc, room, run, search, skip_word(), did, standing)
+}
+
+/// The text of a report, with the words for its verdict and for what it did.
+fn report_text(
+    alloc: Global,
+    room: String,
+    run: u32,
+    search: u32,
+    verdict: &str,
+    fate: &str,
+    standing: Standing,
+) -> Result<String, Memory>
+    ensures { IfOk result (λ text. string_bytes text
+        ≡ compact_text (report_data run search verdict.now fate.now standing)) }
+{
     let mut out = JsonText::within(alloc, room)?;
     out.put_culprit("{\"culprit\":", standing)?;
-    out.put_text(fate_name(standing), fate_word(fate))?;
+    out.put_text(fate_name(standing), fate)?;
     out.put_number(",\"reply\":\"report\",\"run\":", run as u64)?;
     out.put_number(",\"search\":", search as u64)?;
     out.put_text(",\"standing\":", standing_word(standing))?;
-    out.put_text(",\"verdict\":", verdict_word(verdict))?;
+    out.put_text(",\"verdict\":", verdict)?;
     out.put("}")?;
     Ok(out.into_text())
 }
@@ -225,5 +268,21 @@ fn fate_word(fate: Fate) -> &'static str
         Fate::Counted => "counted",
         Fate::Late => "late",
         Fate::Over => "over",
+    }
+}
+
+/// What stands for a verdict where a tree can't be tested.
+fn skip_word<'w>() -> &'w str
+    ensures { result.now ≡ skip_word }
+{
+    "skip"
+}
+
+fn skip_fate_word(fate: SkipFate) -> &'static str
+    ensures { result.now ≡ skip_fate_word fate }
+{
+    match fate {
+        SkipFate::Taken => "skipped",
+        SkipFate::Late => "late",
     }
 }

@@ -8,7 +8,7 @@ ghost use Rattle.serde_json.specs.View.{items_of};
 ghost use Rattle.serde_json.specs.Written.{compact_text, items_text};
 ghost use Rattle.farm_types.specs.CommitId.{id_digits};
 ghost use Rattle.farm_wire.specs.Members.{culprit_in, whole, wholes};
-ghost use Rattle.farm_wire.specs.Pieces.{behind_commas, commit_piece, number_piece};
+ghost use Rattle.farm_wire.specs.Pieces.{behind_commas, commit_piece, number_piece, numbers_piece};
 
 use crate::commas::{CHUNK, CHUNK_BYTES, write_behind_commas};
 use crate::standing::culprit_in;
@@ -145,6 +145,30 @@ impl JsonText {
             }
             None => self.put("[]"),
         }
+    }
+
+    /// Puts an array of positions behind a piece, where there is one.
+    pub(crate) fn put_positions(&mut self, piece: &str, positions: &[u16]) -> Result<(), Memory>
+        ensures { OnOk result (self.new ≡ self.old ++ numbers_piece piece.now positions.now) }
+    {
+        match positions.split_first() {
+            Some((first, more)) => {
+                self.put(piece)?;
+                self.put_number("[", *first as u64)?;
+                self.put_more_positions(more)
+            }
+            None => Ok(()),
+        }
+    }
+
+    /// Puts what an array of positions goes on with, behind its first.
+    fn put_more_positions(&mut self, positions: &[u16]) -> Result<(), Memory>
+        ensures { OnOk result (self.new ≡ self.old ++ items_text true (items_of (map whole positions.now))) }
+    {
+        for position in positions {
+            self.put_number(",", *position as u64)?;
+        }
+        self.put("]")
     }
 
     /// Puts what an array of whole numbers goes on with, behind its first.

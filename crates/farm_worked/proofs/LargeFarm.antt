@@ -1,16 +1,22 @@
 -- Each entry of the large farm comes next: what is long to compute is computed once.
-use Rattle.std.proofs.Common.{◌≡◌, ℕ, nat_lt, cond, List, [], ◌∷◌, ◌++◌, take, replicate, Option, Some, refl, ap, ◌∙◌}
+use Rattle.std.proofs.Common.{◌≡◌, ℕ, ◌<◌, ◌≤◌, nat_lt, cond, List, [], ◌∷◌, ◌++◌, take, replicate, Option, Some, None, refl, ap, ◌∙◌}
 use Rattle.std.specs.List.{cons_option, filter_map}
+use Rattle.std.proofs.Math.Facts.{leb_yes}
 use Rattle.std.specs.Option.{option_map}
 use Rattle.farm_types.specs.Moment.{moment_ms}
 use Rattle.farm_types.specs.declared.moment.Moment.{Moment}
 use Rattle.farm_types.specs.declared.stage.Stage.TheVariants.{Search}
 use Rattle.farm_rules.specs.Due.{due_search}
+use Rattle.open_positions.proofs.Blocks.{is_hidden-nothing_skipped}
+use Rattle.open_positions.proofs.Plans.{open_plan-nothing_skipped}
+use Rattle.open_positions.specs.Open.{open_plan}
 use Rattle.weight_exact.specs.Budget.{budget_of}
 use Rattle.weight_exact.specs.Example.{fail_at}
-use Rattle.weight_exact.specs.Load.{load}
+use Rattle.weight_exact.specs.Load.{floor, load}
 use Rattle.weight_exact.specs.Plan.{plan}
 use Rattle.weight_exact.specs.Share.{reached}
+use Rattle.weight_exact.specs.Weights.{suspects, total}
+use Rattle.weight_exact.specs.declared.run.Run.{Run}
 use Rattle.weight_exact.specs.declared.run.Verdict.TheVariants.{Fail}
 use Rattle.farm_entry.specs.declared.decision.Decision.TheVariants.{New}
 use Rattle.farm_entry.specs.declared.lease.DueRun.{DueRun}
@@ -21,7 +27,7 @@ use Rattle.farm_worked.specs.Example.{failed_at_last, large_farm, large_opening,
 use Rattle.farm_entry.specs.History.{openings, runs}
 use Rattle.farm_entry.specs.Legal.{IsLegal, IsNext}
 use Rattle.farm_entry.specs.Setup.{budget_of_search, setup_of}
-use Rattle.farm_entry.specs.Standing.{standing, standing_of_reached}
+use Rattle.farm_entry.specs.Standing.{standing, standing_of_hidden, standing_of_reached}
 use Rattle.farm_entry.specs.declared.entry.Entry.{Entry}
 use Rattle.farm_entry.specs.declared.entry.Fate.{Fate}
 use Rattle.farm_entry.specs.declared.entry.Fate.TheVariants.{Counted, Over}
@@ -36,52 +42,139 @@ pub large-budget : budget_of_search large_opening ≡ 8
 unfolding budget_of thousand_suspects
 large-budget = refl
 
-first_plan : plan (setup_of large_opening) [] 1 ≡ 508 ∷ []
+-- with nothing skipped the plan is that of all positions
+no_floor : floor (setup_of large_opening).factors [] < suspects (setup_of large_opening)
 unfolding thousand_suspects
-first_plan = refl
+no_floor = leb_yes tt
 
-searching-0 : standing_of_reached large_opening [] (reached (setup_of large_opening) (replicate 0 (fail_at 508))) ≡ Searching
+all_positions : plan (setup_of large_opening) [] 1 ≡ 508 ∷ []
 unfolding thousand_suspects
-searching-0 = refl
+all_positions = refl
 
-searching-1 : standing_of_reached large_opening [] (reached (setup_of large_opening) (replicate 1 (fail_at 508))) ≡ Searching
-unfolding thousand_suspects
-searching-1 = refl
+first_plan : open_plan (setup_of large_opening) [] [] 1 ≡ 508 ∷ []
+first_plan = open_plan-nothing_skipped (setup_of large_opening) [] 1 no_floor ∙ all_positions
 
-searching-2 : standing_of_reached large_opening [] (reached (setup_of large_opening) (replicate 2 (fail_at 508))) ≡ Searching
-unfolding thousand_suspects
-searching-2 = refl
+-- where no hypothesis is at the bar and nothing was skipped, the search goes on
+searching-of : (past : List Run) → 1 ≤ total (setup_of large_opening) past → reached (setup_of large_opening) past ≡ None →
+    standing_of_reached large_opening past [] [] (reached (setup_of large_opening) past) ≡ Searching
+searching-of past some none =
+    ap (standing_of_reached large_opening past [] []) none
+    ∙ ap standing_of_hidden (is_hidden-nothing_skipped (setup_of large_opening) past some none)
 
-searching-3 : standing_of_reached large_opening [] (reached (setup_of large_opening) (replicate 3 (fail_at 508))) ≡ Searching
+some-0 : 1 ≤ total (setup_of large_opening) (replicate 0 (fail_at 508))
 unfolding thousand_suspects
-searching-3 = refl
+some-0 = leb_yes tt
 
-searching-4 : standing_of_reached large_opening [] (reached (setup_of large_opening) (replicate 4 (fail_at 508))) ≡ Searching
+none-0 : reached (setup_of large_opening) (replicate 0 (fail_at 508)) ≡ None
 unfolding thousand_suspects
-searching-4 = refl
+none-0 = refl
 
-searching-5 : standing_of_reached large_opening [] (reached (setup_of large_opening) (replicate 5 (fail_at 508))) ≡ Searching
-unfolding thousand_suspects
-searching-5 = refl
+searching-0 : standing_of_reached large_opening (replicate 0 (fail_at 508)) [] []
+    (reached (setup_of large_opening) (replicate 0 (fail_at 508))) ≡ Searching
+searching-0 = searching-of (replicate 0 (fail_at 508)) some-0 none-0
 
-searching-6 : standing_of_reached large_opening [] (reached (setup_of large_opening) (replicate 6 (fail_at 508))) ≡ Searching
+some-1 : 1 ≤ total (setup_of large_opening) (replicate 1 (fail_at 508))
 unfolding thousand_suspects
-searching-6 = refl
+some-1 = leb_yes tt
 
-searching-7 : standing_of_reached large_opening [] (reached (setup_of large_opening) (replicate 7 (fail_at 508))) ≡ Searching
+none-1 : reached (setup_of large_opening) (replicate 1 (fail_at 508)) ≡ None
 unfolding thousand_suspects
-searching-7 = refl
+none-1 = refl
 
-pub searching-8 : standing_of_reached large_opening [] (reached (setup_of large_opening) (replicate 8 (fail_at 508))) ≡ Searching
+searching-1 : standing_of_reached large_opening (replicate 1 (fail_at 508)) [] []
+    (reached (setup_of large_opening) (replicate 1 (fail_at 508))) ≡ Searching
+searching-1 = searching-of (replicate 1 (fail_at 508)) some-1 none-1
+
+some-2 : 1 ≤ total (setup_of large_opening) (replicate 2 (fail_at 508))
 unfolding thousand_suspects
-searching-8 = refl
+some-2 = leb_yes tt
+
+none-2 : reached (setup_of large_opening) (replicate 2 (fail_at 508)) ≡ None
+unfolding thousand_suspects
+none-2 = refl
+
+searching-2 : standing_of_reached large_opening (replicate 2 (fail_at 508)) [] []
+    (reached (setup_of large_opening) (replicate 2 (fail_at 508))) ≡ Searching
+searching-2 = searching-of (replicate 2 (fail_at 508)) some-2 none-2
+
+some-3 : 1 ≤ total (setup_of large_opening) (replicate 3 (fail_at 508))
+unfolding thousand_suspects
+some-3 = leb_yes tt
+
+none-3 : reached (setup_of large_opening) (replicate 3 (fail_at 508)) ≡ None
+unfolding thousand_suspects
+none-3 = refl
+
+searching-3 : standing_of_reached large_opening (replicate 3 (fail_at 508)) [] []
+    (reached (setup_of large_opening) (replicate 3 (fail_at 508))) ≡ Searching
+searching-3 = searching-of (replicate 3 (fail_at 508)) some-3 none-3
+
+some-4 : 1 ≤ total (setup_of large_opening) (replicate 4 (fail_at 508))
+unfolding thousand_suspects
+some-4 = leb_yes tt
+
+none-4 : reached (setup_of large_opening) (replicate 4 (fail_at 508)) ≡ None
+unfolding thousand_suspects
+none-4 = refl
+
+searching-4 : standing_of_reached large_opening (replicate 4 (fail_at 508)) [] []
+    (reached (setup_of large_opening) (replicate 4 (fail_at 508))) ≡ Searching
+searching-4 = searching-of (replicate 4 (fail_at 508)) some-4 none-4
+
+some-5 : 1 ≤ total (setup_of large_opening) (replicate 5 (fail_at 508))
+unfolding thousand_suspects
+some-5 = leb_yes tt
+
+none-5 : reached (setup_of large_opening) (replicate 5 (fail_at 508)) ≡ None
+unfolding thousand_suspects
+none-5 = refl
+
+searching-5 : standing_of_reached large_opening (replicate 5 (fail_at 508)) [] []
+    (reached (setup_of large_opening) (replicate 5 (fail_at 508))) ≡ Searching
+searching-5 = searching-of (replicate 5 (fail_at 508)) some-5 none-5
+
+some-6 : 1 ≤ total (setup_of large_opening) (replicate 6 (fail_at 508))
+unfolding thousand_suspects
+some-6 = leb_yes tt
+
+none-6 : reached (setup_of large_opening) (replicate 6 (fail_at 508)) ≡ None
+unfolding thousand_suspects
+none-6 = refl
+
+searching-6 : standing_of_reached large_opening (replicate 6 (fail_at 508)) [] []
+    (reached (setup_of large_opening) (replicate 6 (fail_at 508))) ≡ Searching
+searching-6 = searching-of (replicate 6 (fail_at 508)) some-6 none-6
+
+some-7 : 1 ≤ total (setup_of large_opening) (replicate 7 (fail_at 508))
+unfolding thousand_suspects
+some-7 = leb_yes tt
+
+none-7 : reached (setup_of large_opening) (replicate 7 (fail_at 508)) ≡ None
+unfolding thousand_suspects
+none-7 = refl
+
+searching-7 : standing_of_reached large_opening (replicate 7 (fail_at 508)) [] []
+    (reached (setup_of large_opening) (replicate 7 (fail_at 508))) ≡ Searching
+searching-7 = searching-of (replicate 7 (fail_at 508)) some-7 none-7
+
+some-8 : 1 ≤ total (setup_of large_opening) (replicate 8 (fail_at 508))
+unfolding thousand_suspects
+some-8 = leb_yes tt
+
+none-8 : reached (setup_of large_opening) (replicate 8 (fail_at 508)) ≡ None
+unfolding thousand_suspects
+none-8 = refl
+
+pub searching-8 : standing_of_reached large_opening (replicate 8 (fail_at 508)) [] []
+    (reached (setup_of large_opening) (replicate 8 (fail_at 508))) ≡ Searching
+searching-8 = searching-of (replicate 8 (fail_at 508)) some-8 none-8
 
 -- The leases.
 
 abbrev the_run : DueRun
 the_run = record { search = 1; stage = Search; position = 508 }
 
-due-0 : due_search (plan (setup_of large_opening) [] 1) [] ≡ Some 508
+due-0 : due_search (open_plan (setup_of large_opening) [] [] 1) [] ≡ Some 508
 due-0 = ap (λ (entries : List ℕ). due_search entries []) first_plan
 
 due-is : (H : List Entry) (moment : ℕ) → standing H large_opening ≡ Searching →

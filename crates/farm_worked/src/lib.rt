@@ -1,9 +1,11 @@
 //! Farms that are played by evaluating the definitions of `farm_entry`: numbers that were worked out by hand, and that
 //! the definitions compute. Each law is the contract of a call that does nothing.
 //!
-//! `specs/Example` has the farms, `proofs/LargeFarm` and `proofs/Thousand` what is shown of the one with a thousand
+//! `specs/Example` has the farms, `specs/Untestable` those on which trees can't be tested, `proofs/LargeFarm` and `proofs/Thousand` what is shown of the one with a thousand
 //! suspects, which is too large to be played whole. Nothing stands on this crate.
 #![tactic(auto)]
+
+pub mod skips;
 
 ghost use Rattle.std.specs.Prelude.{◌≡◌, true, false, List, ◌∷◌, [], ◌++◌, map, take, replicate, Ok, Some, None};
 ghost use Rattle.farm_types.specs.declared.stage.Stage.TheVariants.{Search, Verify};
@@ -67,6 +69,7 @@ pub fn worked_search()
       standing = Searching;
       commit = None;
       shares = 0 ∷ 7692 ∷ 769 ∷ 769 ∷ 769 ∷ [];
+      untestable = [];
     } }
     ensures page_after_three { page_of (take 8 confirmed_farm) (opening_for 4 1 1) ≡ record {
       search = 1;
@@ -78,6 +81,7 @@ pub fn worked_search()
       standing = Verifying 2;
       commit = Some (the_commit 2);
       shares = 0 ∷ 9708 ∷ 97 ∷ 97 ∷ 97 ∷ [];
+      untestable = [];
     } }
     ensures all_replies { replies confirmed_farm ≡
         None
@@ -121,6 +125,7 @@ pub fn worked_vindication()
       standing = Vindicated 2;
       commit = Some (the_commit 2);
       shares = 0 ∷ 9708 ∷ 97 ∷ 97 ∷ 97 ∷ [];
+      untestable = [];
     } }
     ensures no_order { decide vindicated_farm (revert_with 7) at_first ≡ Refuse NoRevert }
     ensures counts { totals vindicated_farm ≡ record {

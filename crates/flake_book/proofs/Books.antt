@@ -9,20 +9,20 @@ use Rattle.farm_types.specs.declared.stage.Stage.{Stage}
 use Rattle.farm_types.specs.declared.stage.Stage.TheVariants.{Search, Verify}
 use Rattle.weight_exact.specs.declared.run.Run.{Run}
 use Rattle.farm_entry.specs.Decision.{run_with}
-use Rattle.farm_entry.specs.History.{all_leases, cancelled_in, is_counted, lease_in, lease_of, opening_in, opening_numbered, report_in}
+use Rattle.farm_entry.specs.History.{all_leases, cancelled_in, is_counted, lease_in, lease_of, opening_in, opening_numbered, report_in, told_in}
 use Rattle.farm_entry.specs.Legal.{IsFounding, IsLegal}
 use Rattle.farm_entry.specs.Standing.{standing}
 use Rattle.farm_entry.specs.declared.entry.Entry.{Entry}
 use Rattle.farm_entry.specs.declared.entry.What.{What}
-use Rattle.farm_entry.specs.declared.entry.What.TheVariants.{Founded, Opened, Leased, Reported, Cancelled, Ordered}
+use Rattle.farm_entry.specs.declared.entry.What.TheVariants.{Founded, Opened, Leased, Reported, Skipped, Cancelled, Ordered}
 use Rattle.farm_entry.specs.declared.lease.LeasedRun.{LeasedRun}
 use Rattle.farm_entry.specs.declared.lease.ReportedRun.{ReportedRun}
 use Rattle.farm_entry.specs.declared.opening.Opening.{Opening}
 use Rattle.farm_entry.specs.declared.standing.Standing.{Standing}
 use Rattle.farm_entry.proofs.Growing.{all_leases-grow}
-use Rattle.farm_laws.proofs.EntryParts.{cancelled-facts, reported-facts}
+use Rattle.farm_laws.proofs.EntryParts.{cancelled-facts, report-told, told-facts}
 use Rattle.farm_laws.proofs.Known.{leases-known}
-use Rattle.farm_laws.proofs.Numbered.{lease-there, no_lease, no_opening, no_report}
+use Rattle.farm_laws.proofs.Numbered.{lease-there, no_lease, no_opening, no_told}
 use Rattle.std.proofs.lemmas.List.Elements.{All-contains}
 use Rattle.farm_laws.specs.Openings.{HasOpening}
 use Rattle.search_state.proofs.Reclosed.{reverse-told}
@@ -30,7 +30,7 @@ use Rattle.flake_book.specs.BookInside.{AreKept}
 use Rattle.flake_book.specs.Listed.{IsListed, is_among, tells_at, tells_of}
 use Rattle.flake_book.specs.Noted.{Noted, noted_at, noted_of, started, with_run}
 use Rattle.flake_book.specs.Tally.{StandsAfter, tells}
-use Rattle.flake_book.proofs.Searches.{IsEnded, IsReported, cancelled-after, cancelled-noted, cancelled-stands, counted-noted, lease-place, legal-before, opened-noted, quiet-leases, quiet-noted, search-place, stands-reported, steps, told-stays, uncounted-noted}
+use Rattle.flake_book.proofs.Searches.{IsEnded, IsTold, cancelled-after, cancelled-noted, cancelled-stands, counted-noted, lease-place, legal-before, opened-noted, quiet-leases, quiet-noted, search-place, stands-told, steps, told-stays, uncounted-noted}
 use Rattle.flake_book.proofs.Sets.{and-grows, any-push, any-set, get_or-any}
 
 -- An entry of another kind than a founding.
@@ -41,24 +41,26 @@ opening-later w o is first = none-some o (sym (no_opening w first) ∙ is)
 lease-later : (w : What) (l : LeasedRun) → lease_in w ≡ Some l → IsFounding w → ⊥
 lease-later w l is first = none-some l (sym (no_lease w first) ∙ is)
 
-report-later : (w : What) (r : ReportedRun) → report_in w ≡ Some r → IsFounding w → ⊥
-report-later w r is first = none-some r (sym (no_report w first) ∙ is)
+told-later : (w : What) (run : ℕ) → told_in w ≡ Some run → IsFounding w → ⊥
+told-later w run is first = none-some run (sym (no_told w first) ∙ is)
 
 cancel-later : (w : What) (q : ℕ) → cancelled_in w ≡ Some q → IsFounding w → ⊥
 cancel-later (Founded x) q is first = none-some q is
 cancel-later (Opened o) q is first = first
 cancel-later (Leased k w n x t p d) q is first = first
 cancel-later (Reported run v _) q is first = first
+cancel-later (Skipped run _) q is first = first
 cancel-later (Cancelled k x) q is first = first
 cancel-later (Ordered k a n c x d) q is first = first
 
 -- the parts that an entry of one kind lacks
 lease-no_opening : (w : What) (l : LeasedRun) → lease_in w ≡ Some l →
-    (opening_in w ≡ None) × (report_in w ≡ None) × (cancelled_in w ≡ None)
+    (opening_in w ≡ None) × (told_in w ≡ None) × (cancelled_in w ≡ None)
 lease-no_opening (Leased k w n x t p d) l is = (refl, refl, refl)
 lease-no_opening (Founded x) l is = absurd (none-some l is)
 lease-no_opening (Opened o) l is = absurd (none-some l is)
 lease-no_opening (Reported run v _) l is = absurd (none-some l is)
+lease-no_opening (Skipped run _) l is = absurd (none-some l is)
 lease-no_opening (Cancelled k x) l is = absurd (none-some l is)
 lease-no_opening (Ordered k a n c x d) l is = absurd (none-some l is)
 
@@ -67,16 +69,18 @@ opening-no_lease (Opened x) o is = refl
 opening-no_lease (Founded x) o is = absurd (none-some o is)
 opening-no_lease (Leased k w n x t p d) o is = absurd (none-some o is)
 opening-no_lease (Reported run v _) o is = absurd (none-some o is)
+opening-no_lease (Skipped run _) o is = absurd (none-some o is)
 opening-no_lease (Cancelled k x) o is = absurd (none-some o is)
 opening-no_lease (Ordered k a n c x d) o is = absurd (none-some o is)
 
-report-no_lease : (w : What) (r : ReportedRun) → report_in w ≡ Some r → lease_in w ≡ None
-report-no_lease (Reported run v _) r is = refl
-report-no_lease (Founded x) r is = absurd (none-some r is)
-report-no_lease (Opened o) r is = absurd (none-some r is)
-report-no_lease (Leased k w n x t p d) r is = absurd (none-some r is)
-report-no_lease (Cancelled k x) r is = absurd (none-some r is)
-report-no_lease (Ordered k a n c x d) r is = absurd (none-some r is)
+told-no_lease : (w : What) (run : ℕ) → told_in w ≡ Some run → lease_in w ≡ None
+told-no_lease (Reported x v _) run is = refl
+told-no_lease (Skipped x _) run is = refl
+told-no_lease (Founded x) run is = absurd (none-some run is)
+told-no_lease (Opened o) run is = absurd (none-some run is)
+told-no_lease (Leased k w n x t p d) run is = absurd (none-some run is)
+told-no_lease (Cancelled k x) run is = absurd (none-some run is)
+told-no_lease (Ordered k a n c x d) run is = absurd (none-some run is)
 
 cancel-no_lease : (w : What) (q : ℕ) → cancelled_in w ≡ Some q → lease_in w ≡ None
 cancel-no_lease (Cancelled k x) q is = refl
@@ -84,6 +88,7 @@ cancel-no_lease (Founded x) q is = absurd (none-some q is)
 cancel-no_lease (Opened o) q is = absurd (none-some q is)
 cancel-no_lease (Leased k w n x t p d) q is = absurd (none-some q is)
 cancel-no_lease (Reported run v _) q is = absurd (none-some q is)
+cancel-no_lease (Skipped run _) q is = absurd (none-some q is)
 cancel-no_lease (Ordered k a n c x d) q is = absurd (none-some q is)
 
 -- What is kept of a history, said of the list that was told, the newest first.
@@ -127,12 +132,12 @@ kept-leased H ls ns ts e l kept longer is =
 
 -- Another entry.
 pub kept-quiet : (H : List Entry) (ls : List LeasedRun) (ns : List Noted) (ts : List (List ℕ)) (e : Entry) →
-    AreKept H ls ns ts → IsLegal (H ++ e ∷ []) → opening_in e.what ≡ None → lease_in e.what ≡ None → report_in e.what ≡ None →
+    AreKept H ls ns ts → IsLegal (H ++ e ∷ []) → opening_in e.what ≡ None → lease_in e.what ≡ None → told_in e.what ≡ None →
     cancelled_in e.what ≡ None → AreKept (H ++ e ∷ []) ls ns ts
-kept-quiet H ls ns ts e kept longer opens leases reports cancels = record {
+kept-quiet H ls ns ts e kept longer opens leases told cancels = record {
   legal = inr longer;
   leases_are = kept.leases_are ∙ sym (quiet-leases H e leases);
-  searches_are = kept.searches_are ∙ sym (quiet-noted H e kept.legal longer opens reports cancels);
+  searches_are = kept.searches_are ∙ sym (quiet-noted H e kept.legal longer opens told cancels);
   tests_are = kept.tests_are;
 }
 
@@ -146,27 +151,27 @@ pub record HasLease (H : List Entry) (ls : List LeasedRun) (run : ℕ) : Type 0 
   pub high : run - 1 < length ls
   pub at : get_or ls (run - 1) lease ≡ lease
 
-pub report-place : (H : List Entry) (ls : List LeasedRun) (ns : List Noted) (ts : List (List ℕ)) (e : Entry) (r : ReportedRun) →
-    AreKept H ls ns ts → IsLegal (H ++ e ∷ []) → report_in e.what ≡ Some r → HasLease H ls r.run
-report-place H ls ns ts e r kept longer is =
-    let legal = legal-before H e longer (report-later e.what r is) in
-    let facts = reported-facts H e.at e.what r is (steps H e legal longer) in
-    let place = lease-place H facts.lease r.run legal facts.known in
+pub told-place : (H : List Entry) (ls : List LeasedRun) (ns : List Noted) (ts : List (List ℕ)) (e : Entry) (run : ℕ) →
+    AreKept H ls ns ts → IsLegal (H ++ e ∷ []) → told_in e.what ≡ Some run → HasLease H ls run
+told-place H ls ns ts e run kept longer is =
+    let legal = legal-before H e longer (told-later e.what run is) in
+    let facts = told-facts H e.at e.what run is (steps H e legal longer) in
+    let place = lease-place H facts.lease run legal facts.known in
     record {
       lease = facts.lease;
       known = facts.known;
       low = place.0;
       high = omega (arith, place.1, ap length kept.leases_are);
-      at = ap (λ (xs : List LeasedRun). get_or xs (r.run - 1) facts.lease) kept.leases_are ∙ place.2;
+      at = ap (λ (xs : List LeasedRun). get_or xs (run - 1) facts.lease) kept.leases_are ∙ place.2;
     }
 
 -- what stands at that place is the lease
-pub report-lease : (H : List Entry) (ls : List LeasedRun) (ns : List Noted) (ts : List (List ℕ)) (e : Entry) (r : ReportedRun)
-    (x : LeasedRun) → AreKept H ls ns ts → IsLegal (H ++ e ∷ []) → report_in e.what ≡ Some r → x ≡ get_or ls (r.run - 1) x →
-    lease_of H r.run ≡ Some x
-report-lease H ls ns ts e r x kept longer is at =
-    let place = report-place H ls ns ts e r kept longer is in
-    place.known ∙ ap Some (sym (at ∙ get_or-any ls (r.run - 1) x place.lease place.high ∙ place.at))
+pub told-lease : (H : List Entry) (ls : List LeasedRun) (ns : List Noted) (ts : List (List ℕ)) (e : Entry) (run : ℕ)
+    (x : LeasedRun) → AreKept H ls ns ts → IsLegal (H ++ e ∷ []) → told_in e.what ≡ Some run →
+    x ≡ get_or ls (run - 1) x → lease_of H run ≡ Some x
+told-lease H ls ns ts e run x kept longer is at =
+    let place = told-place H ls ns ts e run kept longer is in
+    place.known ∙ ap Some (sym (at ∙ get_or-any ls (run - 1) x place.lease place.high ∙ place.at))
 
 -- the search of a reported run
 pub record HasSearch (H : List Entry) (ns : List Noted) (e : Entry) (search : ℕ) : Type 0 where
@@ -194,23 +199,37 @@ has-search H ls ns ts e search o kept legal numbered =
           ∙ place.2;
     }
 
+told-opening : (H : List Entry) (run : ℕ) (l : LeasedRun) → IsLegal H → lease_of H run ≡ Some l → HasOpening H l.search
+told-opening H run l legal known =
+    All-contains (λ (x : LeasedRun). HasOpening H x.search) (all_leases H) l (leases-known H legal)
+    (lease-there H run l known).0
+
+pub told-search : (H : List Entry) (ls : List LeasedRun) (ns : List Noted) (ts : List (List ℕ)) (e : Entry) (run : ℕ)
+    (l : LeasedRun) → AreKept H ls ns ts → IsLegal (H ++ e ∷ []) → told_in e.what ≡ Some run → lease_of H run ≡ Some l →
+    HasSearch H ns e l.search
+told-search H ls ns ts e run l kept longer is known =
+    let legal = legal-before H e longer (told-later e.what run is) in
+    let has = told-opening H run l legal known in
+    has-search H ls ns ts e l.search has.0 kept legal has.1
+
+-- and its number is one at least, whatever is kept
+pub told-low : (H : List Entry) (e : Entry) (run : ℕ) (l : LeasedRun) → IsLegal (H ++ e ∷ []) → told_in e.what ≡ Some run →
+    lease_of H run ≡ Some l → 1 ≤ l.search
+told-low H e run l longer is known =
+    let legal = legal-before H e longer (told-later e.what run is) in
+    let has = told-opening H run l legal known in
+    (search-place H has.0 l.search legal has.1).0
+
+-- the same of a report with a verdict
 pub report-search : (H : List Entry) (ls : List LeasedRun) (ns : List Noted) (ts : List (List ℕ)) (e : Entry) (r : ReportedRun)
     (l : LeasedRun) → AreKept H ls ns ts → IsLegal (H ++ e ∷ []) → report_in e.what ≡ Some r → lease_of H r.run ≡ Some l →
     HasSearch H ns e l.search
 report-search H ls ns ts e r l kept longer is known =
-    let legal = legal-before H e longer (report-later e.what r is) in
-    let has : HasOpening H l.search =
-    All-contains (λ (x : LeasedRun). HasOpening H x.search) (all_leases H) l (leases-known H legal) (lease-there H r.run l known).0 in
-    has-search H ls ns ts e l.search has.0 kept legal has.1
+    told-search H ls ns ts e r.run l kept longer (report-told e.what r is) known
 
--- and its number is one at least, whatever is kept
 pub report-low : (H : List Entry) (e : Entry) (r : ReportedRun) (l : LeasedRun) → IsLegal (H ++ e ∷ []) → report_in e.what ≡ Some r →
     lease_of H r.run ≡ Some l → 1 ≤ l.search
-report-low H e r l longer is known =
-    let legal = legal-before H e longer (report-later e.what r is) in
-    let has : HasOpening H l.search =
-    All-contains (λ (x : LeasedRun). HasOpening H x.search) (all_leases H) l (leases-known H legal) (lease-there H r.run l known).0 in
-    (search-place H has.0 l.search legal has.1).0
+report-low H e r l longer is known = told-low H e r.run l longer (report-told e.what r is) known
 
 pub cancel-search : (H : List Entry) (ls : List LeasedRun) (ns : List Noted) (ts : List (List ℕ)) (e : Entry) (q : ℕ) →
     AreKept H ls ns ts → IsLegal (H ++ e ∷ []) → cancelled_in e.what ≡ Some q → HasSearch H ns e q
@@ -242,46 +261,48 @@ pub kept-counted : (H : List Entry) (ls : List LeasedRun) (ns : List Noted) (ts 
     IsListed ts after x.test s →
     AreKept (H ++ e ∷ []) ls (set ns (l.search - 1) (noted_at s (with_run x l.stage (run_with l r.verdict)))) after
 kept-counted H ls ns ts after e r l s x kept longer is known stands counts at listed =
-    let has = report-search H ls ns ts e r l kept longer is known in
+    let told = report-told e.what r is in
+    let has = told-search H ls ns ts e r.run l kept longer told known in
     let o : Opening = has.opening in
-    let it : IsReported H e r l o s =
-    record { legal = has.legal; longer = longer; reports = is; known = known; numbered = has.numbered; stands = stands } in
+    let it : IsTold H e r.run l o s =
+    record { legal = has.legal; longer = longer; tells = told; known = known; numbered = has.numbered; stands = stands } in
     let here : x ≡ noted_of H o = at ∙ has.is x in
     let y : Noted = noted_at s (with_run x l.stage (run_with l r.verdict)) in
     record {
       legal = inr longer;
-      leases_are = kept.leases_are ∙ sym (quiet-leases H e (report-no_lease e.what r is));
+      leases_are = kept.leases_are ∙ sym (quiet-leases H e (told-no_lease e.what r.run told));
       searches_are =
           (λ i. set (kept.searches_are i) (l.search - 1) (noted_at s (with_run (here i) l.stage (run_with l r.verdict))))
-          ∙ sym (counted-noted H e r l o s it counts);
+          ∙ sym (counted-noted H e r l o s it is counts);
       tests_are =
           set-listed H ns ts after e (l.search - 1) x y s kept.tests_are has.high (sym at)
           (with_run-test x l.stage (run_with l r.verdict)) refl
-          (λ told. told-stays H e o l.search s longer has.numbered (stands-reported H e r l o s it)
-          (ap (λ (n : Noted). tells n.standing) (sym here) ∙ told))
+          (λ before. told-stays H e o l.search s longer has.numbered (stands-told H e r.run l o s it)
+          (ap (λ (n : Noted). tells n.standing) (sym here) ∙ before))
           listed;
     }
 
-pub kept-uncounted : (H : List Entry) (ls : List LeasedRun) (ns : List Noted) (ts after : List (List ℕ)) (e : Entry) (r : ReportedRun)
-    (l : LeasedRun) (s : Standing) (x : Noted) → AreKept H ls ns ts → IsLegal (H ++ e ∷ []) → report_in e.what ≡ Some r →
-    lease_of H r.run ≡ Some l → StandsAfter H e s → is_counted r.fate ≡ false → x ≡ get_or ns (l.search - 1) x →
+pub kept-uncounted : (H : List Entry) (ls : List LeasedRun) (ns : List Noted) (ts after : List (List ℕ)) (e : Entry) (run : ℕ)
+    (l : LeasedRun) (s : Standing) (x : Noted) → AreKept H ls ns ts → IsLegal (H ++ e ∷ []) → told_in e.what ≡ Some run →
+    lease_of H run ≡ Some l → StandsAfter H e s →
+    ((r : ReportedRun) → report_in e.what ≡ Some r → is_counted r.fate ≡ false) → x ≡ get_or ns (l.search - 1) x →
     IsListed ts after x.test s → AreKept (H ++ e ∷ []) ls (set ns (l.search - 1) (noted_at s x)) after
-kept-uncounted H ls ns ts after e r l s x kept longer is known stands counts at listed =
-    let has = report-search H ls ns ts e r l kept longer is known in
+kept-uncounted H ls ns ts after e run l s x kept longer told known stands counts at listed =
+    let has = told-search H ls ns ts e run l kept longer told known in
     let o : Opening = has.opening in
-    let it : IsReported H e r l o s =
-    record { legal = has.legal; longer = longer; reports = is; known = known; numbered = has.numbered; stands = stands } in
+    let it : IsTold H e run l o s =
+    record { legal = has.legal; longer = longer; tells = told; known = known; numbered = has.numbered; stands = stands } in
     let here : x ≡ noted_of H o = at ∙ has.is x in
     record {
       legal = inr longer;
-      leases_are = kept.leases_are ∙ sym (quiet-leases H e (report-no_lease e.what r is));
+      leases_are = kept.leases_are ∙ sym (quiet-leases H e (told-no_lease e.what run told));
       searches_are =
           (λ i. set (kept.searches_are i) (l.search - 1) (noted_at s (here i)))
-          ∙ sym (uncounted-noted H e r l o s it counts);
+          ∙ sym (uncounted-noted H e run l o s it counts);
       tests_are =
           set-listed H ns ts after e (l.search - 1) x (noted_at s x) s kept.tests_are has.high (sym at) refl refl
-          (λ told. told-stays H e o l.search s longer has.numbered (stands-reported H e r l o s it)
-          (ap (λ (n : Noted). tells n.standing) (sym here) ∙ told))
+          (λ before. told-stays H e o l.search s longer has.numbered (stands-told H e run l o s it)
+          (ap (λ (n : Noted). tells n.standing) (sym here) ∙ before))
           listed;
     }
 
@@ -304,7 +325,7 @@ kept-ended H ls ns ts e q s x kept longer is stands at =
           ∙ sym (cancelled-noted H e q o s it);
       tests_are =
           set-listed H ns ts ts e (q - 1) x (noted_at s x) s kept.tests_are has.high (sym at) refl refl
-          (λ told. told-stays H e o q s longer has.numbered (cancelled-after H e q o s it)
-          (ap (λ (n : Noted). tells n.standing) (sym here) ∙ told))
+          (λ before. told-stays H e o q s longer has.numbered (cancelled-after H e q o s it)
+          (ap (λ (n : Noted). tells n.standing) (sym here) ∙ before))
           (λ test. ap (λ (b : Bool). (b && is_at (slice_cmp nat_cmp x.test) test) || is_among test ts) (sym quiet));
     }

@@ -7,14 +7,17 @@ use Rattle.farm_types.specs.declared.stage.Stage.{Stage}
 use Rattle.farm_types.specs.declared.stage.Stage.TheVariants.{Search, Verify}
 use Rattle.weight_exact.specs.declared.run.Run.{Run}
 use Rattle.farm_entry.specs.Decision.{run_with}
-use Rattle.farm_entry.specs.History.{all_leases, cancelled_in, is_counted, lease_in, lease_of, opening_in, opening_numbered, openings, report_in}
+use Rattle.farm_entry.specs.History.{all_leases, cancelled_in, is_counted, lease_in, lease_of, opening_in, opening_numbered, openings, report_in, skip_in, told_in}
 use Rattle.farm_entry.specs.Legal.{IsFounding, IsLegal}
 use Rattle.farm_entry.specs.Standing.{is_active, standing}
 use Rattle.farm_entry.specs.declared.entry.Entry.{Entry}
 use Rattle.farm_entry.specs.declared.entry.Fate.{Fate}
 use Rattle.farm_entry.specs.declared.entry.Fate.TheVariants.{Counted, Late, Over}
+use Rattle.farm_entry.specs.declared.entry.SkipFate.{SkipFate}
+use Rattle.farm_entry.specs.declared.entry.SkipFate.TheVariants as skip
 use Rattle.farm_entry.specs.declared.lease.LeasedRun.{LeasedRun}
 use Rattle.farm_entry.specs.declared.lease.ReportedRun.{ReportedRun}
+use Rattle.farm_entry.specs.declared.lease.SkippedRun.{SkippedRun}
 use Rattle.farm_entry.specs.declared.opening.Opening.{Opening}
 use Rattle.farm_entry.specs.declared.standing.Standing.{Standing}
 use Rattle.farm_entry.specs.declared.standing.Standing.TheVariants.{Searching, Verifying, Confirmed, Vindicated, NoCulprit, Inconclusive, Cancelled}
@@ -24,13 +27,13 @@ use Rattle.farm_laws.proofs.Filters.{opening_numbered-stays}
 use Rattle.farm_laws.proofs.Induct.{AreNext-first, IsLegal-pushed}
 use Rattle.farm_laws.proofs.Numbered.{lease-there, leases-numbered, number-at, opening-found, opening-there, openings-numbered}
 use Rattle.farm_laws.proofs.Stepped.{Stepped, stepped}
-use Rattle.search_state.specs.SearchView.{SearchView, after_report, cancelled, opened, standing_in}
+use Rattle.search_state.specs.SearchView.{SearchView, after_report, after_skip, cancelled, opened, standing_in}
 use Rattle.state_laws.specs.Seen.{all_seen, seen}
-use Rattle.state_laws.proofs.AllStates.{cancelled-all, opened-all, quiet-all, reported-all}
-use Rattle.state_laws.proofs.Changes.{cancelled-not_opened, cancelled-seen, opened-seen, report-not_opened, reported-seen}
+use Rattle.state_laws.proofs.AllStates.{cancelled-all, opened-all, quiet-all, reported-all, skipped-all}
+use Rattle.state_laws.proofs.Changes.{cancelled-not_opened, cancelled-seen, opened-seen, report-not_opened, reported-seen, skip-not_opened, skipped-seen}
 use Rattle.flake_book.specs.Noted.{Noted, all_noted, noted_at, noted_of, started, with_run}
 use Rattle.flake_book.specs.Tally.{StandsAfter, tells}
-use Rattle.flake_book.proofs.Parts.{search-of_cancel, search-of_opening, search-of_report}
+use Rattle.flake_book.proofs.Parts.{search-of_cancel, search-of_opening, search-of_told, told-either}
 
 -- Before the entry.
 
@@ -128,52 +131,87 @@ uncounted-by v stage r Counted s is = absurd (true≢false is)
 uncounted-by v stage r Late s is = refl
 uncounted-by v stage r Over s is = refl
 
--- what a report says of a search that was opened before
-pub record IsReported (H : List Entry) (e : Entry) (r : ReportedRun) (l : LeasedRun) (o : Opening) (s : Standing) : Type 0 where
+-- what a report, with a verdict or not, says of a search that was opened before
+pub record IsTold (H : List Entry) (e : Entry) (run : ℕ) (l : LeasedRun) (o : Opening) (s : Standing) : Type 0 where
   pub legal : IsLegal H
   pub longer : IsLegal (H ++ e ∷ [])
-  pub reports : report_in e.what ≡ Some r
-  pub known : lease_of H r.run ≡ Some l
+  pub tells : told_in e.what ≡ Some run
+  pub known : lease_of H run ≡ Some l
   pub numbered : opening_numbered H l.search ≡ Some o
   pub stands : StandsAfter H e s
 
 -- the search stands so after it
-pub stands-reported : (H : List Entry) (e : Entry) (r : ReportedRun) (l : LeasedRun) (o : Opening) (s : Standing) →
-    IsReported H e r l o s → standing (H ++ e ∷ []) o ≡ s
-stands-reported H e r l o s it =
-    it.stands l.search o (search-of_report H e.what r l it.reports it.known) (opening_numbered-stays H e l.search o it.numbered)
+pub stands-told : (H : List Entry) (e : Entry) (run : ℕ) (l : LeasedRun) (o : Opening) (s : Standing) →
+    IsTold H e run l o s → standing (H ++ e ∷ []) o ≡ s
+stands-told H e run l o s it =
+    it.stands l.search o (search-of_told H e.what run l it.tells it.known)
+    (opening_numbered-stays H e l.search o it.numbered)
+
+-- what is kept of it, by what the laws see of it afterwards
+told-noted : (H : List Entry) (e : Entry) (run : ℕ) (l : LeasedRun) (o : Opening) (s : Standing) (after : SearchView)
+    (n : Noted) → IsTold H e run l o s → seen (H ++ e ∷ []) o ≡ after →
+    all_seen (H ++ e ∷ []) ≡ set (all_seen H) (o.search - 1) after → noted_at s (noted_in after) ≡ n →
+    all_noted (H ++ e ∷ []) ≡ set (all_noted H) (l.search - 1) n
+told-noted H e run l o s after n it here all is =
+    let number : o.search ≡ l.search = (opening-there H l.search o it.numbered).1 in
+    let stand : standing_in after ≡ s = ap standing_in (sym here) ∙ stands-told H e run l o s it in
+    noted-seen (H ++ e ∷ [])
+    ∙ ap (map noted_in) all
+    ∙ noted-set H (o.search - 1) after n (ap (λ (x : Standing). noted_at x (noted_in after)) stand ∙ is)
+    ∙ ap (λ (k : ℕ). set (all_noted H) (k - 1) n) number
 
 reported-noted : (H : List Entry) (e : Entry) (r : ReportedRun) (l : LeasedRun) (o : Opening) (s : Standing) →
-    IsReported H e r l o s → (n : Noted) →
+    IsTold H e r.run l o s → report_in e.what ≡ Some r → (n : Noted) →
     noted_at s (noted_in (after_report (seen H o) l.stage (run_with l r.verdict) r.fate)) ≡ n →
     all_noted (H ++ e ∷ []) ≡ set (all_noted H) (l.search - 1) n
-reported-noted H e r l o s it n is =
+reported-noted H e r l o s it reports n is =
     let there = opening-there H l.search o it.numbered in
     let same : l.search ≡ o.search = sym there.1 in
-    let after : SearchView = after_report (seen H o) l.stage (run_with l r.verdict) r.fate in
-    let stand : standing_in after ≡ s =
-    ap standing_in (sym (reported-seen H e o r l it.legal it.reports it.known same)) ∙ stands-reported H e r l o s it in
-    noted-seen (H ++ e ∷ [])
-    ∙ ap (map noted_in)
-    (reported-all H e o r l it.legal (steps H e it.legal it.longer) there.0 (report-not_opened e.what r it.reports) it.reports
+    told-noted H e r.run l o s (after_report (seen H o) l.stage (run_with l r.verdict) r.fate) n it
+    (reported-seen H e o r l it.legal reports it.known same)
+    (reported-all H e o r l it.legal (steps H e it.legal it.longer) there.0 (report-not_opened e.what r reports) reports
     it.known same)
-    ∙ noted-set H (o.search - 1) after n (ap (λ (x : Standing). noted_at x (noted_in after)) stand ∙ is)
-    ∙ ap (λ (k : ℕ). set (all_noted H) (k - 1) n) there.1
+    is
 
 pub counted-noted : (H : List Entry) (e : Entry) (r : ReportedRun) (l : LeasedRun) (o : Opening) (s : Standing) →
-    IsReported H e r l o s → is_counted r.fate ≡ true →
+    IsTold H e r.run l o s → report_in e.what ≡ Some r → is_counted r.fate ≡ true →
     all_noted (H ++ e ∷ [])
     ≡ set (all_noted H) (l.search - 1) (noted_at s (with_run (noted_of H o) l.stage (run_with l r.verdict)))
-counted-noted H e r l o s it counts =
-    reported-noted H e r l o s it (noted_at s (with_run (noted_of H o) l.stage (run_with l r.verdict)))
+counted-noted H e r l o s it reports counts =
+    reported-noted H e r l o s it reports (noted_at s (with_run (noted_of H o) l.stage (run_with l r.verdict)))
     (counted-by (seen H o) l.stage (run_with l r.verdict) r.fate s counts)
 
-pub uncounted-noted : (H : List Entry) (e : Entry) (r : ReportedRun) (l : LeasedRun) (o : Opening) (s : Standing) →
-    IsReported H e r l o s → is_counted r.fate ≡ false →
+skipped-by : (v : SearchView) (position : ℕ) (f : SkipFate) (s : Standing) →
+    noted_at s (noted_in (after_skip v position f)) ≡ noted_at s (noted_in v)
+skipped-by v position skip.Taken s = refl
+skipped-by v position skip.Late s = refl
+
+skipped-noted : (H : List Entry) (e : Entry) (r : SkippedRun) (l : LeasedRun) (o : Opening) (s : Standing) →
+    IsTold H e r.run l o s → skip_in e.what ≡ Some r →
     all_noted (H ++ e ∷ []) ≡ set (all_noted H) (l.search - 1) (noted_at s (noted_of H o))
-uncounted-noted H e r l o s it counts =
-    reported-noted H e r l o s it (noted_at s (noted_of H o))
-    (uncounted-by (seen H o) l.stage (run_with l r.verdict) r.fate s counts)
+skipped-noted H e r l o s it skips =
+    let there = opening-there H l.search o it.numbered in
+    let same : l.search ≡ o.search = sym there.1 in
+    told-noted H e r.run l o s (after_skip (seen H o) l.position r.fate) (noted_at s (noted_of H o)) it
+    (skipped-seen H e o r l it.legal skips it.known same)
+    (skipped-all H e o r l it.legal (steps H e it.legal it.longer) there.0 (skip-not_opened e.what r skips) skips
+    it.known same)
+    (skipped-by (seen H o) l.position r.fate s)
+
+-- a report that doesn't count, and a skip
+pub uncounted-noted : (H : List Entry) (e : Entry) (run : ℕ) (l : LeasedRun) (o : Opening) (s : Standing) →
+    IsTold H e run l o s → ((r : ReportedRun) → report_in e.what ≡ Some r → is_counted r.fate ≡ false) →
+    all_noted (H ++ e ∷ []) ≡ set (all_noted H) (l.search - 1) (noted_at s (noted_of H o))
+uncounted-noted H e run l o s it counts =
+    ⊎_elim
+    (λ (reported : (r : ReportedRun) × (report_in e.what ≡ Some r) × (r.run ≡ run)).
+    let r = reported.0 in
+    let told : IsTold H e r.run l o s = subst (λ (n : ℕ). IsTold H e n l o s) (sym reported.2) it in
+    reported-noted H e r l o s told reported.1 (noted_at s (noted_of H o))
+    (uncounted-by (seen H o) l.stage (run_with l r.verdict) r.fate s (counts r reported.1)))
+    (λ (skipped : (r : SkippedRun) × (skip_in e.what ≡ Some r) × (r.run ≡ run)).
+    skipped-noted H e skipped.0 l o s (subst (λ (n : ℕ). IsTold H e n l o s) (sym skipped.2) it) skipped.1)
+    (told-either e.what run it.tells)
 
 -- A search that is cancelled.
 
@@ -213,8 +251,8 @@ cancelled-noted H e q o s it =
 -- Any other entry.
 
 pub quiet-noted : (H : List Entry) (e : Entry) → (H ≡ []) ⊎ IsLegal H → IsLegal (H ++ e ∷ []) → opening_in e.what ≡ None →
-    report_in e.what ≡ None → cancelled_in e.what ≡ None → all_noted (H ++ e ∷ []) ≡ all_noted H
-quiet-noted H e legal longer opens reports cancels =
+    told_in e.what ≡ None → cancelled_in e.what ≡ None → all_noted (H ++ e ∷ []) ≡ all_noted H
+quiet-noted H e legal longer opens told cancels =
     ⊎_elim
     (λ (none : H ≡ []).
     let same : openings (H ++ e ∷ []) ≡ openings H =
@@ -223,7 +261,7 @@ quiet-noted H e legal longer opens reports cancels =
     ap (map (noted_of (H ++ e ∷ []))) (same ∙ empty) ∙ ap (map (noted_of H)) (sym empty))
     (λ (here : IsLegal H).
     noted-seen (H ++ e ∷ [])
-    ∙ ap (map noted_in) (quiet-all H e here (steps H e here longer) opens reports cancels)
+    ∙ ap (map noted_in) (quiet-all H e here (steps H e here longer) opens told cancels)
     ∙ sym (noted-seen H))
     legal
 

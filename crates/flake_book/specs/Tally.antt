@@ -14,7 +14,7 @@ use Rattle.farm_entry.specs.History.{lease_of, opening_numbered, openings, rerun
 use Rattle.farm_entry.specs.Standing.{standing}
 use Rattle.farm_entry.specs.declared.entry.Entry.{Entry}
 use Rattle.farm_entry.specs.declared.entry.What.{What}
-use Rattle.farm_entry.specs.declared.entry.What.TheVariants.{Opened, Reported, Cancelled}
+use Rattle.farm_entry.specs.declared.entry.What.TheVariants.{Opened, Reported, Skipped, Cancelled}
 use Rattle.farm_entry.specs.declared.opening.Opening.{Opening}
 use Rattle.farm_entry.specs.declared.standing.Standing.{Standing}
 use Rattle.farm_entry.specs.declared.standing.Standing.TheVariants.{Confirmed, NoCulprit}
@@ -80,10 +80,11 @@ told_tests H = map (λ o. o.test) (filter (λ o. tells (standing H o)) (openings
 abbrev pub tests_of : List Entry → List (List ℕ)
 tests_of H = keys (from_entries {R = slice_cmp nat_cmp} (map (λ t. (t, tt {0})) (told_tests H)))
 
--- the number of the search that an entry opens, reports a run of or cancels
+-- the number of the search that an entry opens, reports a run of, with a verdict or not, or cancels
 abbrev pub search_in : List Entry → What → Option ℕ
 search_in H (Opened o) = Some o.search
 search_in H (Reported run verdict _) = option_map (λ l. l.search) (lease_of H run)
+search_in H (Skipped run _) = option_map (λ l. l.search) (lease_of H run)
 search_in H (Cancelled key search) = Some search
 search_in H what = None
 

@@ -1,9 +1,9 @@
 //! The book of flake rates.
 
-ghost use Rattle.std.specs.Prelude.{◌≡◌, ◌<◌, ◌≤◌, ◌^◌, true, false, ◌++◌, ◌∷◌, [], None, Some, length, slice_get, OnOk, OnErr};
+ghost use Rattle.std.specs.Prelude.{◌≡◌, ◌<◌, ◌≤◌, ◌^◌, true, false, ◌++◌, ◌∷◌, [], None, Some, length, slice_get, IfSome, OnOk, OnErr};
 ghost use Rattle.std.specs.BTreeSet.{keys};
 ghost use Rattle.flake_rate.specs.Rate.{rate_denominator, rate_numerator};
-ghost use Rattle.farm_entry.specs.History.{cancelled_in, is_counted, lease_in, lease_of, opening_in, report_in};
+ghost use Rattle.farm_entry.specs.History.{cancelled_in, is_counted, lease_in, lease_of, opening_in, report_in, told_in};
 ghost use Rattle.farm_entry.specs.Legal.{IsLegal};
 ghost use Rattle.flake_book.specs.Listed.{IsListed};
 ghost use Rattle.flake_book.specs.Tally.{StandsAfter, rate_offered, search_in, tally, tests_of};
@@ -11,7 +11,7 @@ ghost use Rattle.flake_book.specs.Tally.{StandsAfter, rate_offered, search_in, t
 use crate::notes::{SearchNotes, told_of_all};
 use crate::offer::offered_rate;
 use crate::telling::tells;
-use farm_entry::{Entry, LeasedRun, Opening, ReportedRun, Standing, What};
+use farm_entry::{Entry, LeasedRun, Opening, ReportedRun, Standing};
 use farm_types::{Memory, Name};
 use flake_rate::Rate;
 use std::alloc::Global;
@@ -56,21 +56,23 @@ impl FlakeBook {
         }
     }
 
-    /// The number of the search that the next entry opens, reports a run of or cancels, if it does.
+    /// The number of the search that the next entry opens, reports a run of, with a verdict or as a skip, or cancels,
+    /// if it does.
     pub fn search_of(&self, entry: &Entry) -> Option<u32>
         requires { IsLegal (self.now ++ entry.now ∷ []) }
         ensures { result ≡ search_in self.now entry.now.what }
     {
-        match &entry.what {
-            What::Opened(opening) => Some(opening.search),
-            What::Reported { run, .. } => Some(self.leases[*run as usize - 1].search),
-            What::Cancelled { search, .. } => Some(*search),
-            _ => None,
+        if let Some(opening) = entry.what.opening() {
+            return Some(opening.search);
         }
+        if let Some(run) = entry.what.told() {
+            return Some(self.leases[run as usize - 1].search);
+        }
+        entry.what.cancelled()
     }
 
-    /// Notes the next entry of a history, with the standing of the search that it opens, reports a run of or cancels,
-    /// after the entry. For other entries the standing isn't looked at.
+    /// Notes the next entry of a history, with the standing of the search that it opens, reports a run of, with a
+    /// verdict or as a skip, or cancels, after the entry. For other entries the standing isn't looked at.
     ///
     /// # Errors
     ///
@@ -87,8 +89,8 @@ impl FlakeBook {
         if let Some(lease) = entry.what.lease() {
             return self.note_lease(entry, lease);
         }
-        if let Some(report) = entry.what.report() {
-            return self.note_report(entry, report, standing);
+        if let Some(run) = entry.what.told() {
+            return self.note_told(entry, run, standing);
         }
         if let Some(search) = entry.what.cancelled() {
             return self.note_end(entry, search, standing);
@@ -102,7 +104,7 @@ impl FlakeBook {
         requires legal { IsLegal (self.old ++ entry.now ∷ []) }
         requires opens_none { opening_in entry.now.what ≡ None }
         requires leases_none { lease_in entry.now.what ≡ None }
-        requires reports_none { report_in entry.now.what ≡ None }
+        requires tells_none { told_in entry.now.what ≡ None }
         requires cancels_none { cancelled_in entry.now.what ≡ None }
         ensures { self.new ≡ self.old ++ entry.now ∷ [] }
     {
@@ -144,24 +146,18 @@ impl FlakeBook {
         Ok(())
     }
 
-    /// Notes an entry that reports a run.
-    fn note_report(
-        &mut self,
-        entry: &Entry,
-        report: ReportedRun,
-        standing: Standing,
-    ) -> Result<(), Memory>
+    /// Notes an entry that reports a run, with a verdict or as a skip.
+    fn note_told(&mut self, entry: &Entry, run: u32, standing: Standing) -> Result<(), Memory>
         requires legal { IsLegal (self.old ++ entry.now ∷ []) }
         requires stands { StandsAfter self.old entry.now standing }
-        requires reports { report_in entry.now.what ≡ Some report }
+        requires tells { told_in entry.now.what ≡ Some run }
         ensures noted { OnOk result (self.new ≡ self.old ++ entry.now ∷ []) }
         ensures kept { OnErr result (self.new ≡ self.old) }
     {
-        let lease = self.leases[report.run as usize - 1];
-        if report.fate.is_counted() {
-            self.note_counted(entry, report, lease, standing)
-        } else {
-            self.note_uncounted(entry, report, lease, standing)
+        let lease = self.leases[run as usize - 1];
+        match counted_report(entry) {
+            Some(report) => self.note_counted(entry, report, lease, standing),
+            None => self.note_uncounted(entry, lease, standing),
         }
     }
 
@@ -192,19 +188,19 @@ impl FlakeBook {
         Ok(())
     }
 
-    /// Notes an entry that reports a run which doesn't count.
+    /// Notes an entry that reports a run which doesn't count, with a verdict or as a skip.
     fn note_uncounted(
         &mut self,
         entry: &Entry,
-        report: ReportedRun,
         lease: LeasedRun,
         standing: Standing,
     ) -> Result<(), Memory>
         requires legal { IsLegal (self.old ++ entry.now ∷ []) }
         requires stands { StandsAfter self.old entry.now standing }
-        requires reports { report_in entry.now.what ≡ Some report }
-        requires leased { lease_of self.old report.run ≡ Some lease }
-        requires counts_not { is_counted report.fate ≡ false }
+        requires tells { told_in entry.now.what ≡ Some lease.run }
+        requires leased { lease_of self.old lease.run ≡ Some lease }
+        requires counts_not { (report : ReportedRun) → report_in entry.now.what ≡ Some report
+            → is_counted report.fate ≡ false }
         ensures noted { OnOk result (self.new ≡ self.old ++ entry.now ∷ []) }
         ensures kept { OnErr result (self.new ≡ self.old) }
     {
@@ -270,6 +266,19 @@ impl FlakeBook {
             Some(name) => name,
             None => unreachable!(),
         }
+    }
+}
+
+/// The report of an entry, where it has a verdict that counts.
+fn counted_report(entry: &Entry) -> Option<ReportedRun>
+    ensures some { IfSome result (λ report. (report_in entry.now.what ≡ Some report)
+        × (is_counted report.fate ≡ true)) }
+    ensures none { result ≡ None → (report : ReportedRun) → report_in entry.now.what ≡ Some report
+        → is_counted report.fate ≡ false }
+{
+    match entry.what.report() {
+        Some(report) if report.fate.is_counted() => Some(report),
+        _ => None,
     }
 }
 

@@ -3,7 +3,7 @@
 use crate::refusals::print_text;
 use crate::replies::{print_reply, standing_of};
 use crate::texts::{bytes_of, number_at, number_of, word, word_at};
-use farm_entry::{OrderLine, OrderPage, Reply, SearchPage, Shares, Totals};
+use farm_entry::{OrderLine, OrderPage, Positions, Reply, SearchPage, Shares, Totals};
 use farm_types::{CommitId, Memory, Name};
 use farm_wire::{log_text, totals_text};
 use std::alloc::Global;
@@ -17,12 +17,27 @@ fn shares_of(alloc: Global, text: &str) -> Result<Shares, Memory> {
     Ok(Shares::of(shares))
 }
 
+fn positions_of(alloc: Global, text: &str) -> Result<Positions, Memory> {
+    let mut positions = Vec::new(alloc);
+    for position in text.split(' ') {
+        if let Ok(position) = position.parse::<u16>() {
+            positions.push(position)?;
+        }
+    }
+    Ok(Positions::of(positions))
+}
+
 /// Prints the page of a search of the test `t`: its search, budget, leases, runs counted and verified, standing and
-/// commit, and its shares behind a slash.
+/// commit; behind a slash its shares, and behind another one the positions whose trees can't be tested.
 pub(crate) fn print_page(rt: &impl Print, alloc: Global, text: &str) -> io::Result<()> {
-    let (numbers, shares) = text.split_once(" / ").unwrap_or((text, ""));
-    match (Name::of(alloc, "t"), shares_of(alloc, shares)) {
-        (Ok(test), Ok(shares)) => {
+    let (numbers, rest) = text.split_once(" / ").unwrap_or((text, ""));
+    let (shares, untestable) = rest.split_once(" / ").unwrap_or((rest, ""));
+    match (
+        Name::of(alloc, "t"),
+        shares_of(alloc, shares),
+        positions_of(alloc, untestable),
+    ) {
+        (Ok(test), Ok(shares), Ok(untestable)) => {
             let page = SearchPage {
                 search: number_at(numbers, 0),
                 test,
@@ -33,6 +48,7 @@ pub(crate) fn print_page(rt: &impl Print, alloc: Global, text: &str) -> io::Resu
                 standing: standing_of(word_at(numbers, 5)),
                 commit: CommitId::read(word_at(numbers, 6)).ok(),
                 shares,
+                untestable,
             };
             print_reply(rt, alloc, &Reply::Search(page))
         }

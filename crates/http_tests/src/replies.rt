@@ -7,7 +7,7 @@ use crate::pages::{
 };
 use crate::refusals::print_text;
 use crate::texts::{number_at, word_at};
-use farm_entry::{Fate, Reply, Standing};
+use farm_entry::{Fate, Reply, SkipFate, Standing};
 use farm_types::{CommitId, LAST_DAY, Name, Stage};
 use farm_wire::reply_text;
 use std::alloc::Global;
@@ -97,6 +97,25 @@ fn print_reported(rt: &impl Print, alloc: Global, text: &str) -> io::Result<()> 
     print_reply(rt, alloc, &reported)
 }
 
+fn skip_fate_of(name: &str) -> SkipFate {
+    if name == "late" {
+        SkipFate::Late
+    } else {
+        SkipFate::Taken
+    }
+}
+
+// Prints the reply to a report of a run whose tree can't be tested: its run, search, fate and standing.
+fn print_skipped(rt: &impl Print, alloc: Global, text: &str) -> io::Result<()> {
+    let skipped = Reply::Skipped {
+        run: number_at(text, 0),
+        search: number_at(text, 1),
+        fate: skip_fate_of(word_at(text, 2)),
+        standing: standing_of(word_at(text, 3)),
+    };
+    print_reply(rt, alloc, &skipped)
+}
+
 // Prints the reply to a revert: its order, commit, search and day.
 fn print_ordered(rt: &impl Print, alloc: Global, text: &str) -> io::Result<()> {
     let Ok(commit) = CommitId::read(word_at(text, 1)) else {
@@ -125,6 +144,7 @@ pub(crate) fn play_reply(rt: &impl Print, alloc: Global, name: &str, text: &str)
         }
         "leased" => print_leased(rt, alloc, text),
         "reported" => print_reported(rt, alloc, text),
+        "skipped" => print_skipped(rt, alloc, text),
         "ordered" => print_ordered(rt, alloc, text),
         "page" => print_page(rt, alloc, text),
         "totals" => print_totals(rt, alloc, text),

@@ -5,7 +5,7 @@ use farm_types::Key;
 use std::alloc::Global;
 use std::io;
 use weight_exact::Verdict;
-use worker_core::{Event, WorkerCore};
+use worker_core::{Event, Tested, WorkerCore};
 use worker_wire::{is_no_run, lease_of};
 
 fn event_of(text: &str) -> Event {
@@ -15,8 +15,9 @@ fn event_of(text: &str) -> Event {
         "drew" => Event::Drew(Key(u128::from(number))),
         "leased" => Event::Leased(number),
         "nothing" => Event::Nothing,
-        "failed" => Event::Ran(Verdict::Fail),
-        "passed" => Event::Ran(Verdict::Pass),
+        "failed" => Event::Ran(Tested::Verdict(Verdict::Fail)),
+        "passed" => Event::Ran(Tested::Verdict(Verdict::Pass)),
+        "untestable" => Event::Ran(Tested::Untestable),
         "noted" => Event::Noted,
         "lost" => Event::Lost(value.parse::<u16>().unwrap_or(0)),
         _ => Event::Begin,

@@ -3,7 +3,7 @@ use Rattle.std.proofs.Common.{◌≡◌, ℕ, List, Option, Some, None, refl, sy
 use Rattle.std.specs.Option.{option_map}
 use Rattle.std.proofs.lemmas.Option.{none-some, same_Some}
 use Rattle.weight_exact.specs.declared.run.Verdict.{Verdict}
-use Rattle.farm_entry.specs.Decision.{fate_of, run_with}
+use Rattle.farm_entry.specs.Decision.{fate_of, run_with, skip_fate_of}
 use Rattle.farm_entry.specs.History.{lease_of, opening_numbered}
 use Rattle.farm_entry.specs.Legal.{IsLegal}
 use Rattle.farm_entry.specs.Standing.{standing}
@@ -11,10 +11,10 @@ use Rattle.farm_entry.specs.declared.entry.Entry.{Entry}
 use Rattle.farm_entry.specs.declared.lease.LeasedRun.{LeasedRun}
 use Rattle.farm_entry.specs.declared.opening.Opening.{Opening}
 use Rattle.farm_laws.proofs.Numbered.{opening-there}
-use Rattle.search_state.specs.SearchView.{IsPlaced, SearchView, fate_in}
+use Rattle.search_state.specs.SearchView.{IsPlaced, SearchView, fate_in, skip_fate_in}
 use Rattle.state_laws.specs.Seen.{seen}
 use Rattle.state_laws.proofs.Asking.{run-placed}
-use Rattle.state_laws.proofs.Reading.{fate-seen}
+use Rattle.state_laws.proofs.Reading.{fate-seen, skip_fate-seen}
 
 -- a state is that of the search with a number
 pub record IsStateOf (H : List Entry) (number : ℕ) (s : SearchView) : Type 0 where
@@ -49,3 +49,12 @@ fate-told H l v s is =
     ap (λ (x : SearchView). fate_in x l.stage (run_with l v)) is.same
     ∙ fate-seen (standing H o) H o l v
     ∙ ap (fate_of H l v) (sym is.known)
+
+-- and that of a skip
+pub skip_fate-told : (H : List Entry) (l : LeasedRun) (s : SearchView) → IsStateOf H l.search s →
+    skip_fate_in s l.stage ≡ skip_fate_of H l (opening_numbered H l.search)
+skip_fate-told H l s is =
+    let o : Opening = is.opening in
+    ap (λ (x : SearchView). skip_fate_in x l.stage) is.same
+    ∙ skip_fate-seen (standing H o) l
+    ∙ ap (skip_fate_of H l) (sym is.known)

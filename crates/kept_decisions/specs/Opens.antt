@@ -4,7 +4,7 @@ use Rattle.farm_types.specs.declared.moment.Moment.{Moment}
 use Rattle.farm_entry.specs.Decision.{add_at}
 use Rattle.farm_entry.specs.History.{openings}
 use Rattle.farm_entry.specs.declared.command.Command.{Command}
-use Rattle.farm_entry.specs.declared.command.Command.TheVariants.{Lease as LeaseRun, Report as ReportRun, Cancel, TakeRevert}
+use Rattle.farm_entry.specs.declared.command.Command.TheVariants.{Lease as LeaseRun, Report as ReportRun, Skip as SkipRun, Cancel, TakeRevert}
 use Rattle.farm_entry.specs.declared.decision.Decision.{Decision}
 use Rattle.farm_entry.specs.declared.decision.Decision.TheVariants.{Refuse}
 use Rattle.farm_entry.specs.declared.entry.Entry.{Entry}
@@ -17,6 +17,7 @@ use Rattle.farm_entry.specs.declared.refusal.Refusal.TheVariants.{TooManySearche
 abbrev pub AsksOther : Command → Type 0
 AsksOther (LeaseRun key worker) = ⊤
 AsksOther (ReportRun run verdict) = ⊤
+AsksOther (SkipRun run) = ⊤
 AsksOther (Cancel key search) = ⊤
 AsksOther (TakeRevert key agent) = ⊤
 AsksOther _ = ⊥

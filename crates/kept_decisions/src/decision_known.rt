@@ -26,7 +26,8 @@ fn repeat_or_clash(
     }
 }
 
-/// The decision on a command that was done before, or whose key was used for another: a report is told by its run.
+/// The decision on a command that was done before, or whose key was used for another: a report, with a
+/// verdict or not, is told by its run.
 pub(crate) fn known_decision(
     alloc: Global,
     farm: &KeptFarm,
@@ -34,7 +35,7 @@ pub(crate) fn known_decision(
 ) -> Result<Option<Decision>, Memory>
     ensures { IfOk result (λ found. found ≡ known_decision farm.now command.now) }
 {
-    if let Command::Report { run, .. } = command {
+    if let Command::Report { run, .. } | Command::Skip { run } = command {
         return match farm.place_of_report(*run) {
             None => Ok(None),
             Some(place) => Ok(Some(Decision::Repeat(place))),

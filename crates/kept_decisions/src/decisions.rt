@@ -10,7 +10,7 @@ ghost use Rattle.kept_decisions.specs.Opens.{AsksOther};
 
 use crate::decision_known::known_decision;
 use crate::decision_new::{cancel_decision, lease_decision, open_decision, revert_decision};
-use crate::decision_report::report_decision;
+use crate::decision_report::{report_decision, skip_decision};
 use crate::search_page::page_decision;
 use farm_entry::{Command, Decision, MAX_ENTRIES, OpenAsk, Refusal, Reply, Totals, moment_used};
 use farm_types::{Memory, Moment};
@@ -47,6 +47,7 @@ fn own_decision(farm: &KeptFarm, command: &Command, at: Moment) -> Result<Decisi
             lease_decision(farm, *key, worker, at, due)
         }
         Command::Report { run, verdict } => Ok(report_decision(farm, *run, *verdict, at)),
+        Command::Skip { run } => Ok(skip_decision(farm, *run, at)),
         Command::Cancel { key, search } => Ok(cancel_decision(farm, *key, *search, at)),
         Command::TakeRevert { key, agent } => {
             let next = farm.next_order(at);

@@ -35,6 +35,7 @@ fn page_of(
         standing,
         commit: opening.named_commit(standing),
         shares: state.shares(alloc)?,
+        untestable: state.untestable(alloc)?,
     })
 }
 

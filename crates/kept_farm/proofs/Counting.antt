@@ -10,7 +10,7 @@ use Rattle.farm_entry.specs.Pages.{is_ended_otherwise, searches_that, totals}
 use Rattle.farm_entry.specs.Standing.{is_confirmed, is_searching, is_verifying, standing}
 use Rattle.farm_entry.specs.declared.entry.Entry.{Entry}
 use Rattle.farm_entry.specs.declared.entry.What.{What}
-use Rattle.farm_entry.specs.declared.entry.What.TheVariants.{Founded, Opened, Leased, Reported, Cancelled, Ordered}
+use Rattle.farm_entry.specs.declared.entry.What.TheVariants.{Founded, Opened, Leased, Reported, Skipped, Cancelled, Ordered}
 use Rattle.farm_entry.specs.declared.lease.LeasedRun.{LeasedRun}
 use Rattle.farm_entry.specs.declared.lease.ReportedRun.{ReportedRun}
 use Rattle.farm_entry.specs.declared.limits.TheConstants.{MAX_ENTRIES, MAX_SEARCHES}
@@ -92,6 +92,9 @@ pub search-stays : (H : List Entry) (e : Entry) (what : What) → KindFacts H e.
 search-stays H e (Reported run verdict _) facts =
     ap (option_map (λ (l : LeasedRun). l.search))
     (lease_of-stays H e run facts.lease facts.known ∙ sym facts.known)
+search-stays H e (Skipped run _) facts =
+    ap (option_map (λ (l : LeasedRun). l.search))
+    (lease_of-stays H e run facts.lease facts.known ∙ sym facts.known)
 search-stays H e (Founded settings) facts = refl
 search-stays H e (Opened o) facts = refl
 search-stays H e (Leased key worker run search stage position deadline) facts = refl
@@ -130,6 +133,20 @@ one-moves H e test s o legal step found about =
     ∙ moves
     ∙ ap (λ (n : ℕ). searches_that test H + n) (sym after)
 
+-- where it tells of a run that was handed out before
+told-moves : (H : List Entry) (e : Entry) (test : Standing → Bool) (run : ℕ) (l : LeasedRun) → IsLegal H →
+    Stepped H e.at e.what → lease_of H run ≡ Some l → IsAbout H e.what l.search →
+    IsMoved test (searches_that test H) (searches_that test (H ++ e ∷ []))
+    (standing_of H (option_map (λ (x : LeasedRun). x.search) (lease_of H run)))
+    (standing_of (H ++ e ∷ []) (option_map (λ (x : LeasedRun). x.search) (lease_of H run)))
+told-moves H e test run l legal step known about =
+    let s = search-of_lease H run l legal known in
+    let found : opening_numbered H l.search ≡ Some s.opening =
+    ap (opening_numbered H) s.same ∙ opening-found H s.opening legal s.there in
+    subst (λ (n : Option ℕ). IsMoved test (searches_that test H) (searches_that test (H ++ e ∷ [])) (standing_of H n)
+    (standing_of (H ++ e ∷ []) n)) (sym (ap (option_map (λ (x : LeasedRun). x.search)) known))
+    (one-moves H e test l.search s.opening legal step found about)
+
 -- each kind of entry
 moves-as : (H : List Entry) (e : Entry) (test : Standing → Bool) (what : What) → IsLegal H → IsLegal (H ++ e ∷ []) →
     Stepped H e.at e.what → KindFacts H e.at what → e.what ≡ what →
@@ -150,18 +167,14 @@ moves-as H e test (Opened o) legal longer step facts is =
 moves-as H e test (Leased key worker run search stage position deadline) legal longer step facts is =
     plus-none (searches_that test (H ++ e ∷ []))
     ∙ quiet-moves H e test legal step (λ s about. subst (λ (w : What). IsAbout H w s) is about) None (ap opening_in is)
-moves-as H e test (Reported run verdict fate) legal longer step facts is =
+moves-as H e test (Reported run verdict _) legal longer step facts is =
     let l = facts.lease in
-    let known : lease_of H run ≡ Some l = facts.known in
-    let of_search : search_in H (Reported run verdict fate) ≡ Some l.search =
-    ap (option_map (λ (x : LeasedRun). x.search)) known in
-    let s = search-of_lease H run l legal known in
-    let found : opening_numbered H l.search ≡ Some s.opening =
-    ap (opening_numbered H) s.same ∙ opening-found H s.opening legal s.there in
-    let about : IsAbout H e.what l.search = subst (λ (w : What). IsAbout H w l.search) (sym is) (l, known, refl) in
-    subst (λ (n : Option ℕ). IsMoved test (searches_that test H) (searches_that test (H ++ e ∷ [])) (standing_of H n)
-    (standing_of (H ++ e ∷ []) n)) (sym of_search)
-    (one-moves H e test l.search s.opening legal step found about)
+    told-moves H e test run l legal step facts.known
+    (subst (λ (w : What). IsAbout H w l.search) (sym is) (l, facts.known, refl))
+moves-as H e test (Skipped run _) legal longer step facts is =
+    let l = facts.lease in
+    told-moves H e test run l legal step facts.known
+    (subst (λ (w : What). IsAbout H w l.search) (sym is) (l, facts.known, refl))
 moves-as H e test (Cancelled key search) legal longer step facts is =
     let about : IsAbout H e.what search = subst (λ (w : What). IsAbout H w search) (sym is) refl in
     one-moves H e test search facts.opening legal step facts.known about
@@ -239,6 +252,7 @@ counts-one : (what : What) →
 counts-one (Reported run verdict fate) =
     count_by-cons (λ (r : ReportedRun). is_counted r.fate) (record { run = run; verdict = verdict; fate = fate }) []
     ∙ plus-none (one_if (is_counted fate))
+counts-one (Skipped run _) = refl
 counts-one (Founded settings) = refl
 counts-one (Opened o) = refl
 counts-one (Leased key worker run search stage position deadline) = refl

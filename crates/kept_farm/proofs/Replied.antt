@@ -7,29 +7,30 @@ use Rattle.std.proofs.lemmas.List.Elements.{All-contains, Contains-push, filter_
 use Rattle.std.proofs.lemmas.List.Folds.{find-append}
 use Rattle.std.proofs.lemmas.Option.{get_or_from_slice_get, slice_get_within}
 use Rattle.flake_rate.specs.Miss.{FitsRate}
-use Rattle.farm_entry.specs.History.{all_leases, lease_in, lease_of, opening_in, opening_numbered, openings, report_in, reports}
+use Rattle.farm_entry.specs.History.{all_leases, lease_in, lease_of, opening_in, opening_numbered, openings, told_in, told_runs}
 use Rattle.farm_entry.specs.Legal.{IsLegal}
 use Rattle.farm_entry.specs.Reply.{reply_at, reply_to}
 use Rattle.farm_entry.specs.Reply as entry
 use Rattle.farm_entry.specs.Standing.{standing}
 use Rattle.farm_entry.specs.declared.entry.Entry.{Entry}
 use Rattle.farm_entry.specs.declared.entry.What.{What}
-use Rattle.farm_entry.specs.declared.entry.What.TheVariants.{Founded, Opened, Leased, Reported, Cancelled, Ordered}
+use Rattle.farm_entry.specs.declared.entry.What.TheVariants.{Founded, Opened, Leased, Reported, Skipped, Cancelled, Ordered}
 use Rattle.farm_entry.specs.declared.lease.LeasedRun.{LeasedRun}
 use Rattle.farm_entry.specs.declared.lease.ReportedRun.{ReportedRun}
+use Rattle.farm_entry.specs.declared.lease.SkippedRun.{SkippedRun}
 use Rattle.farm_entry.specs.declared.opening.Opening.{Opening}
 use Rattle.farm_entry.specs.declared.reply.Reply.TheVariants as reply
 use Rattle.farm_entry.specs.declared.standing.Standing.{Standing}
 use Rattle.farm_entry.specs.declared.standing.Standing.TheVariants.{Searching}
-use Rattle.farm_entry.proofs.Growing.{all_leases-grow, openings-grow, reports-grow}
+use Rattle.farm_entry.proofs.Growing.{all_leases-grow, openings-grow, told_runs-grow}
 use Rattle.farm_laws.specs.Openings.{HasOpening}
 use Rattle.farm_laws.proofs.Filters.{HasLease}
 use Rattle.farm_laws.proofs.Induct.{IsLegal-first}
-use Rattle.farm_laws.proofs.Known.{leases-known, reports-known}
+use Rattle.farm_laws.proofs.Known.{leases-known, told_runs-known}
 use Rattle.farm_laws.proofs.Numbered.{lease-there}
 use Rattle.farm_laws.proofs.OpenLimits.{open_within}
 use Rattle.kept_farm.specs.Changes.{last_standing, search_in, standing_of}
-use Rattle.kept_farm.specs.Replying.{reply_to_lease, reply_to_report, reply_with}
+use Rattle.kept_farm.specs.Replying.{reply_to_lease, reply_to_report, reply_to_skip, reply_with}
 use Rattle.kept_farm.proofs.Counting.{last_standing-push, opened-found, standing-found}
 
 -- What is known stays known.
@@ -60,16 +61,16 @@ leased-search F e l legal is =
     All-contains (λ (x : LeasedRun). HasOpening (F ++ e ∷ []) x.search) (all_leases (F ++ e ∷ [])) l
     (leases-known (F ++ e ∷ []) legal) there
 
--- the lease of a report, and its search
-reported-lease : (F : List Entry) (e : Entry) (r : ReportedRun) → IsLegal (F ++ e ∷ []) → report_in e.what ≡ Some r →
-    HasLease (F ++ e ∷ []) r.run
-reported-lease F e r legal is =
-    let there : Contains (reports (F ++ e ∷ [])) r =
-    subst (λ (rs : List ReportedRun). Contains rs r)
-    (sym (reports-grow F e ∙ ap (λ (x : Option ReportedRun). reports F ++ cons_option x []) is))
-    (Contains-push (reports F) r) in
-    All-contains (λ (x : ReportedRun). HasLease (F ++ e ∷ []) x.run) (reports (F ++ e ∷ [])) r
-    (reports-known (F ++ e ∷ []) legal) there
+-- the lease of a report, with a verdict or not, and its search
+told-lease : (F : List Entry) (e : Entry) (run : ℕ) → IsLegal (F ++ e ∷ []) → told_in e.what ≡ Some run →
+    HasLease (F ++ e ∷ []) run
+told-lease F e run legal is =
+    let there : Contains (told_runs (F ++ e ∷ [])) run =
+    subst (λ (runs : List ℕ). Contains runs run)
+    (sym (told_runs-grow F e ∙ ap (λ (x : Option ℕ). told_runs F ++ cons_option x []) is))
+    (Contains-push (told_runs F) run) in
+    All-contains (λ (told : ℕ). HasLease (F ++ e ∷ []) told) (told_runs (F ++ e ∷ [])) run
+    (told_runs-known (F ++ e ∷ []) legal) there
 
 lease-search : (G : List Entry) (run : ℕ) (l : LeasedRun) → IsLegal G → lease_of G run ≡ Some l → HasOpening G l.search
 lease-search G run l legal known =
@@ -100,7 +101,7 @@ replied-as F K e (Leased key worker run search stage position deadline) legal is
 replied-as F K e (Reported run verdict ruled) legal is =
     let G : List Entry = F ++ e ∷ [] in
     let r : ReportedRun = record { run = run; verdict = verdict; fate = ruled } in
-    let leased = reported-lease F e r legal (ap report_in is) in
+    let leased = told-lease F e run legal (ap told_in is) in
     let l : LeasedRun = leased.0 in
     let found = lease-search G run l legal leased.1 in
     let of_search : search_in G e.what ≡ Some l.search =
@@ -110,6 +111,19 @@ replied-as F K e (Reported run verdict ruled) legal is =
     ∙ ap (λ (s : Standing). reply_to_report r s (Some l)) stands
     ∙ sym (ap (option_map (λ (o : Opening). reply.Reported l.run l.search verdict ruled (standing G o))) found.1)
     ∙ sym (ap (option_and_then (entry.reply_to_report G verdict ruled)) leased.1)
+replied-as F K e (Skipped run ruled) legal is =
+    let G : List Entry = F ++ e ∷ [] in
+    let r : SkippedRun = record { run = run; fate = ruled } in
+    let leased = told-lease F e run legal (ap told_in is) in
+    let l : LeasedRun = leased.0 in
+    let found = lease-search G run l legal leased.1 in
+    let of_search : search_in G e.what ≡ Some l.search =
+    ap (search_in G) is ∙ ap (option_map (λ (x : LeasedRun). x.search)) leased.1 in
+    let stands = stood F e l.search found.0 of_search found.1 in
+    ap (reply_to_skip r (last_standing G)) (lease-later G K run l leased.1)
+    ∙ ap (λ (s : Standing). reply_to_skip r s (Some l)) stands
+    ∙ sym (ap (option_map (λ (o : Opening). reply.Skipped l.run l.search ruled (standing G o))) found.1)
+    ∙ sym (ap (option_and_then (entry.reply_to_skip G ruled)) leased.1)
 replied-as F K e (Cancelled key search) legal is = refl
 replied-as F K e (Ordered key agent order commit search day) legal is = refl
 

@@ -6,7 +6,7 @@ use Rattle.farm_entry.specs.Pages.{is_ended_otherwise}
 use Rattle.farm_entry.specs.Standing.{is_confirmed, is_searching, is_verifying, standing}
 use Rattle.farm_entry.specs.declared.entry.Entry.{Entry}
 use Rattle.farm_entry.specs.declared.entry.What.{What}
-use Rattle.farm_entry.specs.declared.entry.What.TheVariants.{Opened, Reported, Cancelled}
+use Rattle.farm_entry.specs.declared.entry.What.TheVariants.{Opened, Reported, Skipped, Cancelled}
 use Rattle.farm_entry.specs.declared.limits.TheConstants.{MAX_ENTRIES}
 use Rattle.farm_entry.specs.declared.reply.Totals.{Totals}
 use Rattle.farm_entry.specs.declared.standing.Standing.{Standing}
@@ -18,6 +18,7 @@ use Rattle.farm_entry.specs.declared.standing.Standing.TheVariants.{Searching}
 abbrev pub search_in : List Entry → What → Option ℕ
 search_in H (Opened o) = Some o.search
 search_in H (Reported run verdict _) = option_map (λ l. l.search) (lease_of H run)
+search_in H (Skipped run _) = option_map (λ l. l.search) (lease_of H run)
 search_in H (Cancelled key search) = Some search
 search_in H what = None
 

@@ -5,9 +5,10 @@ use Rattle.farm_entry.specs.History.{lease_of, opening_numbered}
 use Rattle.farm_entry.specs.Setup.{budget_of_search, commit_of}
 use Rattle.farm_entry.specs.declared.entry.Entry.{Entry}
 use Rattle.farm_entry.specs.declared.entry.What.{What}
-use Rattle.farm_entry.specs.declared.entry.What.TheVariants.{Founded, Opened, Leased, Reported, Cancelled, Ordered}
+use Rattle.farm_entry.specs.declared.entry.What.TheVariants.{Founded, Opened, Leased, Reported, Skipped, Cancelled, Ordered}
 use Rattle.farm_entry.specs.declared.lease.LeasedRun.{LeasedRun}
 use Rattle.farm_entry.specs.declared.lease.ReportedRun.{ReportedRun}
+use Rattle.farm_entry.specs.declared.lease.SkippedRun.{SkippedRun}
 use Rattle.farm_entry.specs.declared.opening.Opening.{Opening}
 use Rattle.farm_entry.specs.declared.reply.Reply.{Reply}
 use Rattle.farm_entry.specs.declared.reply.Reply.TheVariants as reply
@@ -22,6 +23,10 @@ reply_to_lease l found =
 abbrev pub reply_to_report : ReportedRun → Standing → Option LeasedRun → Option Reply
 reply_to_report r stood found = option_map (λ l. reply.Reported l.run l.search r.verdict r.fate stood) found
 
+-- the same where the run's tree can't be tested
+abbrev pub reply_to_skip : SkippedRun → Standing → Option LeasedRun → Option Reply
+reply_to_skip r stood found = option_map (λ l. reply.Skipped l.run l.search r.fate stood) found
+
 -- the reply to what an entry records, where the search that it is about stood so then
 abbrev pub reply_with : List Entry → Standing → What → Option Reply
 reply_with H stood (Founded settings) = None
@@ -31,5 +36,7 @@ reply_with H stood (Leased key worker run search stage position deadline) =
     (opening_numbered H search)
 reply_with H stood (Reported run verdict fate) =
     reply_to_report (record { run = run; verdict = verdict; fate = fate }) stood (lease_of H run)
+reply_with H stood (Skipped run fate) =
+    reply_to_skip (record { run = run; fate = fate }) stood (lease_of H run)
 reply_with H stood (Cancelled key search) = Some (reply.Cancelled search)
 reply_with H stood (Ordered key agent order commit search day) = Some (reply.Ordered order commit search day)

@@ -19,7 +19,7 @@ pub(crate) fn search_in(ledger: &Ledger, what: &What) -> Option<u32>
 {
     match what {
         What::Opened(opening) => Some(opening.search),
-        What::Reported { run, .. } => {
+        What::Reported { run, .. } | What::Skipped { run, .. } => {
             let lease = ledger.turns().state().books().lease_of(*run)?;
             Some(lease.search)
         }

@@ -16,12 +16,12 @@ ghost use Rattle.state_laws.specs.Seen.{seen};
 
 use crate::changes::{search_in, standing_of, with_entry, with_standings};
 use crate::order_places::{lines_at, put_place, take_place};
-use crate::replies::{reply_to_lease, reply_to_opening, reply_to_report};
+use crate::replies::{reply_to_lease, reply_to_opening, reply_to_report, reply_to_skip};
 use crate::row::Row;
 use farm_books::Books;
 use farm_entry::{
-    DueRun, Entry, LeasedRun, Opening, OrderPage, Reply, ReportedRun, Settings, Standing, Totals,
-    What,
+    DueRun, Entry, LeasedRun, Opening, OrderPage, Reply, ReportedRun, Settings, SkippedRun,
+    Standing, Totals, What,
 };
 use farm_ledger::Ledger;
 use farm_rules::{Draft, NoOrder};
@@ -114,7 +114,7 @@ impl KeptFarm {
         self.books().place_of_key(key)
     }
 
-    /// The place of the report of a run.
+    /// The place of the report of a run, with a verdict or not.
     pub fn place_of_report(&self, run: u32) -> Option<u32>
         ensures { result ≡ place_of_report self.now run }
     {
@@ -250,6 +250,13 @@ impl KeptFarm {
                     fate: *fate,
                 };
                 Ok(reply_to_report(report, stood, self.lease_of(*run)))
+            }
+            What::Skipped { run, fate } => {
+                let skip = SkippedRun {
+                    run: *run,
+                    fate: *fate,
+                };
+                Ok(reply_to_skip(skip, stood, self.lease_of(*run)))
             }
             What::Cancelled { search, .. } => Ok(Some(Reply::Cancelled { search: *search })),
             What::Ordered {

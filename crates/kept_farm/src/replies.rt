@@ -4,9 +4,9 @@ ghost use Rattle.std.specs.Prelude.{◌≡◌, IfOk};
 ghost use Rattle.std.specs.Option.{option_copied};
 ghost use Rattle.flake_rate.specs.Miss.{FitsRate};
 ghost use Rattle.farm_entry.specs.Setup.{budget_of_search};
-ghost use Rattle.kept_farm.specs.Replying.{reply_to_lease, reply_to_report};
+ghost use Rattle.kept_farm.specs.Replying.{reply_to_lease, reply_to_report, reply_to_skip};
 
-use farm_entry::{LeasedRun, Opening, Reply, ReportedRun, Standing};
+use farm_entry::{LeasedRun, Opening, Reply, ReportedRun, SkippedRun, Standing};
 use farm_types::Memory;
 
 /// The reply to an opening, where the search stood so then.
@@ -56,6 +56,23 @@ pub(crate) fn reply_to_report(
         search: lease.search,
         verdict: report.verdict,
         fate: report.fate,
+        standing: stood,
+    })
+}
+
+/// The same where the run's tree can't be tested.
+pub(crate) fn reply_to_skip(
+    skip: SkippedRun,
+    stood: Standing,
+    lease: Option<LeasedRun>,
+) -> Option<Reply>
+    ensures { result ≡ reply_to_skip skip stood lease }
+{
+    let lease = lease?;
+    Some(Reply::Skipped {
+        run: lease.run,
+        search: lease.search,
+        fate: skip.fate,
         standing: stood,
     })
 }

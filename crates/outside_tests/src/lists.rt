@@ -6,6 +6,7 @@ use std::alloc::{AllocError, Global};
 use std::io;
 use std::random::RandomSource;
 use weight_exact::Verdict;
+use worker_core::Tested;
 use worker_io::{KeySource, ListKeys, ListRunner, RandomKeys, Runner};
 
 /// Runs a test so many times, and prints the answers.
@@ -29,25 +30,30 @@ pub(crate) fn print_answers<R: Print, T: Runner>(
     Ok(())
 }
 
-/// The verdicts of a text of letters, `p` for a pass.
-fn verdicts_of(alloc: Global, letters: &str) -> Result<Vec<Verdict>, AllocError> {
-    let mut verdicts = Vec::new(alloc);
-    for letter in letters.bytes() {
-        verdicts.push(if letter == b'p' {
-            Verdict::Pass
-        } else {
-            Verdict::Fail
-        })?;
+/// What a letter says of a test: `p` that it passed, `s` that the tree can't be tested, any other that it failed.
+fn tested_by(letter: u8) -> Tested {
+    match letter {
+        b'p' => Tested::Verdict(Verdict::Pass),
+        b's' => Tested::Untestable,
+        _ => Tested::Verdict(Verdict::Fail),
     }
-    Ok(verdicts)
+}
+
+/// What the letters of a text say of tests.
+fn tested_of(alloc: Global, letters: &str) -> Result<Vec<Tested>, AllocError> {
+    let mut tested = Vec::new(alloc);
+    for letter in letters.bytes() {
+        tested.push(tested_by(letter))?;
+    }
+    Ok(tested)
 }
 
 /// A runner in memory.
 pub(crate) fn play_runs<R: Print>(rt: &R, alloc: Global, rest: &str) -> io::Result<()> {
     let (letters, rest) = word(rest);
     let (fails, runs) = word(rest);
-    let verdicts = verdicts_of(alloc, letters)?;
-    let mut runner = ListRunner::of(verdicts, numbers_of(alloc, fails)?);
+    let tested = tested_of(alloc, letters)?;
+    let mut runner = ListRunner::of(tested, numbers_of(alloc, fails)?);
     print_answers(rt, alloc, &mut runner, number_of(runs))
 }
 

@@ -8,8 +8,8 @@
 //! - `sockets`, how long a connection may last in milliseconds, and parts with bars between: each is the address of one
 //!   more network, where `here` is the one that is listened at, and its steps. `refusing` is the same over a system
 //!   that refuses the first three connects, and after one that it made all others.
-//! - `runs`, verdicts, the calls that fail, and how many runs; `keys` and keys with points between, of which four are
-//!   drawn; `random_keys`.
+//! - `runs`, what tests say, in letters, the calls that fail, and how many runs; `keys` and keys with points between,
+//!   of which four are drawn; `random_keys`.
 //! - `named` and a word that names a runner; `table` and the text of a table; `hosts`, links as above, and how many
 //!   runs.
 //!

@@ -7,9 +7,9 @@ use Rattle.std.proofs.lemmas.Option.{same_Some}
 use Rattle.std.proofs.Math.Seq.{get_or-append_seam}
 use Rattle.std.proofs.Math.ListN.{length-set}
 use Rattle.farm_types.specs.declared.stage.Stage.TheVariants.{Search, Verify}
-use Rattle.weight_exact.specs.Plan.{plan}
+use Rattle.open_positions.specs.Open.{open_plan}
 use Rattle.weight_exact.specs.declared.run.Run.{Run}
-use Rattle.farm_entry.specs.History.{opening_in, openings}
+use Rattle.farm_entry.specs.History.{opening_in, openings, runs, skipped}
 use Rattle.farm_entry.specs.Legal.{IsLegal, ask_of}
 use Rattle.farm_entry.specs.Setup.{setup_of}
 use Rattle.farm_entry.specs.declared.entry.Entry.{Entry}
@@ -21,7 +21,7 @@ use Rattle.farm_laws.proofs.Numbered.{number-at, openings-numbered}
 use Rattle.farm_laws.proofs.Opened.{opened-cases}
 use Rattle.farm_laws.proofs.Stepped.{Stepped}
 use Rattle.search_laws.specs.Steps.{IsAbout}
-use Rattle.search_laws.proofs.OneMore.{cancelled-same, not_about-cancel, not_about-report, over-same, runs-same, standing-same}
+use Rattle.search_laws.proofs.OneMore.{cancelled-same, not_about-cancel, not_about-report, over-same, runs-same, skips-same, standing-same}
 use Rattle.plain_farm.specs.Rows.{AreRows, IsOut, IsTold}
 use Rattle.plain_farm.specs.declared.rows.Row.{Row}
 
@@ -31,15 +31,19 @@ pub told-same : (H : List Entry) (e : Entry) (o : Opening) (row : Row) → IsLeg
 told-same H e o row legal step other t =
     let run = runs-same H e o.search Search legal step other in
     let again = runs-same H e o.search Verify legal step other in
+    let skips = skips-same H e o.search legal step other in
     let stands = standing-same H e o legal step other in
     record {
       told = t.told ∙ sym run;
       again = t.again ∙ sym again;
+      skips = t.skips ∙ sym skips;
       cancelled = t.cancelled ∙ sym (cancelled-same H e o.search (not_about-cancel H e.what o.search other));
       over = t.over ∙ sym (over-same H e o.search legal step (not_about-report H e.what o.search other));
       stands = t.stands ∙ sym stands;
       planned = λ searching.
-          t.planned (sym stands ∙ searching) ∙ ap (λ (rs : List Run). plan (setup_of o) rs o.width) (sym run);
+          t.planned (sym stands ∙ searching)
+          ∙ ap (λ (rs : List Run). open_plan (setup_of o) rs (skipped H o.search) o.width) (sym run)
+          ∙ ap (λ (ks : List ℕ). open_plan (setup_of o) (runs (H ++ e ∷ []) o.search) ks o.width) (sym skips);
     }
 
 -- The searches of a history with an entry that opens none.
@@ -133,7 +137,7 @@ longer-openings : (H : List Entry) (e : Entry) (o : Opening) → opening_in e.wh
 longer-openings H e o is = ap length (openings-more H e o is) ∙ length-append (openings H) (o ∷ [])
 
 -- those before have smaller numbers
-opening-low : (H : List Entry) (x : Opening) → IsLegal H → Contains (openings H) x → x.search ≤ length (openings H)
+pub opening-low : (H : List Entry) (x : Opening) → IsLegal H → Contains (openings H) x → x.search ≤ length (openings H)
 opening-low H x legal there =
     let at = number-at (λ (y : Opening). y.search) 1 (openings H) (openings-numbered H legal) there.0 x there.1 in
     let number : x.search ≡ 1 + there.0 = ap (λ (y : Opening). y.search) (sym there.2) ∙ at in

@@ -8,5 +8,8 @@ pub mod About
 pub mod Waiting
 pub mod Keeping
 pub mod Taking
+pub mod Skipped
 pub mod Steps
 pub mod Reports
+pub mod SkipRows
+pub mod Plans

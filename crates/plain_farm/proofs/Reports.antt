@@ -1,10 +1,10 @@
 -- The row of a search after a report of one of its runs.
-use Rattle.std.proofs.Common.{◌≡◌, ◌==◌, Bool, ◌||◌, not, List, [], ◌++◌, filter, Contains, Option, sym, ap, subst, ◌∙◌}
+use Rattle.std.proofs.Common.{◌≡◌, ℕ, ◌==◌, Bool, ◌||◌, not, List, [], ◌++◌, filter, Contains, Option, sym, ap, subst, ◌∙◌}
 use Rattle.std.specs.List.{cons_option}
 use Rattle.farm_types.specs.declared.stage.Stage.TheVariants.{Search, Verify}
-use Rattle.weight_exact.specs.Plan.{plan}
+use Rattle.open_positions.specs.Open.{open_plan}
 use Rattle.weight_exact.specs.declared.run.Run.{Run}
-use Rattle.farm_entry.specs.History.{counted, is_over, lease_in, openings, reruns, runs, was_cancelled, went_over}
+use Rattle.farm_entry.specs.History.{counted, is_over, lease_in, openings, reruns, runs, skipped, was_cancelled, went_over}
 use Rattle.farm_entry.specs.Setup.{setup_of}
 use Rattle.farm_entry.specs.Standing.{standing}
 use Rattle.farm_entry.specs.declared.entry.Entry.{Entry}
@@ -12,11 +12,12 @@ use Rattle.farm_entry.specs.declared.lease.LeasedRun.{LeasedRun}
 use Rattle.farm_entry.specs.declared.lease.ReportedRun.{ReportedRun}
 use Rattle.farm_entry.specs.declared.opening.Opening.{Opening}
 use Rattle.farm_entry.specs.declared.standing.Standing.TheVariants.{Searching}
+use Rattle.farm_laws.proofs.EntryParts.{report-no_skip, report-told}
 use Rattle.farm_laws.proofs.Opened.{opened-stays}
 use Rattle.plain_farm.specs.Rows.{IsOut, IsRow, IsToldOf, told_run}
 use Rattle.plain_farm.specs.declared.rows.Row.{Row}
 use Rattle.plain_farm.proofs.About.{report-alone}
-use Rattle.plain_farm.proofs.Taking.{cancelled-told, counted-told, none-leased, over-told}
+use Rattle.plain_farm.proofs.Taking.{cancelled-told, counted-told, none-leased, over-told, skipped-told}
 use Rattle.plain_farm.proofs.Waiting.{out-reported}
 
 module _ (longer : List Entry) (o : Opening) (row : Row) (l : LeasedRun) (r : ReportedRun)
@@ -43,6 +44,12 @@ module _ (longer : List Entry) (o : Opening) (row : Row) (l : LeasedRun) (r : Re
       ∙ sym (ap (λ (H : List Entry). counted H o.search Verify) t.whole
       ∙ counted-told t.before t.last o r l Verify t.legal_before t.reported t.leased t.of_search)
 
+  pub told-skipped : (ks : List ℕ) → ks ≡ row.skipped.items → ks ≡ skipped longer o.search
+  told-skipped ks same =
+      same ∙ t.kept.told.skips
+      ∙ sym (ap (λ (H : List Entry). skipped H o.search) t.whole
+      ∙ skipped-told t.before t.last o.search t.legal_before (report-no_skip t.last.what r t.reported))
+
   pub told-cancelled : was_cancelled longer o.search ≡ row.cancelled
   told-cancelled =
       ap (λ (H : List Entry). was_cancelled H o.search) t.whole
@@ -56,21 +63,24 @@ module _ (longer : List Entry) (o : Opening) (row : Row) (l : LeasedRun) (r : Re
       ∙ ap (λ (b : Bool). b || is_over r.fate) (sym t.kept.told.over)
 
   pub told-row : (new : Row) → new.runs.items ≡ runs longer o.search → new.reruns.items ≡ reruns longer o.search →
-      new.cancelled ≡ row.cancelled → new.over ≡ (row.over || is_over r.fate) → new.standing ≡ standing longer o →
-      (standing longer o ≡ Searching → new.plan.items ≡ plan (setup_of o) (runs longer o.search) o.width) →
+      new.skipped.items ≡ skipped longer o.search → new.cancelled ≡ row.cancelled →
+      new.over ≡ (row.over || is_over r.fate) → new.standing ≡ standing longer o →
+      (standing longer o ≡ Searching → new.plan.items ≡ open_plan (setup_of o) (runs longer o.search)
+      (skipped longer o.search) o.width) →
       new.unreported.items ≡ filter (λ (x : LeasedRun). not (r.run == x.run)) row.unreported.items →
       new.last_lease ≡ row.last_lease → IsRow longer o new
-  told-row new runs_are again_are cancelled over stands planned left last = record {
+  told-row new runs_are again_are skips_are cancelled over stands planned left last = record {
     told = record {
       told = runs_are;
       again = again_are;
+      skips = skips_are;
       cancelled = cancelled ∙ sym told-cancelled;
       over = over ∙ sym told-over;
       stands = stands;
       planned = planned;
     };
     out = subst (λ (H : List Entry). IsOut H o.search new) (sym t.whole)
-        (out-reported t.before t.last o.search r row new t.reported
+        (out-reported t.before t.last o.search r.run row new (report-told t.last.what r t.reported)
         (none-leased (lease_in t.last.what) o.search (report-alone t.last.what r t.reported).lease)
         t.kept.out left last);
   }

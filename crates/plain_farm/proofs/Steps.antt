@@ -4,23 +4,25 @@ use Rattle.std.specs.List.{cons_option}
 use Rattle.std.proofs.lemmas.List.Elements.{All-contains, Contains-push}
 use Rattle.std.proofs.lemmas.Option.{none-some, same_Some}
 use Rattle.farm_types.specs.declared.stage.Stage.{Stage}
-use Rattle.farm_entry.specs.History.{all_leases, cancelled_in, counted, lease_in, lease_of, opening_in, opening_numbered, openings, report_in}
+use Rattle.farm_entry.specs.History.{all_leases, cancelled_in, counted, lease_in, lease_of, opening_in, opening_numbered, openings, report_in, skip_in, skipped, told_in}
 use Rattle.farm_entry.specs.Legal.{IsLegal}
 use Rattle.farm_entry.specs.declared.entry.Entry.{Entry}
 use Rattle.farm_entry.specs.declared.lease.LeasedRun.{LeasedRun}
 use Rattle.farm_entry.specs.declared.lease.ReportedRun.{ReportedRun}
+use Rattle.farm_entry.specs.declared.lease.SkippedRun.{SkippedRun}
 use Rattle.farm_entry.specs.declared.opening.Opening.{Opening}
 use Rattle.farm_entry.proofs.Growing.{all_leases-grow}
 use Rattle.farm_laws.specs.Openings.{HasOpening}
-use Rattle.farm_laws.proofs.EntryParts.{reported-facts}
+use Rattle.farm_laws.proofs.EntryParts.{told-facts}
 use Rattle.farm_laws.proofs.Induct.{IsLegal-pushed}
 use Rattle.farm_laws.proofs.Known.{leases-known}
 use Rattle.farm_laws.proofs.Numbered.{lease-there, opening-found, opening-there}
 use Rattle.farm_laws.proofs.Opened.{fresh-counted}
 use Rattle.farm_laws.proofs.Stepped.{Stepped, stepped}
-use Rattle.plain_farm.specs.Rows.{AreRows, IsCancelledRow, IsLeasedRow, IsOut, IsRow, IsStep, IsTold, IsToldOf}
+use Rattle.plain_farm.specs.Rows.{AreRows, IsCancelledRow, IsLeasedRow, IsOut, IsRow, IsSkipOf, IsStep, IsTold, IsToldOf}
 use Rattle.plain_farm.specs.declared.rows.Row.{Row}
-use Rattle.plain_farm.proofs.About.{report-alone}
+use Rattle.plain_farm.proofs.About.{none-told, told-alone}
+use Rattle.plain_farm.proofs.Skipped.{fresh-skipped}
 use Rattle.plain_farm.proofs.Keeping.{openings-more, openings-same, rows-opened, rows-unopened}
 use Rattle.plain_farm.proofs.Taking.{HasNoRow, others-opened, rows-cancelled, rows-cancelled_none, rows-leased, rows-leased_none, rows-quiet, rows-reported, rows-reported_none}
 
@@ -52,6 +54,10 @@ module _ (longer : List Entry) (e : Entry) (rows : List Row) (s : IsStep longer 
     opened-fresh stage =
         ap (λ (H : List Entry). counted H o.search stage) s.whole ∙ fresh-counted s.before e o stage s.legal_before made is
 
+    pub opened-unskipped : skipped longer o.search ≡ []
+    opened-unskipped =
+        ap (λ (H : List Entry). skipped H o.search) s.whole ∙ fresh-skipped s.before e o s.legal_before made is
+
     pub step-opened : (new : Row) → length rows + 1 ≡ o.search → IsRow longer o new → AreRows longer (rows ++ new ∷ [])
     step-opened new next row =
         longer-rows (rows ++ new ∷ [])
@@ -81,39 +87,39 @@ module _ (longer : List Entry) (e : Entry) (rows : List Row) (s : IsStep longer 
     pub step-leased_none : HasNoRow rows l.search → AreRows longer rows
     step-leased_none none = longer-rows rows (rows-leased_none s.before e rows l s.legal_before made is s.kept none)
 
-  -- A report.
+  -- A report, with a verdict or not.
 
-  module _ (r : ReportedRun) (is : report_in e.what ≡ Some r) where
+  module _ (run : ℕ) (is : told_in e.what ≡ Some run) where
     -- an entry that reports hands out no lease, and opens no search
     same-leases : all_leases longer ≡ all_leases s.before
     same-leases =
         ap all_leases s.whole ∙ all_leases-grow s.before e
-        ∙ ap (λ (x : Option LeasedRun). all_leases s.before ++ cons_option x []) (report-alone e.what r is).lease
+        ∙ ap (λ (x : Option LeasedRun). all_leases s.before ++ cons_option x []) (told-alone e.what run is).lease
         ∙ append-nil (all_leases s.before)
 
     same-openings : openings longer ≡ openings s.before
-    same-openings = ap openings s.whole ∙ openings-same s.before e (report-alone e.what r is).opening
+    same-openings = ap openings s.whole ∙ openings-same s.before e (told-alone e.what run is).opening
 
-    pub lease-before : lease_of longer r.run ≡ lease_of s.before r.run
-    lease-before = ap (λ (ls : List LeasedRun). lease-in ls r.run) same-leases
+    pub lease-before : lease_of longer run ≡ lease_of s.before run
+    lease-before = ap (λ (ls : List LeasedRun). lease-in ls run) same-leases
 
     -- the lease of the run is there, and its search
-    pub no-lease : lease_of longer r.run ≡ None → ⊥
+    pub no-lease : lease_of longer run ≡ None → ⊥
     no-lease none =
-        let facts = reported-facts s.before e.at e.what r is made in
+        let facts = told-facts s.before e.at e.what run is made in
         none-some facts.lease (sym none ∙ lease-before ∙ facts.known)
 
-    pub no-search : (l : LeasedRun) → lease_of longer r.run ≡ Some l → opening_numbered longer l.search ≡ None → ⊥
+    pub no-search : (l : LeasedRun) → lease_of longer run ≡ Some l → opening_numbered longer l.search ≡ None → ⊥
     no-search l known none =
-        let there = lease-there s.before r.run l (sym lease-before ∙ known) in
+        let there = lease-there s.before run l (sym lease-before ∙ known) in
         let has : HasOpening s.before l.search =
         All-contains (λ (x : LeasedRun). HasOpening s.before x.search) (all_leases s.before) l
         (leases-known s.before s.legal_before) there.0 in
         none-some has.0 (sym none ∙ ap (λ (os : List Opening). opening-in os l.search) same-openings ∙ has.1)
 
-    module _ (l : LeasedRun) (known : lease_of longer r.run ≡ Some l) (o : Opening)
+    module _ (l : LeasedRun) (known : lease_of longer run ≡ Some l) (o : Opening)
         (found : opening_numbered longer l.search ≡ Some o) where
-      before-known : lease_of s.before r.run ≡ Some l
+      before-known : lease_of s.before run ≡ Some l
       before-known = sym lease-before ∙ known
 
       found-before : opening_numbered s.before l.search ≡ Some o
@@ -125,22 +131,40 @@ module _ (longer : List Entry) (e : Entry) (rows : List Row) (s : IsStep longer 
       of_it : l.search ≡ o.search
       of_it = sym (opening-there s.before l.search o found-before).1
 
-      pub step-told : (i : ℕ) (row : Row) → i + 1 ≡ l.search → i < length rows → row ≡ get_or rows i row →
-          IsToldOf longer o row l r
-      step-told i row at below was = record {
+      kept-of : (i : ℕ) (row : Row) → i + 1 ≡ l.search → i < length rows → row ≡ get_or rows i row → IsRow s.before o row
+      kept-of i row at below was = record {
+        told = s.kept.told o i row opened-before (at ∙ of_it) below was;
+        out = subst (λ (n : ℕ). IsOut s.before n row) (at ∙ of_it) (s.kept.out i row below was);
+      }
+
+      pub step-told : (r : ReportedRun) → report_in e.what ≡ Some r → r.run ≡ run → (i : ℕ) (row : Row) → i + 1 ≡ l.search →
+          i < length rows → row ≡ get_or rows i row → IsToldOf longer o row l r
+      step-told r reports its i row at below was = record {
         before = s.before;
         last = e;
         whole = s.whole;
         legal_before = s.legal_before;
         legal = s.legal;
-        reported = is;
-        leased = before-known;
+        reported = reports;
+        leased = ap (lease_of s.before) its ∙ before-known;
         of_search = of_it;
         opened = opened-before;
-        kept = record {
-          told = s.kept.told o i row opened-before (at ∙ of_it) below was;
-          out = subst (λ (n : ℕ). IsOut s.before n row) (at ∙ of_it) (s.kept.out i row below was);
-        };
+        kept = kept-of i row at below was;
+      }
+
+      pub step-skipped : (r : SkippedRun) → skip_in e.what ≡ Some r → r.run ≡ run → (i : ℕ) (row : Row) → i + 1 ≡ l.search →
+          i < length rows → row ≡ get_or rows i row → IsSkipOf longer o row l r
+      step-skipped r skips its i row at below was = record {
+        before = s.before;
+        last = e;
+        whole = s.whole;
+        legal_before = s.legal_before;
+        legal = s.legal;
+        reported = skips;
+        leased = ap (lease_of s.before) its ∙ before-known;
+        of_search = of_it;
+        opened = opened-before;
+        kept = kept-of i row at below was;
       }
 
       one-numbered : (x : Opening) → Contains (openings s.before) x → x.search ≡ o.search → x ≡ o
@@ -153,12 +177,12 @@ module _ (longer : List Entry) (e : Entry) (rows : List Row) (s : IsStep longer 
           AreRows longer (set rows i new)
       step-reported i new at below row =
           longer-rows (set rows i new)
-          (rows-reported s.before e rows r l o i new s.legal_before made is before-known of_it opened-before s.kept at below
+          (rows-reported s.before e rows run l o i new s.legal_before made is before-known of_it opened-before s.kept at below
           one-numbered (subst (λ (H : List Entry). IsRow H o new) s.whole row))
 
       pub step-reported_none : HasNoRow rows l.search → AreRows longer rows
       step-reported_none none =
-          longer-rows rows (rows-reported_none s.before e rows r l s.legal_before made is before-known s.kept none)
+          longer-rows rows (rows-reported_none s.before e rows run l s.legal_before made is before-known s.kept none)
 
   -- A cancellation.
 
@@ -172,7 +196,8 @@ module _ (longer : List Entry) (e : Entry) (rows : List Row) (s : IsStep longer 
     step-cancelled_none none = longer-rows rows (rows-cancelled_none s.before e rows q s.legal_before made is s.kept none)
 
   -- An entry that says nothing of a search.
-  pub step-quiet : opening_in e.what ≡ None → lease_in e.what ≡ None → report_in e.what ≡ None → cancelled_in e.what ≡ None →
-      AreRows longer rows
-  step-quiet opening lease report cancelled =
-      longer-rows rows (rows-quiet s.before e rows s.legal_before made opening lease report cancelled s.kept)
+  pub step-quiet : opening_in e.what ≡ None → lease_in e.what ≡ None → report_in e.what ≡ None → skip_in e.what ≡ None →
+      cancelled_in e.what ≡ None → AreRows longer rows
+  step-quiet opening lease report skip cancelled =
+      longer-rows rows
+      (rows-quiet s.before e rows s.legal_before made opening lease (none-told e.what report skip) cancelled s.kept)

@@ -6,16 +6,15 @@ use Rattle.std.proofs.lemmas.Bool.Decides.{nat_tests}
 use Rattle.std.proofs.lemmas.List.Elements.{All-contains_itself, All-head, All-tail, All-weaker, filter-append}
 use Rattle.std.proofs.lemmas.List.Folds.{list_any_none}
 use Rattle.std.proofs.lemmas.Option.{same_Some}
-use Rattle.farm_entry.specs.History.{all_leases, is_lease_for, is_of_run, is_of_search, is_report_of, is_reported, last_lease, lease_in, lease_of, leases, report_in, reports, same_stage}
-use Rattle.farm_entry.specs.Due.{open_positions}
+use Rattle.farm_entry.specs.History.{all_leases, is_lease_for, is_of_run, is_of_search, is_report_of, is_reported, last_lease, lease_in, lease_of, leases, same_stage, told_in, told_runs}
+use Rattle.farm_entry.specs.Due.{outstanding_positions}
 use Rattle.farm_entry.specs.Legal.{IsLegal}
 use Rattle.farm_types.specs.declared.stage.Stage.{Stage}
 use Rattle.farm_entry.specs.declared.entry.Entry.{Entry}
 use Rattle.farm_entry.specs.declared.lease.LeasedRun.{LeasedRun}
-use Rattle.farm_entry.specs.declared.lease.ReportedRun.{ReportedRun}
 use Rattle.farm_laws.proofs.EntryParts.{leased-facts}
 use Rattle.farm_laws.proofs.Filters.{HasLease, is_reported-grow, leases-grow}
-use Rattle.farm_laws.proofs.Known.{reports-known}
+use Rattle.farm_laws.proofs.Known.{told_runs-known}
 use Rattle.farm_laws.proofs.Lists.{there-filter}
 use Rattle.farm_laws.proofs.Numbered.{lease-found, lease-there, leases-numbered, number-at}
 use Rattle.farm_laws.proofs.Stepped.{Stepped}
@@ -64,10 +63,10 @@ not-or false b = refl
 
 -- Leases without a report.
 
-reports_run : (run : ℕ) (rep : Option ReportedRun) →
-    list_any (λ (r : ReportedRun). r.run == run) (cons_option rep []) ≡ is_of_run run rep
+reports_run : (run : ℕ) (one : Option ℕ) →
+    list_any (λ (told : ℕ). told == run) (cons_option one []) ≡ is_of_run run one
 reports_run run None = refl
-reports_run run (Some r) = or-nil (r.run == run)
+reports_run run (Some told) = or-nil (told == run)
   where
     or-nil : (b : Bool) → (b || false) ≡ b
     or-nil true = refl
@@ -78,7 +77,7 @@ left-step : (H : List Entry) (e : Entry) (l : LeasedRun) →
 left-step H e l =
     ap not
     (is_reported-grow H e l.run
-    ∙ ap (λ (b : Bool). is_reported H l.run || b) (reports_run l.run (report_in e.what)))
+    ∙ ap (λ (b : Bool). is_reported H l.run || b) (reports_run l.run (told_in e.what)))
     ∙ not-or (is_reported H l.run) (is_report_of l.run e)
 
 unreported-step : (H : List Entry) (e : Entry) (s : ℕ) →
@@ -94,11 +93,11 @@ unreported-step H e s =
     ∙ ap (filter left) (filter-append before (leases H s) (handed_out e.what s))
 
 -- an entry that reports nothing leaves all leases
-none-left : (e : Entry) (ls : List LeasedRun) → report_in e.what ≡ None →
+none-left : (e : Entry) (ls : List LeasedRun) → told_in e.what ≡ None →
     filter (λ (l : LeasedRun). not (is_report_of l.run e)) ls ≡ ls
 none-left e ls none =
     filter-kept (λ (l : LeasedRun). not (is_report_of l.run e)) ls
-    (λ l there. ap (λ (r : Option ReportedRun). not (is_of_run l.run r)) none)
+    (λ l there. ap (λ (told : Option ℕ). not (is_of_run l.run told)) none)
 
 -- an entry hands out no lease of a search
 abbrev pub IsNotLeased : Option LeasedRun → ℕ → Type 0
@@ -126,7 +125,7 @@ last-same H e s other =
     ∙ ap (λ (b : Bool). if b then length H else last_lease H s) (not-for (lease_in e.what) s other)
 
 -- an entry that neither leases nor reports a run of a search
-pub out-quiet : (H : List Entry) (e : Entry) (s : ℕ) (row : Row) → report_in e.what ≡ None →
+pub out-quiet : (H : List Entry) (e : Entry) (s : ℕ) (row : Row) → told_in e.what ≡ None →
     IsNotLeased (lease_in e.what) s → IsOut H s row → IsOut (H ++ e ∷ []) s row
 out-quiet H e s row none other out =
     let before : LeasedRun → Bool = λ l. not (is_reported H l.run) in
@@ -154,14 +153,14 @@ too-high a n run low next = grind (arith, nat_tests)
 
 next-unreported : (H : List Entry) (run : ℕ) → IsLegal H → run ≡ length (all_leases H) + 1 → is_reported H run ≡ false
 next-unreported H run legal next =
-    list_any_none (λ (r : ReportedRun). r.run == run) (reports H)
+    list_any_none (λ (told : ℕ). told == run) (told_runs H)
     (λ k d below.
-    too-high (get_or (reports H) k d).run (length (all_leases H)) run
-    (lease-low H (get_or (reports H) k d).run legal (reports-known H legal k d below)) next)
+    too-high (get_or (told_runs H) k d) (length (all_leases H)) run
+    (lease-low H (get_or (told_runs H) k d) legal (told_runs-known H legal k d below)) next)
 
 -- the search of a lease has one more
 pub out-leased : (H : List Entry) (e : Entry) (l : LeasedRun) (old new : Row) → IsLegal H → Stepped H e.at e.what →
-    report_in e.what ≡ None → lease_in e.what ≡ Some l → IsOut H l.search old →
+    told_in e.what ≡ None → lease_in e.what ≡ Some l → IsOut H l.search old →
     new.unreported.items ≡ old.unreported.items ++ l ∷ [] → new.last_lease ≡ length H →
     IsOut (H ++ e ∷ []) l.search new
 out-leased H e l old new legal step none is out more place =
@@ -186,46 +185,46 @@ out-leased H e l old new legal step none is out more place =
     }
 
 -- an entry that reports a run: its search has the lease no more
-reported-left : (H : List Entry) (e : Entry) (s : ℕ) (r : ReportedRun) → report_in e.what ≡ Some r →
+reported-left : (H : List Entry) (e : Entry) (s run : ℕ) → told_in e.what ≡ Some run →
     IsNotLeased (lease_in e.what) s →
-    unreported (H ++ e ∷ []) s ≡ filter (λ (l : LeasedRun). not (r.run == l.run)) (unreported H s)
-reported-left H e s r is other =
+    unreported (H ++ e ∷ []) s ≡ filter (λ (l : LeasedRun). not (run == l.run)) (unreported H s)
+reported-left H e s run is other =
     let before : LeasedRun → Bool = λ l. not (is_reported H l.run) in
     let left : LeasedRun → Bool = λ l. not (is_report_of l.run e) in
     unreported-step H e s
     ∙ ap (λ (ls : List LeasedRun). filter left (unreported H s ++ filter before ls)) (out-none (lease_in e.what) s other)
     ∙ ap (filter left) (append-nil (unreported H s))
-    ∙ ap (λ (x : Option ReportedRun). filter (λ (l : LeasedRun). not (is_of_run l.run x)) (unreported H s)) is
+    ∙ ap (λ (x : Option ℕ). filter (λ (l : LeasedRun). not (is_of_run l.run x)) (unreported H s)) is
 
-pub out-reported : (H : List Entry) (e : Entry) (s : ℕ) (r : ReportedRun) (old new : Row) → report_in e.what ≡ Some r →
+pub out-reported : (H : List Entry) (e : Entry) (s run : ℕ) (old new : Row) → told_in e.what ≡ Some run →
     IsNotLeased (lease_in e.what) s → IsOut H s old →
-    new.unreported.items ≡ filter (λ (l : LeasedRun). not (r.run == l.run)) old.unreported.items →
+    new.unreported.items ≡ filter (λ (l : LeasedRun). not (run == l.run)) old.unreported.items →
     new.last_lease ≡ old.last_lease → IsOut (H ++ e ∷ []) s new
-out-reported H e s r old new is other out fewer same = record {
+out-reported H e s run old new is other out fewer same = record {
   waiting = fewer
-      ∙ ap (filter (λ (l : LeasedRun). not (r.run == l.run))) out.waiting
-      ∙ sym (reported-left H e s r is other);
+      ∙ ap (filter (λ (l : LeasedRun). not (run == l.run))) out.waiting
+      ∙ sym (reported-left H e s run is other);
   last = same ∙ out.last ∙ sym (last-same H e s other);
 }
 
 -- and other searches keep theirs
-pub out-other : (H : List Entry) (e : Entry) (s : ℕ) (r : ReportedRun) (l : LeasedRun) (row : Row) → IsLegal H →
-    report_in e.what ≡ Some r → lease_of H r.run ≡ Some l → l.search ≢ s → IsNotLeased (lease_in e.what) s →
+pub out-other : (H : List Entry) (e : Entry) (s run : ℕ) (l : LeasedRun) (row : Row) → IsLegal H →
+    told_in e.what ≡ Some run → lease_of H run ≡ Some l → l.search ≢ s → IsNotLeased (lease_in e.what) s →
     IsOut H s row → IsOut (H ++ e ∷ []) s row
-out-other H e s r l row legal is known apart other out =
-    let ours : (x : LeasedRun) → Contains (unreported H s) x → not (r.run == x.run) ≡ true =
+out-other H e s run l row legal is known apart other out =
+    let ours : (x : LeasedRun) → Contains (unreported H s) x → not (run == x.run) ≡ true =
     λ x there.
     let in_search = (there-filter (λ (y : LeasedRun). not (is_reported H y.run)) (leases H s) x there).0 in
     let in_all = there-filter (λ (y : LeasedRun). y.search == s) (all_leases H) x in_search in
     let of_it : x.search ≡ s = equal-number x.search s in_all.1 in
-    let not_it : r.run ≢ x.run =
+    let not_it : run ≢ x.run =
     λ same.
     let found : Some l ≡ Some x =
     sym known ∙ ap (lease_of H) same ∙ lease-found H x legal in_all.0 in
     apart (ap (λ (y : LeasedRun). y.search) (same_Some l x found) ∙ of_it) in
-    ap not (ne_eqb r.run x.run not_it) in
+    ap not (ne_eqb run x.run not_it) in
     let same : unreported (H ++ e ∷ []) s ≡ unreported H s =
-    reported-left H e s r is other ∙ filter-kept (λ (x : LeasedRun). not (r.run == x.run)) (unreported H s) ours in
+    reported-left H e s run is other ∙ filter-kept (λ (x : LeasedRun). not (run == x.run)) (unreported H s) ours in
     record { waiting = out.waiting ∙ sym same; last = out.last ∙ sym (last-same H e s other) }
 
 -- the open leases of a stage, by those that have no report
@@ -237,7 +236,7 @@ open-both false false c = refl
 
 pub open-kept : (H : List Entry) (s : ℕ) (stage : Stage) (m : ℕ) (ls : List LeasedRun) → ls ≡ unreported H s →
     map (λ (l : LeasedRun). l.position) (filter (λ (l : LeasedRun). same_stage l.stage stage && nat_lt m l.deadline) ls)
-    ≡ open_positions H s stage m
+    ≡ outstanding_positions H s stage m
 open-kept H s stage m ls are =
     let left : LeasedRun → Bool = λ l. not (is_reported H l.run) in
     let later : LeasedRun → Bool = λ l. same_stage l.stage stage && nat_lt m l.deadline in

@@ -1,2 +1,3 @@
+pub mod Believed
 pub mod Rows
 pub mod Stops

@@ -2,16 +2,17 @@
 -- definition of the farm gives.
 use Rattle.std.specs.Prelude.{◌≡◌, ℕ, true, ◌+◌, ◌<◌, ◌≤◌, ◌&&◌, not, if◌then◌else◌, List, [], ◌∷◌, ◌++◌, length, filter, get_or, Contains, Option, Some, None}
 use Rattle.farm_types.specs.declared.stage.Stage.{Stage}
-use Rattle.weight_exact.specs.Plan.{plan}
+use Rattle.open_positions.specs.Open.{open_plan}
 use Rattle.weight_exact.specs.declared.run.Run.{Run}
 use Rattle.farm_entry.specs.Decision.{run_with}
-use Rattle.farm_entry.specs.History.{is_counted, is_reported, last_lease, lease_of, leases, openings, report_in, reruns, runs, same_stage, was_cancelled, went_over}
+use Rattle.farm_entry.specs.History.{is_counted, is_reported, is_taken, last_lease, lease_of, leases, openings, report_in, reruns, runs, same_stage, skip_in, skipped, was_cancelled, went_over}
 use Rattle.farm_entry.specs.Legal.{IsLegal}
 use Rattle.farm_entry.specs.Setup.{setup_of}
 use Rattle.farm_entry.specs.Standing.{standing}
 use Rattle.farm_entry.specs.declared.entry.Entry.{Entry}
 use Rattle.farm_entry.specs.declared.lease.LeasedRun.{LeasedRun}
 use Rattle.farm_entry.specs.declared.lease.ReportedRun.{ReportedRun}
+use Rattle.farm_entry.specs.declared.lease.SkippedRun.{SkippedRun}
 use Rattle.farm_entry.specs.declared.opening.Opening.{Opening}
 use Rattle.farm_entry.specs.declared.standing.Standing.TheVariants.{Cancelled as Ended, Searching}
 use Rattle.plain_farm.specs.declared.rows.Row.{Row}
@@ -24,10 +25,12 @@ unreported H search = filter (λ l. not (is_reported H l.run)) (leases H search)
 pub record IsTold (H : List Entry) (o : Opening) (row : Row) : Type 0 where
   pub told : row.runs.items ≡ runs H o.search
   pub again : row.reruns.items ≡ reruns H o.search
+  pub skips : row.skipped.items ≡ skipped H o.search
   pub cancelled : row.cancelled ≡ was_cancelled H o.search
   pub over : row.over ≡ went_over H o.search
   pub stands : row.standing ≡ standing H o
-  pub planned : standing H o ≡ Searching → row.plan.items ≡ plan (setup_of o) (runs H o.search) o.width
+  pub planned : standing H o ≡ Searching
+      → row.plan.items ≡ open_plan (setup_of o) (runs H o.search) (skipped H o.search) o.width
 
 -- and of its leases
 pub record IsOut (H : List Entry) (search : ℕ) (row : Row) : Type 0 where
@@ -71,10 +74,28 @@ pub record IsToldOf (longer : List Entry) (o : Opening) (row : Row) (l : LeasedR
   pub opened : Contains (openings before) o
   pub kept : IsRow before o row
 
+-- the position that a skip closes, where it was taken
+abbrev pub closed_position : LeasedRun → SkippedRun → Option ℕ
+closed_position l r = if is_taken r.fate then Some l.position else None
+
+-- the last entry of a legal history skips a run of a search, and this row was kept of the search before it
+pub record IsSkipOf (longer : List Entry) (o : Opening) (row : Row) (l : LeasedRun) (r : SkippedRun) : Type 0 where
+  pub before : List Entry
+  pub last : Entry
+  pub whole : longer ≡ before ++ last ∷ []
+  pub legal_before : IsLegal before
+  pub legal : IsLegal longer
+  pub reported : skip_in last.what ≡ Some r
+  pub leased : lease_of before r.run ≡ Some l
+  pub of_search : l.search ≡ o.search
+  pub opened : Contains (openings before) o
+  pub kept : IsRow before o row
+
 -- the row of a search with one lease more
 pub record IsLeasedRow (old new : Row) (l : LeasedRun) (place : ℕ) : Type 0 where
   pub told : new.runs.items ≡ old.runs.items
   pub again : new.reruns.items ≡ old.reruns.items
+  pub skips : new.skipped.items ≡ old.skipped.items
   pub cancelled : new.cancelled ≡ old.cancelled
   pub over : new.over ≡ old.over
   pub stands : new.standing ≡ old.standing
@@ -86,6 +107,7 @@ pub record IsLeasedRow (old new : Row) (l : LeasedRun) (place : ℕ) : Type 0 wh
 pub record IsCancelledRow (old new : Row) : Type 0 where
   pub told : new.runs.items ≡ old.runs.items
   pub again : new.reruns.items ≡ old.reruns.items
+  pub skips : new.skipped.items ≡ old.skipped.items
   pub cancelled : new.cancelled ≡ true
   pub over : new.over ≡ old.over
   pub stands : new.standing ≡ Ended

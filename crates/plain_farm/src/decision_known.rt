@@ -27,7 +27,8 @@ fn repeat_or_clash(
     }
 }
 
-/// The decision on a command that was done before, or whose key was used for another: a report is told by its run.
+/// The decision on a command that was done before, or whose key was used for another: a report, with a
+/// verdict or not, is told by its run.
 pub(crate) fn known_decision(
     alloc: Global,
     history: &[Entry],
@@ -36,7 +37,7 @@ pub(crate) fn known_decision(
     requires { IsLegal history.now }
     ensures { IfOk result (λ found. found ≡ known_decision history.now command.now) }
 {
-    if let Command::Report { run, .. } = command {
+    if let Command::Report { run, .. } | Command::Skip { run } = command {
         return match place_of_report(history, *run) {
             None => Ok(None),
             Some(place) => Ok(Some(Decision::Repeat(place as u32))),

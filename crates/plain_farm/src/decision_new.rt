@@ -2,7 +2,7 @@
 
 ghost use Rattle.std.specs.Prelude.{◌≡◌, count_by, Contains, IfOk};
 ghost use Rattle.weight_exact.specs.Load.{is_fail_above, last_pass, load, passed_at};
-ghost use Rattle.farm_entry.specs.Decision.{cancel_decision, fate_at, fate_of, is_past_budget, lease_decision, open_decision, report_decision, revert_decision};
+ghost use Rattle.farm_entry.specs.Decision.{cancel_decision, fate_at, fate_of, is_past_budget, lease_decision, open_decision, report_decision, revert_decision, skip_decision, skip_fate_of};
 ghost use Rattle.farm_entry.specs.History.{opening_numbered, openings};
 ghost use Rattle.farm_entry.specs.Legal.{IsLegal};
 ghost use Rattle.plain_farm.specs.Rows.{AreRows};
@@ -12,7 +12,7 @@ use crate::kept::{reruns_by, runs_by, standing_by};
 use crate::rows::Row;
 use farm_entry::{
     BoxedOpening, Decision, DueRun, Entry, Fate, LeasedRun, MAX_SEARCHES, OpenAsk, Opening,
-    Refusal, Standing, What,
+    Refusal, SkipFate, Standing, What,
 };
 use farm_rules::{Draft, NoOrder};
 use farm_types::{Key, Memory, Moment, Name, Stage};
@@ -206,6 +206,68 @@ pub(crate) fn report_decision(
     };
     let fate = fate_of(alloc, history, rows, lease, verdict)?;
     let what = What::Reported { run, verdict, fate };
+    Ok(Decision::New(Entry { at, what }))
+}
+
+// The report of a run whose tree can't be tested.
+
+/// What becomes of the first such report of a run: it is taken where the search stands at the run's stage, and else
+/// late.
+fn skip_fate_at(
+    alloc: Global,
+    history: &[Entry],
+    rows: &[Row],
+    opening: &Opening,
+    lease: LeasedRun,
+) -> Result<SkipFate, Memory>
+    requires legal { IsLegal history.now }
+    requires opened { Contains (openings history.now) opening.now }
+    requires rows { AreRows history.now rows.now }
+    ensures { IfOk result (λ fate. fate ≡ skip_fate_of history.now lease (Some opening.now)) }
+{
+    match standing_by(alloc, history, rows, opening)? {
+        Standing::Searching if lease.is_at(Stage::Search) => Ok(SkipFate::Taken),
+        Standing::Verifying(_) if lease.is_at(Stage::Verify) => Ok(SkipFate::Taken),
+        _ => Ok(SkipFate::Late),
+    }
+}
+
+/// The fate of the first such report of a run. That of a search that isn't there would be late.
+fn skip_fate_of(
+    alloc: Global,
+    history: &[Entry],
+    rows: &[Row],
+    lease: LeasedRun,
+) -> Result<SkipFate, Memory>
+    requires legal { IsLegal history.now }
+    requires rows { AreRows history.now rows.now }
+    ensures { IfOk result (λ fate. fate
+        ≡ skip_fate_of history.now lease (opening_numbered history.now lease.search)) }
+{
+    match opening_numbered(history, lease.search) {
+        None => Ok(SkipFate::Late),
+        Some(opening) => skip_fate_at(alloc, history, rows, opening, lease),
+    }
+}
+
+/// The first report of a run that was handed out and whose tree can't be tested.
+pub(crate) fn skip_decision(
+    alloc: Global,
+    history: &[Entry],
+    rows: &[Row],
+    run: u32,
+    at: Moment,
+    lease: Option<LeasedRun>,
+) -> Result<Decision, Memory>
+    requires legal { IsLegal history.now }
+    requires rows { AreRows history.now rows.now }
+    ensures { IfOk result (λ found. found ≡ skip_decision history.now run at lease) }
+{
+    let Some(lease) = lease else {
+        return Ok(Decision::Refuse(Refusal::UnknownRun(run)));
+    };
+    let fate = skip_fate_of(alloc, history, rows, lease)?;
+    let what = What::Skipped { run, fate };
     Ok(Decision::New(Entry { at, what }))
 }
 

@@ -8,7 +8,7 @@ ghost use Rattle.plain_farm.specs.Rows.{AreRows};
 
 use crate::decision_known::known_decision;
 use crate::decision_new::{
-    cancel_decision, lease_decision, open_decision, report_decision, revert_decision,
+    cancel_decision, lease_decision, open_decision, report_decision, revert_decision, skip_decision,
 };
 use crate::due_run::next_run_by;
 use crate::orders::next_order_by;
@@ -78,6 +78,10 @@ fn own_decision(
         Command::Report { run, verdict } => {
             let lease = lease_of(history, *run);
             report_decision(alloc, history, rows, *run, *verdict, at, lease)
+        }
+        Command::Skip { run } => {
+            let lease = lease_of(history, *run);
+            skip_decision(alloc, history, rows, *run, at, lease)
         }
         Command::Cancel { key, search } => {
             cancel_decision(alloc, history, rows, *key, *search, at)

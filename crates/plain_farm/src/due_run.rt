@@ -1,31 +1,32 @@
 //! Which runs are out at a moment, and which run is due.
 
-ghost use Rattle.std.specs.Prelude.{◌≡◌, ◌≤◌, length, vec_len, Contains, IfOk};
+ghost use Rattle.std.specs.Prelude.{◌≡◌, ◌+◌, ◌≤◌, Contains, IfOk};
 ghost use Rattle.std.specs.Option.{option_and_then};
 ghost use Rattle.farm_rules.specs.Reruns.{reruns_at};
 ghost use Rattle.farm_types.specs.Moment.{moment_ms};
 ghost use Rattle.farm_types.specs.declared.stage.Stage.TheVariants.{Search, Verify};
-ghost use Rattle.weight_exact.specs.Plan.{plan};
-ghost use Rattle.posterior.specs.StandsFor.{StandsFor};
-ghost use Rattle.farm_entry.specs.Due.{due, due_runs, due_searching, due_verifying, is_open, next_run, open_leases, open_positions, sooner, soonest};
-ghost use Rattle.farm_entry.specs.History.{opening_in, openings, runs};
+ghost use Rattle.open_positions.specs.Open.{open_pick, open_plan};
+ghost use Rattle.farm_entry.specs.Due.{due, due_runs, due_searching, due_verifying, is_open, next_run, open_leases, outstanding_positions, sooner, soonest};
+ghost use Rattle.farm_entry.specs.History.{opening_in, openings, runs, skipped};
 ghost use Rattle.farm_entry.specs.Legal.{IsLegal};
 ghost use Rattle.farm_entry.specs.Setup.{setup_of};
 ghost use Rattle.farm_entry.specs.Standing.{standing};
+ghost use Rattle.plain_farm.specs.Believed.{IsBelieved};
 ghost use Rattle.plain_farm.specs.Rows.{AreRows};
 ghost use Rattle.plain_history.specs.Held.{IsHeld};
 ghost use Rattle.farm_entry.specs.declared.standing.Standing.TheVariants.{Searching};
 
 use crate::kept::{last_lease_by, open_positions_by, plan_by, reruns_by, standing_by};
 use crate::rows::Row;
-use crate::standings::belief;
+use crate::standings::{belief, skips};
 use farm_entry::{DueRun, Entry, LeasedRun, Opening, Standing, What};
 use farm_types::{Memory, Moment, Stage};
+use open_positions::Skips;
 use plain_history::{is_reported, leases, push_some};
 use posterior::Belief;
 use run_plan::{due_search, due_verify};
 use std::alloc::Global;
-use threshold_pick::plan_uncounted;
+use threshold_pick::open_pick_uncounted;
 use weight_exact::Run;
 
 /// Whether a lease is open at a moment: its run has no report, and its deadline lies later.
@@ -53,14 +54,14 @@ pub fn open_leases(
 }
 
 /// The positions of the open leases, by the numbers of the runs.
-pub fn open_positions(
+pub fn outstanding_positions(
     alloc: Global,
     history: &[Entry],
     search: u32,
     stage: Stage,
     moment: Moment,
 ) -> Result<Vec<u16>, Memory>
-    ensures { IfOk result (λ found. found.items ≡ open_positions history.now search stage (moment_ms moment)) }
+    ensures { IfOk result (λ found. found.items ≡ outstanding_positions history.now search stage (moment_ms moment)) }
 {
     let open = open_leases(alloc, history, search, stage, moment)?;
     Ok(open.iter().map(|lease| lease.position).collect(alloc)?)
@@ -68,57 +69,56 @@ pub fn open_positions(
 
 // The position to run next.
 
-/// The plan of a search that is searching.
+/// The plan of a search that is searching, over the positions that weren't skipped.
 pub fn plan(alloc: Global, history: &[Entry], opening: &Opening) -> Result<Vec<u16>, Memory>
     requires legal { IsLegal history.now }
     requires opened { Contains (openings history.now) opening.now }
     requires searching { standing history.now opening.now ≡ Searching }
-    ensures { IfOk result (λ found. found.items
-        ≡ plan (setup_of opening.now) (runs history.now opening.now.search) opening.now.width) }
+    ensures { IfOk result (λ found. found.items ≡ open_plan (setup_of opening.now)
+        (runs history.now opening.now.search) (skipped history.now opening.now.search) opening.now.width) }
 {
     let belief = belief(alloc, history, opening)?;
-    plan_of(alloc, history, opening, &belief)
+    let skips = skips(alloc, history, opening)?;
+    plan_of(alloc, history, opening, &belief, &skips)
 }
 
-/// The same, by its belief.
+/// The same, by its belief and the positions that were skipped.
 pub(crate) fn plan_of(
     alloc: Global,
     history: &[Entry],
     opening: &Opening,
     belief: &Belief,
+    skips: &Skips,
 ) -> Result<Vec<u16>, Memory>
-    requires legal { IsLegal history.now }
-    requires opened { Contains (openings history.now) opening.now }
+    requires believed { IsBelieved history.now opening.now belief.now }
     requires searching { standing history.now opening.now ≡ Searching }
-    requires setup { belief.now.setup ≡ setup_of opening.now }
-    requires runs { StandsFor belief.now (runs history.now opening.now.search) }
-    ensures { IfOk result (λ found. found.items
-        ≡ plan (setup_of opening.now) (runs history.now opening.now.search) opening.now.width) }
+    ensures { IfOk result (λ found. found.items ≡ open_plan (setup_of opening.now)
+        (runs history.now opening.now.search) skips.now opening.now.width) }
 {
-    let mut positions = zeros(alloc, opening.width)?;
-    write_plan(history, opening, belief, &mut positions);
+    let mut positions = Vec::new(alloc);
+    for before in 0..opening.width {
+        let position = pick_of(history, opening, belief, skips, before + 1);
+        push_some(&mut positions, position)?;
+    }
     Ok(positions)
 }
 
-/// So many zeros.
-fn zeros(alloc: Global, count: u8) -> Result<Vec<u16>, Memory>
-    ensures { IfOk result (λ zeros. vec_len zeros ≡ count) }
-{
-    Ok(vec![in alloc; 0; usize::from(count)]?)
-}
-
-/// Writes the plan of a search that is searching, by its belief.
-fn write_plan(history: &[Entry], opening: &Opening, belief: &Belief, positions: &mut [u16])
-    requires legal { IsLegal history.now }
-    requires opened { Contains (openings history.now) opening.now }
+/// One position of the plan, where an open one is left.
+fn pick_of(
+    history: &[Entry],
+    opening: &Opening,
+    belief: &Belief,
+    skips: &Skips,
+    j: u8,
+) -> Option<u16>
+    requires believed { IsBelieved history.now opening.now belief.now }
     requires searching { standing history.now opening.now ≡ Searching }
-    requires setup { belief.now.setup ≡ setup_of opening.now }
-    requires runs { StandsFor belief.now (runs history.now opening.now.search) }
-    requires room { length positions.old ≡ opening.now.width }
-    ensures { positions.new ≡ plan (setup_of opening.now) (runs history.now opening.now.search) opening.now.width }
+    requires first { 1 ≤ j }
+    requires last { j ≤ opening.now.width }
+    ensures { result ≡ open_pick (setup_of opening.now) (runs history.now opening.now.search) skips.now
+        opening.now.width j }
 {
-    let floor = belief.floor();
-    plan_uncounted(belief.sums(), floor, opening.width, positions);
+    open_pick_uncounted(belief.sums(), belief.floor(), skips, j, opening.width)
 }
 
 /// Where a search that is searching is to run next.

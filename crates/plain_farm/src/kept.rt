@@ -1,17 +1,17 @@
 //! What a decision asks of a search: read off the search's row where one is kept, and else found anew.
 
 ghost use Rattle.std.specs.Prelude.{◌≡◌, ◌&&◌, nat_lt, filter, map, Contains, IfOk};
-ghost use Rattle.weight_exact.specs.Plan.{plan};
+ghost use Rattle.open_positions.specs.Open.{open_plan};
 ghost use Rattle.farm_types.specs.Moment.{moment_ms};
-ghost use Rattle.farm_entry.specs.Due.{open_positions};
-ghost use Rattle.farm_entry.specs.History.{last_lease, openings, reruns, runs, same_stage};
+ghost use Rattle.farm_entry.specs.Due.{outstanding_positions};
+ghost use Rattle.farm_entry.specs.History.{last_lease, openings, reruns, runs, same_stage, skipped};
 ghost use Rattle.farm_entry.specs.Legal.{IsLegal};
 ghost use Rattle.farm_entry.specs.Setup.{setup_of};
 ghost use Rattle.farm_entry.specs.Standing.{standing};
 ghost use Rattle.farm_entry.specs.declared.standing.Standing.TheVariants.{Searching};
 ghost use Rattle.plain_farm.specs.Rows.{AreRows};
 
-use crate::due_run::{open_positions, plan};
+use crate::due_run::{outstanding_positions, plan};
 use crate::rows::{Row, row_place};
 use crate::standings::standing;
 use farm_entry::{Entry, LeasedRun, Opening, Standing};
@@ -83,8 +83,8 @@ pub(crate) fn plan_by(
     requires opened { Contains (openings history.now) opening.now }
     requires rows { AreRows history.now rows.now }
     requires searching { standing history.now opening.now ≡ Searching }
-    ensures { IfOk result (λ found. found.items
-        ≡ plan (setup_of opening.now) (runs history.now opening.now.search) opening.now.width) }
+    ensures { IfOk result (λ found. found.items ≡ open_plan (setup_of opening.now)
+        (runs history.now opening.now.search) (skipped history.now opening.now.search) opening.now.width) }
 {
     match row_place(rows, opening.search) {
         Some(place) => Ok(Vec::from_slice(alloc, &rows[place].plan)?),
@@ -118,11 +118,11 @@ pub(crate) fn open_positions_by(
     moment: Moment,
 ) -> Result<Vec<u16>, Memory>
     requires { AreRows history.now rows.now }
-    ensures { IfOk result (λ found. found.items ≡ open_positions history.now search stage (moment_ms moment)) }
+    ensures { IfOk result (λ found. found.items ≡ outstanding_positions history.now search stage (moment_ms moment)) }
 {
     match row_place(rows, search) {
         Some(place) => positions_at(alloc, &rows[place].unreported, stage, moment),
-        None => open_positions(alloc, history, search, stage, moment),
+        None => outstanding_positions(alloc, history, search, stage, moment),
     }
 }
 

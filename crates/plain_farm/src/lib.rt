@@ -12,9 +12,9 @@
 //! belief asks for, that runs are in range and within the budget. [`first_illegal`] takes any list.
 //!
 //! It stands on `plain_history` for what a history holds, on `farm_entry` for the types and the definitions, on
-//! `posterior`, `threshold_pick` and `run_plan` for the belief of a search and the position to run next, on
-//! `revert_orders` for the day of a moment, and on the crates below them for values. The layer above may use every name
-//! below, and none of its lemmas. Its tests stand in `farm_tests`.
+//! `posterior`, `open_positions`, `threshold_pick` and `run_plan` for the belief of a search, the positions that were
+//! skipped and the position to run next, on `revert_orders` for the day of a moment, and on the crates below them for
+//! values. The layer above may use every name below, and none of its lemmas. Its tests stand in `farm_tests`.
 #![tactic(auto)]
 
 mod decision_known;
@@ -30,9 +30,9 @@ mod rows;
 mod standings;
 
 pub use decisions::decide;
-pub use due_run::{due, due_runs, is_open, next_run, open_leases, open_positions, plan};
+pub use due_run::{due, due_runs, is_open, next_run, open_leases, outstanding_positions, plan};
 pub use legal::{first_illegal, is_next};
 pub use orders::{confirmed_searches, day_in, next_order_at};
-pub use pages::{order_page, page_of, shares_of, totals};
+pub use pages::{order_page, page_of, shares_of, totals, untestable_of};
 pub use reply::{reply_at, reply_to};
-pub use standings::{belief, first_belief, standing};
+pub use standings::{belief, first_belief, skips, standing};

@@ -6,11 +6,13 @@ ghost use Rattle.plain_history.specs.Held.{IsHeld};
 ghost use Rattle.plain_history.specs.Tests.{is_some_and};
 ghost use Rattle.farm_entry.specs.History.{is_counted, opening_in, openings, order_lines, report_in, reports};
 ghost use Rattle.farm_entry.specs.Legal.{IsLegal};
-ghost use Rattle.farm_entry.specs.Pages.{is_ended_otherwise, page_of, shares_of, totals};
+ghost use Rattle.farm_entry.specs.Pages.{is_ended_otherwise, page_of, shares_of, totals, untestable_of};
 ghost use Rattle.farm_entry.specs.Standing.{is_confirmed, is_searching, is_verifying, standing};
 
-use crate::standings::{belief, standing};
-use farm_entry::{Entry, Opening, OrderPage, SearchPage, Shares, Standing, Totals, What};
+use crate::standings::{belief, skips, standing};
+use farm_entry::{
+    Entry, Opening, OrderPage, Positions, SearchPage, Shares, Standing, Totals, What,
+};
 use farm_types::Memory;
 use plain_history::{leases, openings_count, order_lines, orders_count, push_some, reruns, runs};
 use std::alloc::Global;
@@ -27,6 +29,21 @@ pub fn shares_of(alloc: Global, history: &[Entry], opening: &Opening) -> Result<
         shares.push(belief.basis_points(before as u16 + 1))?;
     }
     Ok(Shares::of(shares))
+}
+
+/// The positions of a search that were skipped, rising, each once. Position 0 is the base.
+pub fn untestable_of(
+    alloc: Global,
+    history: &[Entry],
+    opening: &Opening,
+) -> Result<Positions, Memory>
+    requires legal { IsLegal history.now }
+    requires opened { Contains (openings history.now) opening.now }
+    ensures { IfOk result (λ positions. positions ≡ untestable_of history.now opening.now) }
+{
+    let skips = skips(alloc, history, opening)?;
+    let positions = skips.positions(alloc, opening.range.len() as u16)?;
+    Ok(Positions::of(positions))
 }
 
 /// What is shown of a search.
@@ -46,6 +63,7 @@ pub fn page_of(alloc: Global, history: &[Entry], opening: &Opening) -> Result<Se
         standing,
         commit: opening.named_commit(standing),
         shares: shares_of(alloc, history, opening)?,
+        untestable: untestable_of(alloc, history, opening)?,
     })
 }
 

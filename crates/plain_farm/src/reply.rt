@@ -6,10 +6,10 @@ ghost use Rattle.farm_entry.specs.Setup.{commit_of};
 ghost use Rattle.std.specs.Option.{option_map};
 ghost use Rattle.farm_entry.specs.Legal.{IsLegal};
 ghost use Rattle.plain_history.specs.Held.{IsHeld};
-ghost use Rattle.farm_entry.specs.Reply.{reply_at, reply_to, reply_to_report};
+ghost use Rattle.farm_entry.specs.Reply.{reply_at, reply_to, reply_to_report, reply_to_skip};
 
 use crate::standings::standing;
-use farm_entry::{Entry, Fate, LeasedRun, Opening, Reply, What};
+use farm_entry::{Entry, Fate, LeasedRun, Opening, Reply, SkipFate, What};
 use farm_types::Memory;
 use plain_history::{lease_of, opening_numbered};
 use std::alloc::Global;
@@ -72,6 +72,27 @@ fn reply_to_report(
     }))
 }
 
+/// The reply to a report of a run whose tree can't be tested: the run's search, and where it stands.
+fn reply_to_skip(
+    alloc: Global,
+    history: &[Entry],
+    fate: SkipFate,
+    lease: LeasedRun,
+) -> Result<Option<Reply>, Memory>
+    requires { IsLegal history.now }
+    ensures { IfOk result (λ reply. reply ≡ reply_to_skip history.now fate lease) }
+{
+    let Some(opening) = opening_numbered(history, lease.search) else {
+        return Ok(None);
+    };
+    Ok(Some(Reply::Skipped {
+        run: lease.run,
+        search: lease.search,
+        fate,
+        standing: standing(alloc, history, opening)?,
+    }))
+}
+
 /// What is replied for what an entry records, by the history up to it and with it. A founding has no reply.
 pub fn reply_to(alloc: Global, history: &[Entry], what: &What) -> Result<Option<Reply>, Memory>
     requires legal { IsLegal history.now }
@@ -101,6 +122,10 @@ pub fn reply_to(alloc: Global, history: &[Entry], what: &What) -> Result<Option<
         What::Reported { run, verdict, fate } => match lease_of(history, *run) {
             None => Ok(None),
             Some(lease) => reply_to_report(alloc, history, *verdict, *fate, lease),
+        },
+        What::Skipped { run, fate } => match lease_of(history, *run) {
+            None => Ok(None),
+            Some(lease) => reply_to_skip(alloc, history, *fate, lease),
         },
         What::Cancelled { search, .. } => Ok(Some(Reply::Cancelled { search: *search })),
         What::Ordered {

@@ -3,17 +3,17 @@
 //! brought up to it; a row of each search says as much as the history does, and less than that is never kept.
 
 ghost use Rattle.std.specs.Prelude.{◌≡◌, ◌==◌, not, ◌||◌, ℕ, ◌+◌, ◌<◌, ◌≤◌, [], filter, length, Contains, IfNone, IfOk, IfSome, OnOk, Some};
-ghost use Rattle.farm_entry.specs.History.{cancelled_in, is_over, lease_in, opening_in, openings, report_in, reruns, runs, was_cancelled, went_over};
+ghost use Rattle.farm_entry.specs.History.{cancelled_in, is_over, is_taken, lease_in, opening_in, openings, report_in, reruns, runs, skip_in, skipped, was_cancelled, went_over};
 ghost use Rattle.farm_entry.specs.Legal.{IsLegal};
 ghost use Rattle.farm_entry.specs.Setup.{setup_of};
 ghost use Rattle.farm_entry.specs.Standing.{standing};
 ghost use Rattle.farm_entry.specs.declared.standing.Standing.TheVariants.{Searching};
-ghost use Rattle.weight_exact.specs.Plan.{plan};
-ghost use Rattle.plain_farm.specs.Rows.{AreRows, IsCancelledRow, IsLeasedRow, IsRow, IsStep, IsToldOf, told_run, unreported};
+ghost use Rattle.open_positions.specs.Open.{open_plan};
+ghost use Rattle.plain_farm.specs.Rows.{AreRows, IsCancelledRow, IsLeasedRow, IsRow, IsSkipOf, IsStep, IsToldOf, closed_position, told_run, unreported};
 
 use crate::due_run::plan_of;
-use crate::standings::{belief_after, standing_of_reached};
-use farm_entry::{Entry, Fate, LeasedRun, Opening, ReportedRun, Standing};
+use crate::standings::{belief_after, skips_of, standing_of_reached};
+use farm_entry::{Entry, Fate, LeasedRun, Opening, ReportedRun, SkippedRun, Standing};
 use farm_types::{Memory, Stage};
 use plain_history::{
     is_reported, last_lease, lease_of, leases, opening_numbered, push_some, was_cancelled,
@@ -29,6 +29,8 @@ pub(crate) struct Row {
     pub(crate) runs: Vec<Run>,
     /// The reruns that count, in the order of their reports.
     pub(crate) reruns: Vec<Run>,
+    /// The positions that were skipped, in the order in which that was said.
+    pub(crate) skipped: Vec<u16>,
     /// Whether it was cancelled.
     pub(crate) cancelled: bool,
     /// Whether a report took it past its budget.
@@ -58,13 +60,14 @@ pub(crate) fn row_place(rows: &[Row], search: u32) -> Option<usize>
 
 // What a search makes of its runs.
 
-/// Where a search stands by its runs and reruns, whether it was cancelled, and whether it went over its budget; and its
-/// plan while it is searching.
+/// Where a search stands by its runs and reruns, the positions that were skipped, whether it was cancelled, and whether
+/// it went over its budget; and its plan while it is searching.
 fn stand(
     alloc: Global,
     history: &[Entry],
     opening: &Opening,
     told: &[Run],
+    closed: &[u16],
     again: &[Run],
     cancelled: bool,
     over: bool,
@@ -74,10 +77,12 @@ fn stand(
     requires cancelled { cancelled ≡ was_cancelled history.now opening.now.search }
     requires over { over ≡ went_over history.now opening.now.search }
     requires runs { told.now ≡ runs history.now opening.now.search }
+    requires skipped { closed.now ≡ skipped history.now opening.now.search }
     requires reruns { again.now ≡ reruns history.now opening.now.search }
     ensures standing { IfOk result (λ found. found.0 ≡ standing history.now opening.now) }
     ensures planned { IfOk result (λ found. standing history.now opening.now ≡ Searching
-        → found.1.items ≡ plan (setup_of opening.now) (runs history.now opening.now.search) opening.now.width) }
+        → found.1.items ≡ open_plan (setup_of opening.now) (runs history.now opening.now.search)
+        (skipped history.now opening.now.search) opening.now.width) }
 {
     if cancelled {
         return Ok((Standing::Cancelled, Vec::new(alloc)));
@@ -86,11 +91,12 @@ fn stand(
         return Ok((Standing::Inconclusive, Vec::new(alloc)));
     }
     let belief = belief_after(alloc, history, opening, told)?;
-    let standing = standing_of_reached(opening, again, belief.reached());
+    let skips = skips_of(closed);
+    let standing = standing_of_reached(history, opening, &belief, &skips, again);
     if !standing.is_searching() {
         return Ok((standing, Vec::new(alloc)));
     }
-    let positions = plan_of(alloc, history, opening, &belief)?;
+    let positions = plan_of(alloc, history, opening, &belief, &skips)?;
     Ok((standing, positions))
 }
 
@@ -114,14 +120,16 @@ fn first_row(alloc: Global, history: &[Entry], opening: &Opening) -> Result<Row,
     requires opened { Contains (openings history.now) opening.now }
     requires no_runs { runs history.now opening.now.search ≡ [] }
     requires no_reruns { reruns history.now opening.now.search ≡ [] }
+    requires no_skips { skipped history.now opening.now.search ≡ [] }
     ensures { IfOk result (λ row. IsRow history.now opening.now row) }
 {
     let cancelled = was_cancelled(history, opening.search);
     let over = went_over(history, opening.search);
-    let (standing, plan) = stand(alloc, history, opening, &[], &[], cancelled, over)?;
+    let (standing, plan) = stand(alloc, history, opening, &[], &[], &[], cancelled, over)?;
     Ok(Row {
         runs: Vec::new(alloc),
         reruns: Vec::new(alloc),
+        skipped: Vec::new(alloc),
         cancelled,
         over,
         standing,
@@ -173,13 +181,63 @@ fn told_row(
     push_some(&mut runs, told_run(Stage::Search, lease, report))?;
     let mut reruns = Vec::from_slice(alloc, &row.reruns)?;
     push_some(&mut reruns, told_run(Stage::Verify, lease, report))?;
+    let skipped = Vec::from_slice(alloc, &row.skipped)?;
     let cancelled = row.cancelled;
     let over = is_over_by(row.over, report.fate);
-    let (standing, plan) = stand(alloc, history, opening, &runs, &reruns, cancelled, over)?;
+    let (standing, plan) = stand(
+        alloc, history, opening, &runs, &skipped, &reruns, cancelled, over,
+    )?;
     let unreported = without_run(alloc, &row.unreported, report.run)?;
     Ok(Row {
         runs,
         reruns,
+        skipped,
+        cancelled,
+        over,
+        standing,
+        plan,
+        unreported,
+        last_lease: row.last_lease,
+    })
+}
+
+/// The position that a skip closes, where it was taken.
+fn closed_position(lease: LeasedRun, skip: SkippedRun) -> Option<u16>
+    ensures { result ≡ closed_position lease skip }
+{
+    if skip.fate.is_taken() {
+        Some(lease.position)
+    } else {
+        None
+    }
+}
+
+/// The row of a search after the last entry of a history skipped one of its runs.
+fn skipped_row(
+    alloc: Global,
+    history: &[Entry],
+    opening: &Opening,
+    row: &Row,
+    lease: LeasedRun,
+    skip: SkippedRun,
+) -> Result<Row, Memory>
+    requires { IsSkipOf history.now opening.now row.now lease skip }
+    ensures { IfOk result (λ found. IsRow history.now opening.now found) }
+{
+    let runs = Vec::from_slice(alloc, &row.runs)?;
+    let reruns = Vec::from_slice(alloc, &row.reruns)?;
+    let mut skipped = Vec::from_slice(alloc, &row.skipped)?;
+    push_some(&mut skipped, closed_position(lease, skip))?;
+    let cancelled = row.cancelled;
+    let over = row.over;
+    let (standing, plan) = stand(
+        alloc, history, opening, &runs, &skipped, &reruns, cancelled, over,
+    )?;
+    let unreported = without_run(alloc, &row.unreported, skip.run)?;
+    Ok(Row {
+        runs,
+        reruns,
+        skipped,
         cancelled,
         over,
         standing,
@@ -267,6 +325,30 @@ fn take_report(
     Ok(())
 }
 
+/// Takes in a report of a run whose tree can't be tested, the last entry of a history.
+fn take_skip(
+    alloc: Global,
+    history: &[Entry],
+    entry: &Entry,
+    skip: SkippedRun,
+    rows: &mut Vec<Row>,
+) -> Result<(), Memory>
+    requires step { IsStep history.now entry.now rows.old.items }
+    requires skipped { skip_in entry.now.what ≡ Some skip }
+    ensures { OnOk result (AreRows history.now rows.new.items) }
+{
+    let Some(lease) = lease_of(history, skip.run) else {
+        return Ok(());
+    };
+    let Some(opening) = opening_numbered(history, lease.search) else {
+        return Ok(());
+    };
+    if let Some(index) = row_place(rows, lease.search) {
+        rows[index] = skipped_row(alloc, history, opening, &rows[index], lease, skip)?;
+    }
+    Ok(())
+}
+
 /// Takes in that the last entry of a history cancelled a search.
 fn take_cancelled(history: &[Entry], entry: &Entry, search: u32, rows: &mut Vec<Row>)
     requires step { IsStep history.now entry.now rows.old.items }
@@ -294,6 +376,8 @@ pub(crate) fn take_entry(
         take_lease(history, entry, lease, rows)
     } else if let Some(report) = entry.what.report() {
         take_report(alloc, history, entry, report, rows)
+    } else if let Some(skip) = entry.what.skip() {
+        take_skip(alloc, history, entry, skip, rows)
     } else {
         if let Some(search) = entry.what.cancelled() {
             take_cancelled(history, entry, search, rows);

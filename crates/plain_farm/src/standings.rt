@@ -1,22 +1,28 @@
 //! Where a search stands in a history.
 
-ghost use Rattle.std.specs.Prelude.{◌≡◌, [], count_by, Contains, IfOk};
+ghost use Rattle.std.specs.Prelude.{◌≡◌, ◌≤◌, [], count_by, All, Contains, IfOk};
 ghost use Rattle.flake_rate.specs.Miss.{FitsRate};
 ghost use Rattle.farm_rules.specs.Reruns.{enough, is_against, outcome, vindicated};
 ghost use Rattle.weight_exact.specs.Counts.{is_fail_at, is_pass_at};
+ghost use Rattle.weight_exact.specs.Share.{reached};
 ghost use Rattle.weight_exact.specs.Weights.{AreInRange};
+ghost use Rattle.weight_exact.specs.declared.limits.TheConstants.{MAX_SUSPECTS};
+ghost use Rattle.open_positions.specs.Blocks.{is_hidden};
 ghost use Rattle.posterior.specs.StandsFor.{StandsFor};
-ghost use Rattle.farm_entry.specs.History.{openings, runs};
+ghost use Rattle.farm_entry.specs.History.{openings, runs, skipped};
 ghost use Rattle.farm_entry.specs.Legal.{IsLegal};
 ghost use Rattle.farm_entry.specs.Setup.{setup_of};
-ghost use Rattle.farm_entry.specs.Standing.{standing, standing_of_outcome, standing_of_reached};
+ghost use Rattle.farm_entry.specs.Standing.{lacks, standing, standing_of_hidden, standing_of_outcome, standing_of_reached};
 ghost use Rattle.farm_laws.specs.Loads.{LoadsFit};
+ghost use Rattle.plain_farm.specs.Believed.{IsBelieved};
 
 use farm_entry::{Entry, Opening, Standing};
 use farm_types::Memory;
-use plain_history::{reruns, runs, was_cancelled, went_over};
+use open_positions::Skips;
+use plain_history::{reruns, runs, skipped, was_cancelled, went_over};
 use posterior::Belief;
 use std::alloc::Global;
+use threshold_pick::is_hidden;
 use weight_exact::Run;
 
 // What the runs say.
@@ -84,6 +90,30 @@ fn tell(belief: &mut Belief, told: &[Run])
     }
 }
 
+// What was skipped.
+
+/// The positions of a search whose trees can't be tested, in the order in which that was said.
+pub fn skips(alloc: Global, history: &[Entry], opening: &Opening) -> Result<Skips, Memory>
+    requires legal { IsLegal history.now }
+    requires opened { Contains (openings history.now) opening.now }
+    ensures { IfOk result (λ skips. skips ≡ skipped history.now opening.now.search) }
+{
+    let positions = skipped(alloc, history, opening.search)?;
+    Ok(skips_of(&positions))
+}
+
+/// The same, by the list of these positions.
+pub(crate) fn skips_of(positions: &[u16]) -> Skips
+    requires { All (λ p. p ≤ MAX_SUSPECTS) positions.now }
+    ensures { result ≡ positions.now }
+{
+    let mut skips = Skips::new();
+    for position in positions {
+        skips.skip(*position);
+    }
+    skips
+}
+
 // What the reruns say.
 
 /// Whether a run failed at a position.
@@ -139,14 +169,30 @@ fn enough(culprit: u16, asked: u8, again: &[Run]) -> bool
     asked as usize <= fails && asked as usize <= passes
 }
 
-/// Where a search stands that has named a suspect, by the reruns so far.
-fn standing_of_outcome(culprit: u16, asked: u8, again: &[Run]) -> Standing
-    ensures { result ≡ standing_of_outcome culprit (outcome culprit asked again.now) }
+/// Whether a side lacks reruns that can't be made any more, as its position was skipped: fails at the culprit, or
+/// passes at its parent.
+fn lacks(culprit: u16, asked: u8, skips: &Skips, again: &[Run]) -> bool
+    requires { culprit ≤ MAX_SUSPECTS }
+    ensures { result ≡ lacks culprit asked skips.now again.now }
+{
+    let asked = usize::from(asked);
+    let parent = culprit.saturating_sub(1);
+    (skips.is_skipped(culprit) && fails_at(culprit, again) < asked)
+        || (skips.is_skipped(parent) && passes_at(parent, again) < asked)
+}
+
+/// Where a search stands that has named a suspect, by the reruns so far and the positions that were skipped.
+fn standing_of_outcome(culprit: u16, asked: u8, skips: &Skips, again: &[Run]) -> Standing
+    requires { culprit ≤ MAX_SUSPECTS }
+    ensures { result ≡ standing_of_outcome culprit (lacks culprit asked skips.now again.now)
+        (outcome culprit asked again.now) }
 {
     if vindicated(culprit, again) {
         Standing::Vindicated(culprit)
     } else if enough(culprit, asked, again) {
         Standing::Confirmed(culprit)
+    } else if lacks(culprit, asked, skips, again) {
+        Standing::Inconclusive
     } else {
         Standing::Verifying(culprit)
     }
@@ -154,21 +200,45 @@ fn standing_of_outcome(culprit: u16, asked: u8, again: &[Run]) -> Standing
 
 // Where the search stands.
 
-/// What the hypothesis at the bar comes to: the last one says that there is no culprit, the others name a suspect.
-pub(crate) fn standing_of_reached(
-    opening: &Opening,
-    again: &[Run],
-    reached: Option<u16>,
-) -> Standing
-    ensures { result ≡ standing_of_reached opening.now again.now reached }
+/// Whether hypotheses that no run can tell apart any more are at the bar together.
+fn hidden(history: &[Entry], opening: &Opening, belief: &Belief, skips: &Skips) -> bool
+    requires { IsBelieved history.now opening.now belief.now }
+    ensures { result ≡ is_hidden (setup_of opening.now) (runs history.now opening.now.search) skips.now }
 {
-    match reached {
-        None => Standing::Searching,
+    is_hidden(belief.sums(), opening.bar, skips)
+}
+
+/// Where a search stands in which no hypothesis is at the bar.
+fn standing_of_hidden(hidden: bool) -> Standing
+    ensures { result ≡ standing_of_hidden hidden }
+{
+    if hidden {
+        Standing::Inconclusive
+    } else {
+        Standing::Searching
+    }
+}
+
+/// What the hypothesis at the bar comes to: the last one says that there is no culprit, the others name a suspect.
+/// Where none is, the search goes on while a run can tell hypotheses apart.
+pub(crate) fn standing_of_reached(
+    history: &[Entry],
+    opening: &Opening,
+    belief: &Belief,
+    skips: &Skips,
+    again: &[Run],
+) -> Standing
+    requires { IsBelieved history.now opening.now belief.now }
+    ensures { result ≡ standing_of_reached opening.now (runs history.now opening.now.search) skips.now again.now
+        (reached (setup_of opening.now) (runs history.now opening.now.search)) }
+{
+    match belief.reached() {
+        None => standing_of_hidden(hidden(history, opening, belief, skips)),
         Some(hypothesis) => {
             if usize::from(hypothesis) == opening.range.len() + 1 {
                 Standing::NoCulprit
             } else {
-                standing_of_outcome(hypothesis, opening.reruns, again)
+                standing_of_outcome(hypothesis, opening.reruns, skips, again)
             }
         }
     }
@@ -188,6 +258,7 @@ pub fn standing(alloc: Global, history: &[Entry], opening: &Opening) -> Result<S
         return Ok(Standing::Inconclusive);
     }
     let belief = belief(alloc, history, opening)?;
+    let skips = skips(alloc, history, opening)?;
     let again = reruns(alloc, history, opening.search)?;
-    Ok(standing_of_reached(opening, &again, belief.reached()))
+    Ok(standing_of_reached(history, opening, &belief, &skips, &again))
 }

@@ -3,10 +3,10 @@
 
 ghost use Rattle.std.specs.Prelude.{◌≡◌, ◌<◌, length, Contains, IfSome, IfOk};
 ghost use Rattle.std.specs.Option.{option_copied};
-ghost use Rattle.farm_entry.specs.History.{all_leases, counted, counted_run, has_key, is_lease_for, is_of_search, is_report_of, is_reported, last_lease, lease_of, leases, opening_numbered, openings, order_lines, place_of_key, place_of_report, reruns, run_of, runs, was_cancelled, went_over};
+ghost use Rattle.farm_entry.specs.History.{all_leases, counted, counted_run, has_key, is_lease_for, is_of_search, is_report_of, is_reported, last_lease, lease_of, leases, opening_numbered, openings, order_lines, place_of_key, place_of_report, position_for, reruns, run_of, runs, skipped, skipped_position, was_cancelled, went_over};
 
 use crate::lists::push_some;
-use farm_entry::{Entry, LeasedRun, Opening, OrderLine, ReportedRun};
+use farm_entry::{Entry, LeasedRun, Opening, OrderLine, ReportedRun, SkippedRun};
 use farm_types::{Key, Memory, Stage};
 use std::alloc::Global;
 use weight_exact::{Run, Verdict};
@@ -70,12 +70,12 @@ pub fn leases(alloc: Global, history: &[Entry], search: u32) -> Result<Vec<Lease
     )
 }
 
-/// Whether a run has a report.
+/// Whether a run was reported, with a verdict or as one whose tree can't be tested.
 pub fn is_reported(history: &[Entry], run: u32) -> bool
     ensures { result ≡ is_reported history.now run }
 {
-    let mut reports = history.iter().filter_map(|entry| entry.what.report());
-    reports.any(|report| report.run == run)
+    let mut told = history.iter().filter_map(|entry| entry.what.told());
+    told.any(|told| told == run)
 }
 
 /// A lease's run with its verdict, where the lease is of a search at a stage.
@@ -131,6 +131,42 @@ pub fn reruns(alloc: Global, history: &[Entry], search: u32) -> Result<Vec<Run>,
     ensures { IfOk result (λ found. found.items ≡ reruns history.now search) }
 {
     counted(alloc, history, search, Stage::Verify)
+}
+
+/// The position of a lease, where it is of a search.
+fn position_for(search: u32, lease: LeasedRun) -> Option<u16>
+    ensures { result ≡ position_for search lease }
+{
+    if lease.search == search {
+        Some(lease.position)
+    } else {
+        None
+    }
+}
+
+/// The position that a skip closes, where it was taken and is of a search.
+fn skipped_position(history: &[Entry], search: u32, skip: SkippedRun) -> Option<u16>
+    ensures { result ≡ skipped_position history.now search skip }
+{
+    if !skip.fate.is_taken() {
+        return None;
+    }
+    match lease_of(history, skip.run) {
+        Some(lease) => position_for(search, lease),
+        None => None,
+    }
+}
+
+/// The positions of a search whose trees can't be tested, in the order in which that was said. One may stand twice.
+pub fn skipped(alloc: Global, history: &[Entry], search: u32) -> Result<Vec<u16>, Memory>
+    ensures { IfOk result (λ found. found.items ≡ skipped history.now search) }
+{
+    let skips = history.iter().filter_map(|entry| entry.what.skip());
+    Ok(
+        skips
+            .filter_map(|skip| skipped_position(history, search, skip))
+            .collect(alloc)?,
+    )
 }
 
 /// Whether a lease is of a search.
@@ -199,17 +235,17 @@ pub fn place_of_key(history: &[Entry], key: Key) -> Option<usize>
     history.iter().position(|entry| has_key(key, entry))
 }
 
-/// Whether an entry is the report of a run.
+/// Whether an entry is the report of a run, with a verdict or not.
 fn is_report_of(run: u32, entry: &Entry) -> bool
     ensures { result ≡ is_report_of run entry.now }
 {
-    match entry.what.report() {
+    match entry.what.told() {
         None => false,
-        Some(report) => report.run == run,
+        Some(told) => told == run,
     }
 }
 
-/// The place of the report of a run.
+/// The place of the report of a run, with a verdict or not.
 pub fn place_of_report(history: &[Entry], run: u32) -> Option<usize>
     ensures found { result ≡ place_of_report history.now run }
     ensures within { IfSome result (λ place. place < length history.now) }

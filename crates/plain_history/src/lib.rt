@@ -15,7 +15,7 @@ mod settings;
 pub use filters::{
     all_leases_count, counted, is_reported, last_lease, lease_of, leases, opening_numbered,
     openings_count, order_lines, orders_count, place_of_key, place_of_report, reruns, runs,
-    was_cancelled, went_over,
+    skipped, was_cancelled, went_over,
 };
 pub use lists::push_some;
 pub use settings::{daily_limit, lease_ms, settings_of, zone_minutes};

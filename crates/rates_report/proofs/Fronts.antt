@@ -4,7 +4,7 @@ use Rattle.std.proofs.lemmas.Option.{none-some}
 use Rattle.farm_entry.specs.Legal.{AreNext, IsFounding, IsLegal}
 use Rattle.farm_entry.specs.declared.entry.Entry.{Entry}
 use Rattle.farm_entry.specs.declared.entry.What.{What}
-use Rattle.farm_entry.specs.declared.entry.What.TheVariants.{Founded, Opened, Leased, Reported, Cancelled, Ordered}
+use Rattle.farm_entry.specs.declared.entry.What.TheVariants.{Founded, Opened, Leased, Reported, Skipped, Cancelled, Ordered}
 use Rattle.farm_entry.specs.declared.standing.Standing.{Standing}
 use Rattle.farm_laws.proofs.Induct.{AreNext-first}
 use Rattle.flake_book.specs.Tally.{StandsAfter, search_in}
@@ -24,6 +24,7 @@ founding-searches H (Founded x) first = refl
 founding-searches H (Opened o) first = absurd first
 founding-searches H (Leased k w n q t p d) first = absurd first
 founding-searches H (Reported run v _) first = absurd first
+founding-searches H (Skipped run _) first = absurd first
 founding-searches H (Cancelled k q) first = absurd first
 founding-searches H (Ordered k a n c q d) first = absurd first
 

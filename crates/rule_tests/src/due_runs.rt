@@ -5,8 +5,8 @@ use run_plan::{due_search, due_verify};
 use std::alloc::Global;
 use std::io;
 
-// The texts of two lists with a slash between them.
-fn lists(text: &str) -> (&str, &str) {
+/// The texts of two lists with a slash between them.
+pub(crate) fn lists(text: &str) -> (&str, &str) {
     let (first, second) = text.split_once('/').unwrap_or((text, ""));
     (first.trim(), second.trim())
 }

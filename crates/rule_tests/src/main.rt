@@ -1,13 +1,15 @@
 //! Plays the cases of standard input over the crates of plans and rules, and prints what each line comes to, behind the
 //! line. A case is lines with no empty one between them; those on orders are played over the orders of their case, of
 //! which there are none at first. A line has a word and what it asks for: positions are listed with spaces between
-//! them, what is out stands behind a slash, a rerun is written as `3,fail`, and a confirmed search as its number and
-//! its commit's, as `4,40`. A line that begins with `#` is printed as it is. The file `stdout` has what is wanted; it
+//! them, what is out or skipped stands behind a slash, a rerun is written as `3,fail`, and a confirmed search as its
+//! number and its commit's, as `4,40`. A line that begins with `#` is printed as it is. The file `stdout` has what is wanted; it
 //! was worked out by hand.
 #![tactic(auto)]
 
 mod days;
 mod due_runs;
+mod hidden;
+mod open_picks;
 mod orders;
 mod picks;
 mod plans;
@@ -16,6 +18,8 @@ mod verifications;
 
 use days::{print_date, print_day};
 use due_runs::{print_due, print_due_rerun};
+use hidden::print_hidden;
+use open_picks::print_open_plan;
 use orders::play_orders;
 use picks::print_picks;
 use plans::{print_banded, print_plan};
@@ -39,6 +43,8 @@ fn play(
         "plan" => print_plan(rt, alloc, rest),
         "banded" => print_banded(rt, alloc, rest),
         "picks" => print_picks(rt, alloc, rest),
+        "open" => print_open_plan(rt, alloc, rest),
+        "hidden" => print_hidden(rt, alloc, rest),
         "date" => print_date(rt, alloc, rest),
         "day" => print_day(rt, rest),
         _ => play_orders(rt, alloc, orders, name, rest),

@@ -31,12 +31,14 @@ fn plain_distance(sum: u32, whole: u32, j: u8, k: u8) -> u64 {
     (u64::from(sum) * (u64::from(k) + 1)).abs_diff(u64::from(j) * u64::from(whole))
 }
 
-/// The same pick by comparing all positions above the floor, of which `min_by_key` gives the first of the nearest.
-fn plain_pick(sums: &[u32], floor: u16, j: u8, k: u8) -> Option<u16> {
+/// The same pick by comparing all positions above the floor that weren't skipped, of which `min_by_key` gives the first
+/// of the nearest.
+pub(crate) fn plain_pick(sums: &[u32], skipped: &[u16], floor: u16, j: u8, k: u8) -> Option<u16> {
     let (whole, suspects) = sums.split_last()?;
     (1..=1_000)
         .zip(suspects)
         .skip(usize::from(floor))
+        .filter(|(position, _)| !skipped.contains(position))
         .min_by_key(|(_, sum)| plain_distance(**sum, *whole, j, k))
         .map(|(position, _)| position)
 }
@@ -50,7 +52,7 @@ fn alike<L: Ledger>(sums: &Sums, numbers: &[u32], floor: u16, k: u8, steps: &mut
     for j in 1..=k {
         let position = picked(sums, floor, j, k, steps);
         let uncounted = pick_uncounted(sums, floor, j, k);
-        if uncounted == position && plain_pick(numbers, floor, j, k) == Some(position) {
+        if uncounted == position && plain_pick(numbers, &[], floor, j, k) == Some(position) {
             count = count.saturating_add(1);
         }
     }

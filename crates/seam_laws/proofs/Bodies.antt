@@ -25,8 +25,10 @@ use Rattle.serde_json.specs.Data.{Data, depth, string}
 use Rattle.serde_json.specs.Find.{as_object}
 use Rattle.serde_json.specs.Read.{max_depth}
 use Rattle.serde_json.specs.Written.{compact_text}
-use Rattle.weight_exact.specs.declared.run.Verdict.{Verdict}
 use Rattle.weight_exact.specs.declared.run.Verdict.TheVariants.{Fail, Pass}
+use Rattle.worker_core.specs.declared.tested.Tested.{Tested}
+use Rattle.worker_core.specs.declared.tested.Tested.TheVariants.{Untestable, Verdict}
+use Rattle.farm_entry.specs.declared.command.Command.{Command}
 use Rattle.worker_wire.specs.Requests.{key_text, lease_data, report_data}
 use Rattle.seam_laws.proofs.JsonTexts.{IsSent, object_in-compact_text}
 use Rattle.seam_laws.proofs.LeaseReplies.{name-string}
@@ -44,10 +46,11 @@ lease_body-short key worker is =
     let second = length-append (quoted worker) (125 ∷ []) in
     omega (arith, size, first, second, quoted-short text, quoted-short worker, is.few)
 
-pub report_body-short : (verdict : Verdict) → length (compact_text (report_data verdict)) ≤ MAX_BODY_BYTES
+pub report_body-short : (tested : Tested) → length (compact_text (report_data tested)) ≤ MAX_BODY_BYTES
 unfolding report_data with_member escape_byte
-report_body-short Pass = omega arith
-report_body-short Fail = omega arith
+report_body-short (Verdict Pass) = omega arith
+report_body-short (Verdict Fail) = omega arith
+report_body-short Untestable = omega arith
 
 -- ---- what is read of them
 
@@ -101,30 +104,41 @@ lease_body-read key worker fits is =
     (object_of-short (compact_text d) (Some d) (lease_body-short key worker is) found)
     ∙ lease_data-in key worker fits is
 
-report_data-sent : (verdict : Verdict) → IsSent (report_data verdict)
+report_data-sent : (tested : Tested) → IsSent (report_data tested)
 unfolding report_data with_member
-report_data-sent Pass = ((IsUtf8-are_ascii (codes "verdict") refl, IsUtf8-are_ascii (codes "pass") refl, tt), refl)
-report_data-sent Fail = ((IsUtf8-are_ascii (codes "verdict") refl, IsUtf8-are_ascii (codes "fail") refl, tt), refl)
+report_data-sent (Verdict Pass) =
+    ((IsUtf8-are_ascii (codes "verdict") refl, IsUtf8-are_ascii (codes "pass") refl, tt), refl)
+report_data-sent (Verdict Fail) =
+    ((IsUtf8-are_ascii (codes "verdict") refl, IsUtf8-are_ascii (codes "fail") refl, tt), refl)
+report_data-sent Untestable =
+    ((IsUtf8-are_ascii (codes "verdict") refl, IsUtf8-are_ascii (codes "skip") refl, tt), refl)
 
-report_data-object : (verdict : Verdict)
-    → (is_some (as_object (report_data verdict)) ≡ true) × (depth (report_data verdict) ≤ max_depth)
+report_data-object : (tested : Tested)
+    → (is_some (as_object (report_data tested)) ≡ true) × (depth (report_data tested) ≤ max_depth)
 unfolding report_data with_member
-report_data-object Pass = (refl, omega arith)
-report_data-object Fail = (refl, omega arith)
+report_data-object (Verdict Pass) = (refl, omega arith)
+report_data-object (Verdict Fail) = (refl, omega arith)
+report_data-object Untestable = (refl, omega arith)
 
-report_data-in : (run : ℕ) (verdict : Verdict) → report_in run (report_data verdict) ≡ Ok (command.Report run verdict)
-unfolding report_in field_in form.verdict report_data with_member
-report_data-in run Pass = refl
-report_data-in run Fail = refl
+-- the command that reports what came of a run
+abbrev pub report_of : (run : ℕ) → Tested → Command
+report_of run (Verdict verdict) = command.Report run verdict
+report_of run Untestable = command.Skip run
+
+report_data-in : (run : ℕ) (tested : Tested) → report_in run (report_data tested) ≡ Ok (report_of run tested)
+unfolding report_in field_in form.report report_data with_member
+report_data-in run (Verdict Pass) = refl
+report_data-in run (Verdict Fail) = refl
+report_data-in run Untestable = refl
 
 -- and so is that of a report
-pub report_body-read : (run : ℕ) (verdict : Verdict)
-    → body_reading (route.Report run) (compact_text (report_data verdict)) ≡ Ok (command.Report run verdict)
+pub report_body-read : (run : ℕ) (tested : Tested)
+    → body_reading (route.Report run) (compact_text (report_data tested)) ≡ Ok (report_of run tested)
 unfolding body_reading
-report_body-read run verdict =
-    let d : Data = report_data verdict in
-    let object = report_data-object verdict in
-    let found = object_in-compact_text d object.0 (report_data-sent verdict) object.1 in
+report_body-read run tested =
+    let d : Data = report_data tested in
+    let object = report_data-object tested in
+    let found = object_in-compact_text d object.0 (report_data-sent tested) object.1 in
     ap (λ (read : Result Data WireFault). and_then read (report_in run))
-    (object_of-short (compact_text d) (Some d) (report_body-short verdict) found)
-    ∙ report_data-in run verdict
+    (object_of-short (compact_text d) (Some d) (report_body-short tested) found)
+    ∙ report_data-in run tested

@@ -12,7 +12,7 @@ use Rattle.http_words.specs.declared.route.Route.TheVariants as route
 use Rattle.httparse.specs.Grammar.{is_uri_byte}
 use Rattle.json.proofs.Printed.Utf8.{IsUtf8-are_ascii}
 use Rattle.serde_json.specs.Written.{compact_text}
-use Rattle.weight_exact.specs.declared.run.Verdict.{Verdict}
+use Rattle.worker_core.specs.declared.tested.Tested.{Tested}
 use Rattle.worker_wire.specs.Requests.{key_text, lease_data, lease_path, lease_request, report_data, report_end, report_request, runs_path}
 use Rattle.seam_laws.proofs.Decimals.{digits-decimal, pass-each}
 use Rattle.seam_laws.proofs.Framed.{IsPath, post-asks}
@@ -58,12 +58,12 @@ unfolding runs_path report_end
 report-path_is run = refl
 
 -- a worker's report is one request of that run's route
-pub report-requested : (run : ℕ) (verdict : Verdict) → 1 ≤ run → run < 2 ^ 32
-    → IsOneRequest (endpoint.Command (route.Report run)) (report_request run verdict)
-    (compact_text (report_data verdict))
-report-requested run verdict some fits =
-    let body = compact_text (report_data verdict) in
+pub report-requested : (run : ℕ) (tested : Tested) → 1 ≤ run → run < 2 ^ 32
+    → IsOneRequest (endpoint.Command (route.Report run)) (report_request run tested)
+    (compact_text (report_data tested))
+report-requested run tested some fits =
+    let body = compact_text (report_data tested) in
     subst (λ (path : List ℕ). IsOneRequest (endpoint.Command (route.Report run)) (post_request path body) body)
     (report-path_is run)
     (post-asks (report_path (decimal run)) body (endpoint.Command (route.Report run)) (report-path run fits)
-    (report_body-short verdict) (report-asked run some fits))
+    (report_body-short tested) (report-asked run some fits))

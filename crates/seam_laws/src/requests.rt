@@ -12,6 +12,7 @@ ghost use Rattle.worker_wire.specs.Requests.{key_text, lease_data, lease_request
 
 use farm_types::Key;
 use weight_exact::Verdict;
+use worker_core::Tested;
 
 /// A worker's request for a run is, on a connection of its own, that request and nothing else, and its body is read as
 /// the command that asks for a run under this key, by the worker of this name.
@@ -23,10 +24,13 @@ pub fn lease_requests_are_read()
 {}
 
 /// A worker's report is, on a connection of its own, that request and nothing else, and its body is read as the report
-/// of this run with this verdict.
+/// of this run with this verdict, or as the command that says that this run's tree can't be tested.
 pub fn report_requests_are_read()
-    ensures request { (run : ℕ) (verdict : Verdict) → 1 ≤ run → run < 2 ^ 32
-        → IsOneRequest (Command (Report run)) (report_request run verdict) (compact_text (report_data verdict)) }
+    ensures request { (run : ℕ) (tested : Tested) → 1 ≤ run → run < 2 ^ 32
+        → IsOneRequest (Command (Report run)) (report_request run tested) (compact_text (report_data tested)) }
     ensures command { (run : ℕ) (verdict : Verdict)
-        → body_reading (Report run) (compact_text (report_data verdict)) ≡ Ok (command.Report run verdict) }
+        → body_reading (Report run) (compact_text (report_data (Tested.Verdict verdict)))
+        ≡ Ok (command.Report run verdict) }
+    ensures skip { (run : ℕ)
+        → body_reading (Report run) (compact_text (report_data Tested.Untestable)) ≡ Ok (command.Skip run) }
 {}

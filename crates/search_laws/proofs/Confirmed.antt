@@ -15,7 +15,7 @@ use Rattle.farm_entry.specs.Setup.{commit_of}
 use Rattle.farm_entry.specs.Standing.{is_active, is_confirmed, standing}
 use Rattle.farm_entry.specs.declared.entry.Entry.{Entry}
 use Rattle.farm_entry.specs.declared.entry.What.{What}
-use Rattle.farm_entry.specs.declared.entry.What.TheVariants.{Founded, Opened, Leased, Reported, Cancelled, Ordered}
+use Rattle.farm_entry.specs.declared.entry.What.TheVariants.{Founded, Opened, Leased, Reported, Skipped, Cancelled, Ordered}
 use Rattle.farm_entry.specs.declared.lease.LeasedRun.{LeasedRun}
 use Rattle.farm_entry.specs.declared.opening.Opening.{Opening}
 use Rattle.farm_entry.specs.declared.standing.Standing.{Standing}
@@ -32,7 +32,7 @@ use Rattle.search_laws.specs.Inserted.{IsInserted}
 use Rattle.search_laws.specs.Steps.{IsAbout}
 use Rattle.search_laws.proofs.Counting.{about-one, about-opens_none, numbered-first}
 use Rattle.search_laws.proofs.OneMore.{standing-same}
-use Rattle.search_laws.proofs.Views.{standing-confirmed}
+use Rattle.search_laws.proofs.Suspects.{standing-confirmed}
 
 -- What is made of one search.
 
@@ -101,7 +101,7 @@ fresh-unconfirmed : (H : List Entry) (e : Entry) (o : Opening) → IsLegal H →
     standing (H ++ e ∷ []) o ≡ standings.Confirmed culprit → ⊥
 fresh-unconfirmed H e o legal longer step is culprit h =
     let there = fresh-there H e o is in
-    let borne = standing-confirmed (H ++ e ∷ []) o culprit longer there h in
+    let borne = standing-confirmed (H ++ e ∷ []) o culprit h in
     let none : count_by (is_fail_at culprit) (reruns (H ++ e ∷ []) o.search) ≡ 0 =
     ap (count_by (is_fail_at culprit)) (fresh-counted H e o Verify legal step is) in
     let asked : 1 ≤ o.reruns = (open_within (H ++ e ∷ []) o longer there).reruns.0 in
@@ -227,6 +227,7 @@ about-lease (Some l) s =
 
 about-cases : (H : List Entry) (what : What) (s : ℕ) → IsAbout H what s ⊎ (IsAbout H what s → ⊥)
 about-cases H (Reported run verdict _) s = about-lease (lease_of H run) s
+about-cases H (Skipped run _) s = about-lease (lease_of H run) s
 about-cases H (Cancelled key q) s = cases_eq q s
 about-cases H (Founded settings) s = inr (λ h. h)
 about-cases H (Opened o) s = inr (λ h. h)

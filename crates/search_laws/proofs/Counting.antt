@@ -8,7 +8,7 @@ use Rattle.farm_entry.specs.Pages.{searches_that, totals}
 use Rattle.farm_entry.specs.Standing.{standing}
 use Rattle.farm_entry.specs.declared.entry.Entry.{Entry}
 use Rattle.farm_entry.specs.declared.entry.What.{What}
-use Rattle.farm_entry.specs.declared.entry.What.TheVariants.{Founded, Opened, Leased, Reported, Cancelled, Ordered}
+use Rattle.farm_entry.specs.declared.entry.What.TheVariants.{Founded, Opened, Leased, Reported, Skipped, Cancelled, Ordered}
 use Rattle.farm_entry.specs.declared.lease.LeasedRun.{LeasedRun}
 use Rattle.farm_entry.specs.declared.lease.ReportedRun.{ReportedRun}
 use Rattle.farm_entry.specs.declared.opening.Opening.{Opening}
@@ -120,6 +120,9 @@ pub about-one : (H : List Entry) (what : What) (s t : ℕ) → IsAbout H what s 
 about-one H (Reported run verdict _) s t a b =
     let same : a.0 ≡ b.0 = some-equal a.0 b.0 (lease_of H run) a.1 b.1 in
     sym a.2 ∙ ap (λ (l : LeasedRun). l.search) same ∙ b.2
+about-one H (Skipped run _) s t a b =
+    let same : a.0 ≡ b.0 = some-equal a.0 b.0 (lease_of H run) a.1 b.1 in
+    sym a.2 ∙ ap (λ (l : LeasedRun). l.search) same ∙ b.2
 about-one H (Cancelled key q) s t a b = sym a ∙ b
 about-one H (Founded settings) s t a b = absurd a
 about-one H (Opened o) s t a b = absurd a
@@ -129,6 +132,7 @@ about-one H (Ordered k a n c q d) s t x y = absurd x
 -- and opens none
 pub about-opens_none : (H : List Entry) (what : What) (s : ℕ) → IsAbout H what s → opening_in what ≡ None
 about-opens_none H (Reported run verdict _) s a = refl
+about-opens_none H (Skipped run _) s a = refl
 about-opens_none H (Cancelled key q) s a = refl
 about-opens_none H (Founded settings) s a = absurd a
 about-opens_none H (Opened o) s a = absurd a

@@ -8,17 +8,16 @@ use Rattle.std.proofs.lemmas.List.Elements.{All-cons, All-nil}
 use Rattle.std.proofs.lemmas.List.Elements.{filter_map-append}
 use Rattle.std.proofs.lemmas.List.Folds.{list_any-append, list_any_none}
 use Rattle.farm_types.specs.declared.stage.Stage.TheVariants.{Search, Verify}
-use Rattle.weight_exact.specs.Plan.{plan}
+use Rattle.open_positions.specs.Open.{open_plan}
 use Rattle.farm_rules.specs.Due.{due_search, due_verify}
 use Rattle.farm_rules.specs.Reruns.{reruns_at}
-use Rattle.farm_entry.specs.Due.{due, due_at, is_open, open_positions, outstanding, outstanding_at}
-use Rattle.farm_entry.specs.History.{is_reported, report_in, reports, reruns, runs}
+use Rattle.farm_entry.specs.Due.{due, due_at, is_open, outstanding_positions, outstanding, outstanding_at}
+use Rattle.farm_entry.specs.History.{is_reported, reruns, runs, skipped, told_in, told_runs}
 use Rattle.farm_entry.specs.Setup.{setup_of}
 use Rattle.farm_entry.specs.Standing.{is_active, standing}
 use Rattle.farm_entry.specs.declared.entry.Entry.{Entry}
 use Rattle.farm_entry.specs.declared.lease.DueRun.{DueRun}
 use Rattle.farm_entry.specs.declared.lease.LeasedRun.{LeasedRun}
-use Rattle.farm_entry.specs.declared.lease.ReportedRun.{ReportedRun}
 use Rattle.farm_entry.specs.declared.opening.Opening.{Opening}
 use Rattle.farm_entry.specs.declared.standing.Standing.{Standing}
 use Rattle.farm_entry.specs.declared.standing.Standing.TheVariants.{Searching, Verifying, Confirmed, Vindicated, NoCulprit, Inconclusive, Cancelled}
@@ -27,8 +26,8 @@ use Rattle.farm_entry.specs.declared.standing.Standing.TheVariants.{Searching, V
 reported-more : (H K : List Entry) (run : ℕ) →
     is_reported (H ++ K) run ≡ (is_reported H run || is_reported K run)
 reported-more H K run =
-    ap (list_any (λ (r : ReportedRun). r.run == run)) (filter_map-append (λ (e : Entry). report_in e.what) H K)
-    ∙ list_any-append (λ (r : ReportedRun). r.run == run) (reports H) (reports K)
+    ap (list_any (λ (told : ℕ). told == run)) (filter_map-append (λ (e : Entry). told_in e.what) H K)
+    ∙ list_any-append (λ (told : ℕ). told == run) (told_runs H) (told_runs K)
 
 still-closed : (told more : Bool) (moment later deadline : ℕ) → moment ≤ later →
     (not told && nat_lt moment deadline) ≡ false →
@@ -44,12 +43,12 @@ stays-closed H K l moment later rises h =
     ∙ still-closed (is_reported H l.run) (is_reported K l.run) moment later l.deadline rises h
 
 pub outstanding-searching : (H : List Entry) (o : Opening) (moment : ℕ) → standing H o ≡ Searching →
-    map (λ (l : LeasedRun). l.position) (outstanding H o moment) ≡ open_positions H o.search Search moment
+    map (λ (l : LeasedRun). l.position) (outstanding H o moment) ≡ outstanding_positions H o.search Search moment
 outstanding-searching H o moment is =
     ap (λ (s : Standing). map (λ (l : LeasedRun). l.position) (outstanding_at s H o.search moment)) is
 
 pub outstanding-verifying : (H : List Entry) (o : Opening) (moment suspect : ℕ) → standing H o ≡ Verifying suspect →
-    map (λ (l : LeasedRun). l.position) (outstanding H o moment) ≡ open_positions H o.search Verify moment
+    map (λ (l : LeasedRun). l.position) (outstanding H o moment) ≡ outstanding_positions H o.search Verify moment
 outstanding-verifying H o moment suspect is =
     ap (λ (s : Standing). map (λ (l : LeasedRun). l.position) (outstanding_at s H o.search moment)) is
 
@@ -58,12 +57,12 @@ outstanding-verifying H o moment suspect is =
 pub due-searching : (H : List Entry) (o : Opening) (moment : ℕ) → standing H o ≡ Searching →
     due H o moment
     ≡ option_map (λ (k : ℕ). record { search = o.search; stage = Search; position = k })
-    (due_search (plan (setup_of o) (runs H o.search) o.width)
+    (due_search (open_plan (setup_of o) (runs H o.search) (skipped H o.search) o.width)
     (map (λ (l : LeasedRun). l.position) (outstanding H o moment)))
 due-searching H o moment is =
     let found : List ℕ → Option DueRun = λ out.
     option_map (λ (k : ℕ). record { search = o.search; stage = Search; position = k })
-    (due_search (plan (setup_of o) (runs H o.search) o.width) out) in
+    (due_search (open_plan (setup_of o) (runs H o.search) (skipped H o.search) o.width) out) in
     ap (λ (s : Standing). due_at s H o moment) is ∙ ap found (sym (outstanding-searching H o moment is))
 
 pub due-verifying : (H : List Entry) (o : Opening) (moment suspect : ℕ) → standing H o ≡ Verifying suspect →
@@ -94,18 +93,18 @@ outstanding-ended H o moment h = none-out (standing H o) H o.search moment h
 
 -- A lease is open where no report names its run and its deadline lies later.
 
-unreported : (run : ℕ) (rs : List ReportedRun) → list_any (λ (r : ReportedRun). r.run == run) rs ≡ false →
-    All (λ (r : ReportedRun). r.run ≢ run) rs
-unreported run [] h = All-nil (λ (r : ReportedRun). r.run ≢ run)
-unreported run (x ∷ rs) h =
-    let parts = or_parts (x.run == run) (list_any (λ (r : ReportedRun). r.run == run) rs) h in
-    All-cons (λ (r : ReportedRun). r.run ≢ run) x rs
-    (λ same. true≢false (sym ((Decides-eqb x.run run).1 same) ∙ parts.0)) (unreported run rs parts.1)
+unreported : (run : ℕ) (runs : List ℕ) → list_any (λ (told : ℕ). told == run) runs ≡ false →
+    All (λ (told : ℕ). told ≢ run) runs
+unreported run [] h = All-nil (λ (told : ℕ). told ≢ run)
+unreported run (x ∷ runs) h =
+    let parts = or_parts (x == run) (list_any (λ (told : ℕ). told == run) runs) h in
+    All-cons (λ (told : ℕ). told ≢ run) x runs
+    (λ same. true≢false (sym ((Decides-eqb x run).1 same) ∙ parts.0)) (unreported run runs parts.1)
 
-reported-none : (run : ℕ) (rs : List ReportedRun) → All (λ (r : ReportedRun). r.run ≢ run) rs →
-    list_any (λ (r : ReportedRun). r.run == run) rs ≡ false
-reported-none run rs all =
-    list_any_none (λ (r : ReportedRun). r.run == run) rs
+reported-none : (run : ℕ) (runs : List ℕ) → All (λ (told : ℕ). told ≢ run) runs →
+    list_any (λ (told : ℕ). told == run) runs ≡ false
+reported-none run runs all =
+    list_any_none (λ (told : ℕ). told == run) runs
     (λ k d below. ne_eqb _ run (all k d below))
 
 open-parts : (told lt : Bool) → (not told && lt) ≡ true → (told ≡ false) × (lt ≡ true)
@@ -119,13 +118,13 @@ after : (a b : ℕ) → a < b → nat_lt a b ≡ true
 after a b h = grind (arith, nat_tests)
 
 pub open-says : (H : List Entry) (l : LeasedRun) (moment : ℕ) → is_open H moment l ≡ true →
-    All (λ (r : ReportedRun). r.run ≢ l.run) (reports H) × (moment < l.deadline)
+    All (λ (told : ℕ). told ≢ l.run) (told_runs H) × (moment < l.deadline)
 open-says H l moment h =
     let parts = open-parts (is_reported H l.run) (nat_lt moment l.deadline) h in
-    (unreported l.run (reports H) parts.0, before moment l.deadline parts.1)
+    (unreported l.run (told_runs H) parts.0, before moment l.deadline parts.1)
 
 pub says-open : (H : List Entry) (l : LeasedRun) (moment : ℕ) →
-    All (λ (r : ReportedRun). r.run ≢ l.run) (reports H) × (moment < l.deadline) → is_open H moment l ≡ true
+    All (λ (told : ℕ). told ≢ l.run) (told_runs H) × (moment < l.deadline) → is_open H moment l ≡ true
 says-open H l moment h =
-    ap (λ (b : Bool). not b && nat_lt moment l.deadline) (reported-none l.run (reports H) h.0)
+    ap (λ (b : Bool). not b && nat_lt moment l.deadline) (reported-none l.run (told_runs H) h.0)
     ∙ after moment l.deadline h.1

@@ -1,5 +1,7 @@
 pub mod Sides
+pub mod Apart
 pub mod Views
+pub mod Suspects
 pub mod Verified
 pub mod Leases
 pub mod Adding
@@ -8,3 +10,4 @@ pub mod OneMore
 pub mod Counting
 pub mod Confirmed
 pub mod NeverLeased
+pub mod NeverAgain

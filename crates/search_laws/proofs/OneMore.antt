@@ -10,21 +10,22 @@ use Rattle.weight_exact.specs.Share.{reached}
 use Rattle.weight_exact.specs.declared.run.Run.{Run}
 use Rattle.farm_entry.specs.Decision.{run_with}
 use Rattle.farm_entry.specs.Due.{is_open, open_leases}
-use Rattle.farm_entry.specs.History.{cancelled_in, counted, counted_run, is_counted, is_lease_for, is_of_run, is_of_search, is_over, is_report_of, is_reported, last_lease, last_place, lease_of, leases, report_in, same_stage, was_cancelled, went_over}
+use Rattle.farm_entry.specs.History.{cancelled_in, counted, counted_run, is_counted, is_lease_for, is_of_run, is_of_search, is_over, is_report_of, is_reported, is_taken, last_lease, last_place, lease_of, leases, report_in, same_stage, skip_in, skipped, skipped_position, told_in, was_cancelled, went_over}
 use Rattle.farm_entry.specs.Legal.{IsLegal}
 use Rattle.farm_entry.specs.Setup.{setup_of}
 use Rattle.farm_entry.specs.Standing.{standing, standing_of_reached}
 use Rattle.farm_entry.specs.declared.entry.Entry.{Entry}
 use Rattle.farm_entry.specs.declared.entry.What.{What}
-use Rattle.farm_entry.specs.declared.entry.What.TheVariants.{Founded, Opened, Leased, Reported, Cancelled, Ordered}
+use Rattle.farm_entry.specs.declared.entry.What.TheVariants.{Founded, Opened, Leased, Reported, Skipped, Cancelled, Ordered}
 use Rattle.farm_entry.specs.declared.lease.LeasedRun.{LeasedRun}
 use Rattle.farm_entry.specs.declared.lease.ReportedRun.{ReportedRun}
+use Rattle.farm_entry.specs.declared.lease.SkippedRun.{SkippedRun}
 use Rattle.farm_entry.specs.declared.opening.Opening.{Opening}
 use Rattle.farm_entry.specs.declared.standing.Standing.TheVariants as standings
-use Rattle.farm_laws.proofs.EntryParts.{reported-facts}
-use Rattle.farm_laws.proofs.Filters.{counted-grow, is_reported-grow, lease_of-stays, leases-grow, was_cancelled-grow, went_over-grow}
-use Rattle.farm_laws.proofs.Known.{reports-known}
-use Rattle.farm_laws.proofs.RunSteps.{chosen_run, counted_run-is}
+use Rattle.farm_laws.proofs.EntryParts.{reported-facts, skipped-facts}
+use Rattle.farm_laws.proofs.Filters.{counted-grow, is_reported-grow, lease_of-stays, leases-grow, skipped-grow, was_cancelled-grow, went_over-grow}
+use Rattle.farm_laws.proofs.Known.{reports-known, skips-known}
+use Rattle.farm_laws.proofs.RunSteps.{chosen_position, chosen_run, counted_run-is, skipped_position-is}
 use Rattle.farm_laws.proofs.Stepped.{Stepped}
 use Rattle.search_laws.specs.Steps.{IsAbout, handed_out, open_of, without_reported}
 
@@ -65,6 +66,36 @@ pub counted-same : (H : List Entry) (e : Entry) (s : ℕ) (stage : Stage) → Is
     counted (H ++ e ∷ []) s stage ≡ counted H s stage
 counted-same H e s stage legal step other =
     counted-same_by H e s stage (report_in e.what) step other refl (counted-grow H e s stage (reports-known H legal))
+
+-- the run that an entry reports as one whose tree can't be tested is of another search
+abbrev pub IsSkipOfOther : List Entry → What → ℕ → Type 0
+IsSkipOfOther H what s = (r : SkippedRun) (l : LeasedRun) → skip_in what ≡ Some r → lease_of H r.run ≡ Some l →
+    l.search == s ≡ false
+
+other-position : (taken same : Bool) (k : ℕ) → same ≡ false → chosen_position taken same k ≡ None
+other-position true true k h = absurd (true≢false h)
+other-position true false k h = refl
+other-position false same k h = refl
+
+skipped-same_by : (H : List Entry) (e : Entry) (s : ℕ) (told : Option SkippedRun) → Stepped H e.at e.what →
+    IsSkipOfOther H e.what s → skip_in e.what ≡ told →
+    skipped (H ++ e ∷ []) s ≡ skipped H s ++ filter_map (skipped_position (H ++ e ∷ []) s) (cons_option told []) →
+    skipped (H ++ e ∷ []) s ≡ skipped H s
+skipped-same_by H e s None step other is grown = grown ∙ append-nil (skipped H s)
+skipped-same_by H e s (Some r) step other is grown =
+    let facts = skipped-facts H e.at e.what r is step in
+    let l = facts.lease in
+    let none : skipped_position (H ++ e ∷ []) s r ≡ None =
+    skipped_position-is (H ++ e ∷ []) s r l (lease_of-stays H e r.run l facts.known)
+    ∙ other-position (is_taken r.fate) (l.search == s) l.position (other r l is facts.known) in
+    grown
+    ∙ ap (λ (x : Option ℕ). skipped H s ++ cons_option x []) none
+    ∙ append-nil (skipped H s)
+
+pub skipped-same : (H : List Entry) (e : Entry) (s : ℕ) → IsLegal H → Stepped H e.at e.what → IsSkipOfOther H e.what s →
+    skipped (H ++ e ∷ []) s ≡ skipped H s
+skipped-same H e s legal step other =
+    skipped-same_by H e s (skip_in e.what) step other refl (skipped-grow H e s (skips-known H legal))
 
 or-none : (a b : Bool) → b ≡ false → (a || b) ≡ a
 or-none true b h = refl
@@ -120,11 +151,27 @@ pub not_about-report : (H : List Entry) (what : What) (s : ℕ) → (IsAbout H w
 not_about-report H (Reported run verdict _) s other r l is known =
     let same : run ≡ r.run = ap run_of_report is in
     differ l.search s (λ of_it. other (l, ap (lease_of H) same ∙ known, of_it))
+not_about-report H (Skipped run _) s other r l is known = absurd (none-some r is)
 not_about-report H (Founded settings) s other r l is known = absurd (none-some r is)
 not_about-report H (Opened o) s other r l is known = absurd (none-some r is)
 not_about-report H (Leased k w q t p d x) s other r l is known = absurd (none-some r is)
 not_about-report H (Cancelled k q) s other r l is known = absurd (none-some r is)
 not_about-report H (Ordered k a n c q d) s other r l is known = absurd (none-some r is)
+
+abbrev run_of_skip : Option SkippedRun → ℕ
+run_of_skip None = 0
+run_of_skip (Some r) = r.run
+
+pub not_about-skip : (H : List Entry) (what : What) (s : ℕ) → (IsAbout H what s → ⊥) → IsSkipOfOther H what s
+not_about-skip H (Skipped run _) s other r l is known =
+    let same : run ≡ r.run = ap run_of_skip is in
+    differ l.search s (λ of_it. other (l, ap (lease_of H) same ∙ known, of_it))
+not_about-skip H (Founded settings) s other r l is known = absurd (none-some r is)
+not_about-skip H (Opened o) s other r l is known = absurd (none-some r is)
+not_about-skip H (Leased k w q t p d x) s other r l is known = absurd (none-some r is)
+not_about-skip H (Reported run verdict _) s other r l is known = absurd (none-some r is)
+not_about-skip H (Cancelled k q) s other r l is known = absurd (none-some r is)
+not_about-skip H (Ordered k a n c q d) s other r l is known = absurd (none-some r is)
 
 pub not_about-cancel : (H : List Entry) (what : What) (s : ℕ) → (IsAbout H what s → ⊥) → (x : ℕ) →
     cancelled_in what ≡ Some x → x == s ≡ false
@@ -135,12 +182,17 @@ not_about-cancel H (Founded settings) s other x is = absurd (none-some x is)
 not_about-cancel H (Opened o) s other x is = absurd (none-some x is)
 not_about-cancel H (Leased k w q t p d y) s other x is = absurd (none-some x is)
 not_about-cancel H (Reported run verdict _) s other x is = absurd (none-some x is)
+not_about-cancel H (Skipped run _) s other x is = absurd (none-some x is)
 not_about-cancel H (Ordered k a n c q d) s other x is = absurd (none-some x is)
 
 pub runs-same : (H : List Entry) (e : Entry) (s : ℕ) (stage : Stage) → IsLegal H → Stepped H e.at e.what →
     (IsAbout H e.what s → ⊥) →
     counted (H ++ e ∷ []) s stage ≡ counted H s stage
 runs-same H e s stage legal step other = counted-same H e s stage legal step (not_about-report H e.what s other)
+
+pub skips-same : (H : List Entry) (e : Entry) (s : ℕ) → IsLegal H → Stepped H e.at e.what → (IsAbout H e.what s → ⊥) →
+    skipped (H ++ e ∷ []) s ≡ skipped H s
+skips-same H e s legal step other = skipped-same H e s legal step (not_about-skip H e.what s other)
 
 pub standing-same : (H : List Entry) (e : Entry) (o : Opening) → IsLegal H → Stepped H e.at e.what →
     (IsAbout H e.what o.search → ⊥) →
@@ -150,9 +202,10 @@ standing-same H e o legal step other =
     let over = over-same H e o.search legal step (not_about-report H e.what o.search other) in
     let run = runs-same H e o.search Search legal step other in
     let again = runs-same H e o.search Verify legal step other in
+    let skips = skips-same H e o.search legal step other in
     λ i. if cancelled i then standings.Cancelled
     else (if over i then standings.Inconclusive
-    else standing_of_reached o (again i) (reached (setup_of o) (run i)))
+    else standing_of_reached o (run i) (skips i) (again i) (reached (setup_of o) (run i)))
 
 -- Leases.
 
@@ -165,17 +218,17 @@ open-test true false false false = refl
 open-test false told more lt = refl
 
 -- whether an entry reports a run
-reports_run : (run : ℕ) (rep : Option ReportedRun) → (list_any (λ (r : ReportedRun).
-    r.run == run) (cons_option rep [])) ≡ is_of_run run rep
+reports_run : (run : ℕ) (told : Option ℕ) →
+    list_any (λ (r : ℕ). r == run) (cons_option told []) ≡ is_of_run run told
 reports_run run None = refl
-reports_run run (Some r) = or-none (r.run == run) false refl
+reports_run run (Some r) = or-none (r == run) false refl
 
 open-step : (H : List Entry) (e : Entry) (stage : Stage) (moment : ℕ) (l : LeasedRun) →
     (same_stage l.stage stage && is_open (H ++ e ∷ []) moment l) ≡
     ((same_stage l.stage stage && is_open H moment l) && not (is_report_of l.run e))
 open-step H e stage moment l =
     ap (λ (b : Bool). same_stage l.stage stage && (not b && nat_lt moment l.deadline))
-    (is_reported-grow H e l.run ∙ ap (λ (b : Bool). is_reported H l.run || b) (reports_run l.run (report_in e.what)))
+    (is_reported-grow H e l.run ∙ ap (λ (b : Bool). is_reported H l.run || b) (reports_run l.run (told_in e.what)))
     ∙ open-test (same_stage l.stage stage) (is_reported H l.run) (is_report_of l.run e) (nat_lt moment l.deadline)
 
 -- a list filtered by two tests at once is filtered by one after the other

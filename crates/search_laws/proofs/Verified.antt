@@ -31,7 +31,9 @@ use Rattle.farm_laws.proofs.RunSteps.{NewRun, counted-step}
 use Rattle.farm_laws.proofs.Standings.{at_bar-searching}
 use Rattle.farm_laws.proofs.Stepped.{Stepped}
 use Rattle.search_laws.proofs.Sides.{counts-lacking, silent-vindicated}
-use Rattle.search_laws.proofs.Views.{bar-reached, cancelled-standing, named-standing_names, reached-bar, standing-confirmed, standing-verifying}
+use Rattle.search_laws.specs.Stands.{IsNamed, IsUnprovable}
+use Rattle.search_laws.proofs.Views.{bar-reached, cancelled-standing, named-cases, reached-bar, unprovable-standing}
+use Rattle.search_laws.proofs.Suspects.{standing-confirmed, standing-verifying}
 use Rattle.search_laws.proofs.Counting.{some-equal}
 
 -- One rerun more.
@@ -143,7 +145,7 @@ new-verified : (H : List Entry) (e : Entry) (o : Opening) → IsLegal H → Cont
 new-verified H e o legal there s before new =
     let counts_it = rerun-counts (standing H o) H o new.lease new.verdict new.at_stage new.counts in
     let c : ℕ = counts_it.suspect in
-    let being = standing-verifying H o c legal there counts_it.verifies in
+    let being = standing-verifying H o c counts_it.verifies in
     let bar : at_bar H o ≡ Some c = reached-bar H o c legal there being.named.at_bar.reached in
     let went : WentThrough c o.reruns (reruns H o.search) = subst (λ (n : Option ℕ).
     Verified n o.reruns (reruns H o.search)) bar before in
@@ -228,7 +230,7 @@ pub confirmed-exactly : (H : List Entry) (o : Opening) (c : ℕ) → IsLegal H �
     × (count_by (is_pass_at (c - 1)) (reruns H o.search) ≡ o.reruns)
 confirmed-exactly H o c legal there h =
     let again = reruns H o.search in
-    let borne = standing-confirmed H o c legal there h in
+    let borne = standing-confirmed H o c h in
     let fails : count_by (is_fail_at c) again ≤ reruns_at c again =
     count_by-le (is_fail_at c) (λ (r : Run). r.position == c) again
     (λ r is. and-right (is_fail r.verdict) (r.position == c) is) in
@@ -254,27 +256,34 @@ kept-suspect G e o c legal k s = record {
   within = over-kept G e o legal k.opened s (at_bar-searching G o c k.bar) ∙ k.within;
 }
 
-by_cancellation : (G : List Entry) (o : Opening) (c : ℕ) (b : Bool) → IsLegal G → KeptSuspect G o c →
-    c ≤ suspects (setup_of o) → was_cancelled G o.search ≡ b →
+-- where such a search stands: it names the suspect, or was cancelled, or can't be proved any more
+abbrev KeepsSuspect : List Entry → Opening → ℕ → Type 0
+KeepsSuspect G o c =
     (culprit_of (standing G o) ≡ Some c) ⊎ (standing G o ≡ Cancelled)
-by_cancellation G o c true legal k suspect cancelled = inr (cancelled-standing G o cancelled)
+    ⊎ ((standing G o ≡ Inconclusive) × IsUnprovable G o c)
+
+by_cancellation : (G : List Entry) (o : Opening) (c : ℕ) (b : Bool) → IsLegal G → KeptSuspect G o c →
+    c ≤ suspects (setup_of o) → was_cancelled G o.search ≡ b → KeepsSuspect G o c
+by_cancellation G o c true legal k suspect cancelled = inr (inl (cancelled-standing G o cancelled))
 by_cancellation G o c false legal k suspect uncancelled =
-    inl (named-standing_names G o c legal k.opened (record {
+    let named : IsNamed G o c = record {
       at_bar = record {
         believed = record { uncancelled = uncancelled; within = k.within };
-        reached =
-            bar-reached G o c k.bar;
+        reached = bar-reached G o c k.bar;
       };
       suspects = suspect;
-    }))
+    } in
+    ⊎_elim
+    (λ (names : culprit_of (standing G o) ≡ Some c). inl names)
+    (λ (u : IsUnprovable G o c). inr (inr (unprovable-standing G o c legal k.opened u, u)))
+    (named-cases G o c legal k.opened named)
 
 pub suspect-kept : (H K : List Entry) (o : Opening) (c : ℕ) → IsLegal (H ++ K) → Contains (openings H) o →
-    standing H o ≡ Verifying c →
-    (culprit_of (standing (H ++ K) o) ≡ Some c) ⊎ (standing (H ++ K) o ≡ Cancelled)
+    standing H o ≡ Verifying c → KeepsSuspect (H ++ K) o c
 suspect-kept H K o c legal there verifies =
     let some = some-entries H o there in
     let first = IsLegal-first H K some legal in
-    let being = standing-verifying H o c first there verifies in
+    let being = standing-verifying H o c verifies in
     let start : KeptSuspect H o c = record {
       opened = there;
       bar = reached-bar H o c first there being.named.at_bar.reached;

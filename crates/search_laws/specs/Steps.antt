@@ -6,12 +6,13 @@ use Rattle.farm_entry.specs.Due.{is_open}
 use Rattle.farm_entry.specs.History.{is_report_of, lease_in, lease_of, same_stage}
 use Rattle.farm_entry.specs.declared.entry.Entry.{Entry}
 use Rattle.farm_entry.specs.declared.entry.What.{What}
-use Rattle.farm_entry.specs.declared.entry.What.TheVariants.{Reported, Cancelled}
+use Rattle.farm_entry.specs.declared.entry.What.TheVariants.{Reported, Skipped, Cancelled}
 use Rattle.farm_entry.specs.declared.lease.LeasedRun.{LeasedRun}
 
--- an entry may change where a search stands: it reports a run of the search, or cancels it
+-- an entry may change where a search stands: it reports a run of the search, with a verdict or not, or cancels it
 abbrev pub IsAbout : List Entry → What → (search : ℕ) → Type 0
 IsAbout H (Reported run verdict _) search = (l : LeasedRun) × (lease_of H run ≡ Some l) × (l.search ≡ search)
+IsAbout H (Skipped run _) search = (l : LeasedRun) × (lease_of H run ≡ Some l) × (l.search ≡ search)
 IsAbout H (Cancelled key cancelled) search = cancelled ≡ search
 IsAbout H what search = ⊥
 

@@ -7,7 +7,8 @@
 //!
 //! Each standing holds exactly where the history says what it asks for (`beliefs_decide_standings`,
 //! `entries_end_searches`, `named_suspects_stand_by_their_reruns`); a lease is open until its deadline or its report,
-//! and a run is due by the open leases (`leases_are_open_until_their_deadline`, `due_runs_go_by_outstanding_leases`);
+//! and a run is due by the open leases (`leases_are_open_until_their_deadline`, `due_runs_go_by_outstanding_leases`),
+//! and never at a position whose tree can't be tested (`skipped_positions_are_never_leased_again`);
 //! reruns are those of a verification (`reruns_are_those_of_a_verification`); the standings add up to the searches
 //! (`standings_add_up_to_the_searches`).
 #![tactic(auto)]
@@ -21,6 +22,7 @@ mod totals;
 pub use outstanding::{
     due_runs_go_by_outstanding_leases, expired_leases_stay_expired,
     leases_are_open_until_their_deadline, searches_never_leased_stand_at_the_founding,
+    skipped_positions_are_never_leased_again,
 };
 pub use reruns::{reruns_are_those_of_a_verification, verifications_keep_their_suspect};
 pub use standings::{

@@ -6,8 +6,9 @@ ghost use Rattle.weight_exact.specs.declared.run.Run.{Run};
 ghost use Rattle.farm_entry.specs.History.{openings, reruns};
 ghost use Rattle.farm_entry.specs.Legal.{IsLegal};
 ghost use Rattle.farm_entry.specs.Standing.{at_bar, standing};
-ghost use Rattle.farm_entry.specs.declared.standing.Standing.TheVariants.{Verifying, Confirmed, Cancelled};
+ghost use Rattle.farm_entry.specs.declared.standing.Standing.TheVariants.{Verifying, Confirmed, Inconclusive, Cancelled};
 ghost use Rattle.farm_laws.specs.Laws.{culprit_of};
+ghost use Rattle.search_laws.specs.Stands.{IsUnprovable};
 
 use farm_entry::{Entry, Opening};
 
@@ -32,10 +33,11 @@ pub fn reruns_are_those_of_a_verification()
         × (count_by (is_pass_at (suspect - 1)) (reruns H o.search) ≡ o.reruns) }
 {}
 
-/// A search that verifies a suspect goes on to verify, confirm or vindicate the same one, or is cancelled, in every
-/// longer history.
+/// A search that verifies a suspect goes on to verify, confirm or vindicate the same one, or is cancelled, or ends
+/// inconclusive as reruns that it lacks can't be made, in every longer history.
 pub fn verifications_keep_their_suspect()
     ensures { (H K : List Entry) (o : Opening) (suspect : ℕ) → IsLegal (H ++ K) → Contains (openings H) o
         → standing H o ≡ Verifying suspect
-        → (culprit_of (standing (H ++ K) o) ≡ Some suspect) ⊎ (standing (H ++ K) o ≡ Cancelled) }
+        → (culprit_of (standing (H ++ K) o) ≡ Some suspect) ⊎ (standing (H ++ K) o ≡ Cancelled)
+        ⊎ ((standing (H ++ K) o ≡ Inconclusive) × IsUnprovable (H ++ K) o suspect) }
 {}

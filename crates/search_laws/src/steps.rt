@@ -3,7 +3,7 @@ ghost use Rattle.std.specs.Prelude.{◌≡◌, ℕ, ◌+◌, Bool, false, List, 
 ghost use Rattle.std.specs.List.{cons_option};
 ghost use Rattle.farm_types.specs.declared.stage.Stage.{Stage};
 ghost use Rattle.farm_entry.specs.Due.{open_leases};
-ghost use Rattle.farm_entry.specs.History.{is_counted, is_lease_for, last_lease, leases, openings, order_in, opening_in, report_in, reruns, runs};
+ghost use Rattle.farm_entry.specs.History.{is_counted, is_lease_for, last_lease, leases, openings, order_in, opening_in, report_in, reruns, runs, skipped};
 ghost use Rattle.farm_entry.specs.Legal.{IsLegal};
 ghost use Rattle.farm_entry.specs.Orders.{confirmed_searches};
 ghost use Rattle.farm_entry.specs.Pages.{searches_that, totals};
@@ -14,8 +14,8 @@ ghost use Rattle.search_laws.specs.Steps.{IsAbout, handed_out, open_of, without_
 
 use farm_entry::{Entry, Opening, ReportedRun, Standing, What};
 
-/// A search that an entry neither reports a run of nor cancels keeps its runs, its reruns and its standing; and an
-/// entry reports a run of, or cancels, one search at most. So it changes where at most one search stands.
+/// A search that an entry neither reports a run of nor cancels keeps its runs, its reruns, its skipped positions and its
+/// standing; and an entry reports a run of, or cancels, one search at most. So it changes where at most one search stands.
 pub fn an_entry_changes_one_search()
     ensures one { (H : List Entry) (what : What) (search other : ℕ) → IsAbout H what search → IsAbout H what other
         → search ≡ other }
@@ -23,6 +23,8 @@ pub fn an_entry_changes_one_search()
         → ¬ IsAbout H e.what o.search → runs (H ++ e ∷ []) o.search ≡ runs H o.search }
     ensures reruns { (H : List Entry) (e : Entry) (o : Opening) → IsLegal (H ++ e ∷ []) → Contains (openings H) o
         → ¬ IsAbout H e.what o.search → reruns (H ++ e ∷ []) o.search ≡ reruns H o.search }
+    ensures skipped { (H : List Entry) (e : Entry) (o : Opening) → IsLegal (H ++ e ∷ []) → Contains (openings H) o
+        → ¬ IsAbout H e.what o.search → skipped (H ++ e ∷ []) o.search ≡ skipped H o.search }
     ensures standing { (H : List Entry) (e : Entry) (o : Opening) → IsLegal (H ++ e ∷ []) → Contains (openings H) o
         → ¬ IsAbout H e.what o.search → standing (H ++ e ∷ []) o ≡ standing H o }
 {}

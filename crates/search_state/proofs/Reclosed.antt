@@ -1,5 +1,5 @@
 -- A search with new parts.
-use Rattle.std.proofs.Common.{◌≡◌, ◌≢◌, ℕ, ◌<◌, ◌≤◌, ◌==◌, nat_lt, false, ◌&&◌, List, [], ◌∷◌, ◌++◌, length, reverse, Option, None, refl, sym, ap, subst, ◌∙◌, arith}
+use Rattle.std.proofs.Common.{◌≡◌, ◌≢◌, ℕ, ◌<◌, ◌==◌, nat_lt, false, ◌&&◌, List, [], ◌∷◌, ◌++◌, length, reverse, Option, refl, sym, ap, subst, ◌∙◌, arith}
 use Rattle.std.proofs.lemmas.List.{reverse-append}
 use Rattle.std.proofs.lemmas.Bool.Decides.{nat_tests}
 use Rattle.weight_exact.specs.Budget.{run_budget}
@@ -11,20 +11,19 @@ use Rattle.posterior.specs.Kept.{Kept}
 use Rattle.posterior.specs.StandsFor.{StandsFor}
 use Rattle.posterior.specs.declared.belief.Noted.{Noted}
 use Rattle.posterior.specs.declared.belief.Noted.TheVariants.{Counted, Over}
-use Rattle.threshold_pick.specs.CanPick.{CanPick}
-use Rattle.threshold_pick.specs.Picks.{IsPick}
+use Rattle.verify_flow.specs.Verification.{Verification}
 use Rattle.farm_entry.specs.Setup.{budget_of_search, setup_of}
 use Rattle.farm_entry.specs.Standing.{standing_of_reached}
 use Rattle.farm_entry.specs.declared.opening.Opening.{Opening}
 use Rattle.farm_entry.specs.declared.standing.Standing.{Standing}
-use Rattle.farm_entry.specs.declared.standing.Standing.TheVariants.{Searching, Verifying}
-use Rattle.farm_laws.specs.Openings.{OpenWithin}
+use Rattle.farm_entry.specs.declared.standing.Standing.TheVariants.{Searching}
+use Rattle.belief_laws.proofs.Beliefs.{IsBeliefOf}
+use Rattle.search_state.specs.Begun.{IsBegunBy, IsBelieved}
 use Rattle.search_state.specs.SearchView.{SearchView, adds_load, bar_of, passes_budget, standing_in}
 use Rattle.search_state.specs.SearchInside.{IsSearch, IsSetUp, IsVerificationOf, search_view}
 use Rattle.search_state.specs.declared.state.SearchState.TheInside.{Inside}
-use Rattle.search_state.proofs.Flags.{IsSearching, believed-standing, searching-none, searching-parts, verified-first}
+use Rattle.search_state.proofs.Flags.{IsSearching, believed-standing, searching-parts}
 use Rattle.search_state.proofs.Loads.{passes-told}
-use Rattle.search_state.proofs.Picks.{IsUndecided, undecided-can_pick}
 
 -- a list that is told one more, read from its oldest on
 pub reverse-cons : {X : Type 0} (x : X) (xs : List X) → reverse (x ∷ xs) ≡ reverse xs ++ x ∷ []
@@ -52,31 +51,24 @@ run-counts o s runs r n same within told =
 pub reverse-told : {X : Type 0} (told old : List X) (x : X) → told ≡ x ∷ old → reverse told ≡ reverse old ++ x ∷ []
 reverse-told told old x is = ap reverse is ∙ reverse-cons x old
 
--- A search without reruns that goes by its belief: where it stands is by the hypothesis at the bar.
+-- A search without reruns that goes by its belief.
 
--- the first standing of an opening, by what its belief answers
-pub first-of : (o : Opening) (s : Setup) (runs : List Run) (n : Option ℕ) (st : Standing) → s ≡ setup_of o →
-    n ≡ reached s runs → st ≡ standing_of_reached o [] n → st ≡ standing_of_reached o [] (reached (setup_of o) runs)
-first-of o s runs n st same answered stands =
-    stands ∙ ap (λ (x : Option ℕ). standing_of_reached o [] x) (answered ∙ ap (λ (t : Setup). reached t runs) same)
+-- what is kept says of its belief
+pub believed : (s : Inside) → IsSearch s → IsBelieved s.opening.value (reverse s.runs) s.belief s.bar s.suspects
+believed s h = record {
+  within = h.set_up.within;
+  setup = h.setup;
+  stands = h.believed;
+  bar_is = h.set_up.bar_is;
+  suspects_are = h.set_up.suspects_are;
+}
 
--- a suspect that it names stands from 1 on
-pub first-named : (o : Opening) (runs : List Run) (st : Standing) →
-    st ≡ standing_of_reached o [] (reached (setup_of o) runs) → (c : ℕ) → st ≡ Verifying c → 1 ≤ c
-first-named o runs st stands c names = verified-first o [] runs c (sym stands ∙ names)
-
--- and where it is searching, positions can be picked by its belief
-pub first-can_pick : (o : Opening) (runs : List Run) (k : Kept) (st : Standing) → OpenWithin o → k.setup ≡ setup_of o →
-    StandsFor k runs → st ≡ standing_of_reached o [] (reached (setup_of o) runs) → st ≡ Searching →
-    CanPick k.floor k.sums
-first-can_pick o runs k st within setup believed stands searching =
-    let none : reached (setup_of o) runs ≡ None =
-    searching-none o [] (reached (setup_of o) runs) (sym stands ∙ searching) in
-    undecided-can_pick o runs k (record { within = within; setup = setup; stands = believed; none = none })
+pub kept-belief : (s : Inside) → IsSearch s → IsBeliefOf s.opening.value (reverse s.runs) s.belief
+kept-belief s h = record { within = h.set_up.within; setup = h.setup; stands = h.believed }
 
 -- its parts, by its opening
 pub record IsBegun (o : Opening) (s : Inside) : Type 0 where
-  pub set_up : IsSetUp o s.search s.width s.asked s.suspects s.may_miss
+  pub set_up : IsSetUp o s.search s.width s.asked s.suspects s.bar s.may_miss
   pub setup : s.belief.setup ≡ setup_of o
   pub believed : StandsFor s.belief (reverse s.runs)
   pub counted_is : s.counted ≡ length s.runs
@@ -84,13 +76,12 @@ pub record IsBegun (o : Opening) (s : Inside) : Type 0 where
   pub no_reruns : s.reruns ≡ []
   pub uncancelled : s.is_cancelled ≡ false
   pub within : s.is_over ≡ false
-  pub stands : s.standing ≡ standing_of_reached o [] (reached (setup_of o) (reverse s.runs))
-  pub planned : s.standing ≡ Searching → IsPick s.belief.sums s.belief.floor 1 s.width s.first
-  pub verified : (culprit : ℕ) → s.standing ≡ Verifying culprit → IsVerificationOf s.verification culprit s.asked []
+  pub follows : IsBegunBy o (reverse s.runs) s.skips s.belief s.standing s.first s.verification
 
 begun-here : (s : Inside) → IsBegun s.opening.value s → IsSearch s
 begun-here s b =
     let o = s.opening.value in
+    let told : List Run = reverse s.runs in
     let none : reverse s.reruns ≡ [] = ap (λ (xs : List Run). reverse xs) b.no_reruns in
     record {
       set_up = b.set_up;
@@ -99,13 +90,22 @@ begun-here s b =
       counted_is = b.counted_is;
       verified_is = b.verified_is ∙ sym (ap length b.no_reruns);
       standing_is =
-          b.stands
-          ∙ ap (λ (xs : List Run). standing_of_reached o xs (reached (setup_of o) (reverse s.runs))) (sym none)
+          b.follows.stands
+          ∙ ap (λ (xs : List Run). standing_of_reached o told s.skips xs (reached (setup_of o) told)) (sym none)
           ∙ sym (believed-standing (search_view s) (bar_of (search_view s)) b.uncancelled b.within refl);
       none_yet = λ _. b.no_reruns;
-      planned = b.planned;
-      verified = λ c names. subst (IsVerificationOf s.verification c s.asked) (sym none) (b.verified c names);
+      planned = b.follows.planned;
+      verified = λ c names.
+          subst (λ (n : ℕ). IsVerificationOf s.verification c n (reverse s.reruns)) (sym b.set_up.asked_is)
+          (subst (λ (xs : List Run). IsVerificationOf s.verification c o.reruns xs) (sym none)
+          (b.follows.verified c names));
     }
+
+-- what follows of one list of runs follows of the same list
+pub follows-along : (o : Opening) (told same : List Run) (skipped : List ℕ) (k : Kept) (st : Standing) (first : Option ℕ)
+    (v : Verification) → same ≡ told → IsBegunBy o told skipped k st first v → IsBegunBy o same skipped k st first v
+follows-along o told same skipped k st first v is follows =
+    subst (λ (xs : List Run). IsBegunBy o xs skipped k st first v) (sym is) follows
 
 pub begun-search : (o : Opening) (s : Inside) → s.opening.value ≡ o → IsBegun o s → IsSearch s
 begun-search o s same b = begun-here s (subst (λ (x : Opening). IsBegun x s) (sym same) b)
@@ -125,8 +125,3 @@ kept-passes s v r l b h is load_is budget_is =
     (passes-told (search_view s) r l b
     (load_is ∙ h.believed.load_is ∙ ap (λ (t : Setup). load t.factors (reverse s.runs)) h.setup)
     (budget_is ∙ ap (λ (t : Setup). run_budget t) h.setup) (omega (arith, load_is, budget_is, within)))
-
--- what a search that is searching says of what is kept
-pub undecided : (s : Inside) → IsSearch s → bar_of (search_view s) ≡ None →
-    IsUndecided s.opening.value (reverse s.runs) s.belief
-undecided s h none = record { within = h.set_up.within; setup = h.setup; stands = h.believed; none = none }

@@ -1,2 +1,3 @@
 pub mod SearchView
 pub mod SearchInside
+pub mod Begun

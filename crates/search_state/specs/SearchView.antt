@@ -1,10 +1,10 @@
 -- What contracts see of a search, and what the farm's definitions say of it: where it stands, what a report does to
--- it, which run is due.
-use Rattle.std.specs.Prelude.{◌≡◌, ℕ, ◌+◌, ◌-◌, ◌<◌, ◌≤◌, ◌⊎◌, nat_lt, Bool, true, false, ◌&&◌, ◌||◌, List, [], ◌∷◌, ◌++◌, map, if◌then◌else◌, Option, Some, None}
+-- it, with a verdict or as a skip, which run is due.
+use Rattle.std.specs.Prelude.{◌≡◌, ℕ, ◌+◌, ◌-◌, ◌<◌, ◌≤◌, ◌⊎◌, nat_lt, Bool, true, false, ◌&&◌, ◌||◌, List, [], ◌∷◌, ◌++◌, map, filter, if◌then◌else◌, Option, Some, None}
 use Rattle.std.specs.List.{range_with_len}
 use Rattle.std.specs.Option.{option_map}
+use Rattle.open_positions.specs.Open.{is_skipped, open_plan}
 use Rattle.weight_exact.specs.Load.{floor, is_fail, load, may_miss}
-use Rattle.weight_exact.specs.Plan.{plan}
 use Rattle.weight_exact.specs.Share.{basis_points, reached}
 use Rattle.weight_exact.specs.Weights.{hypotheses}
 use Rattle.weight_exact.specs.declared.run.Run.{Run}
@@ -17,23 +17,26 @@ use Rattle.farm_entry.specs.Setup.{budget_of_search, setup_of}
 use Rattle.farm_entry.specs.Standing.{standing_of_reached}
 use Rattle.farm_entry.specs.declared.entry.Fate.{Fate}
 use Rattle.farm_entry.specs.declared.entry.Fate.TheVariants.{Counted, Late, Over}
+use Rattle.farm_entry.specs.declared.entry.SkipFate.{SkipFate}
+use Rattle.farm_entry.specs.declared.entry.SkipFate.TheVariants as skip
 use Rattle.farm_entry.specs.declared.lease.DueRun.{DueRun}
 use Rattle.farm_entry.specs.declared.opening.Opening.{Opening}
 use Rattle.farm_entry.specs.declared.standing.Standing.{Standing}
 use Rattle.farm_entry.specs.declared.standing.Standing.TheVariants.{Searching, Verifying, Inconclusive, Cancelled}
 
--- A search: how it was opened, the runs and the reruns that counted, each in the order of their reports, and whether
--- it went over its budget or was cancelled
+-- A search: how it was opened, the runs and the reruns that counted, each in the order of their reports, the positions
+-- that were skipped, in the order in which they were, and whether it went over its budget or was cancelled
 pub record SearchView : Type 0 where
   pub opening : Opening
   pub runs : List Run
   pub reruns : List Run
+  pub skipped : List ℕ
   pub is_over : Bool
   pub is_cancelled : Bool
 
 -- a search that was just opened
 abbrev pub opened : Opening → SearchView
-opened o = record { opening = o; runs = []; reruns = []; is_over = false; is_cancelled = false }
+opened o = record { opening = o; runs = []; reruns = []; skipped = []; is_over = false; is_cancelled = false }
 
 -- the hypothesis that is at the bar
 abbrev pub bar_of : SearchView → Option ℕ
@@ -43,7 +46,8 @@ bar_of s = reached (setup_of s.opening) s.runs
 abbrev pub standing_in : SearchView → Standing
 standing_in s =
     if s.is_cancelled then Cancelled
-    else (if s.is_over then Inconclusive else standing_of_reached s.opening s.reruns (bar_of s))
+    else (if s.is_over then Inconclusive
+    else standing_of_reached s.opening s.runs s.skipped s.reruns (bar_of s))
 
 -- What a report does.
 
@@ -77,6 +81,7 @@ after_counted s Search r = record {
   opening = s.opening;
   runs = s.runs ++ r ∷ [];
   reruns = s.reruns;
+  skipped = s.skipped;
   is_over = s.is_over;
   is_cancelled = s.is_cancelled;
 }
@@ -84,6 +89,7 @@ after_counted s Verify r = record {
   opening = s.opening;
   runs = s.runs;
   reruns = s.reruns ++ r ∷ [];
+  skipped = s.skipped;
   is_over = s.is_over;
   is_cancelled = s.is_cancelled;
 }
@@ -94,6 +100,7 @@ gone_over s = record {
   opening = s.opening;
   runs = s.runs;
   reruns = s.reruns;
+  skipped = s.skipped;
   is_over = true;
   is_cancelled = s.is_cancelled;
 }
@@ -104,13 +111,40 @@ after_report s stage r Counted = after_counted s stage r
 after_report s stage r Over = gone_over s
 after_report s stage r Late = s
 
--- A run may be of a search: it is at a suspect's position where it is to find the culprit, and at the suspect at the
--- bar or just below it where it is to verify that one
-pub record IsPlaced (s : SearchView) (stage : Stage) (r : Run) : Type 0 where
-  pub first : stage ≡ Search → 1 ≤ r.position
-  pub last : stage ≡ Search → r.position < hypotheses (setup_of s.opening)
-  pub side : (culprit : ℕ) → stage ≡ Verify → bar_of s ≡ Some culprit
-      → (r.position ≡ culprit) ⊎ (r.position + 1 ≡ culprit)
+-- the fate of the first report, as a skip, of one of its runs, that was handed out at a stage
+abbrev pub skip_fate_standing : Standing → Stage → SkipFate
+skip_fate_standing Searching stage = if same_stage stage Search then skip.Taken else skip.Late
+skip_fate_standing (Verifying culprit) stage = if same_stage stage Verify then skip.Taken else skip.Late
+skip_fate_standing _ stage = skip.Late
+
+abbrev pub skip_fate_in : SearchView → Stage → SkipFate
+skip_fate_in s stage = skip_fate_standing (standing_in s) stage
+
+-- a search one of whose positions was skipped
+abbrev pub skipped_at : SearchView → (position : ℕ) → SearchView
+skipped_at s position = record {
+  opening = s.opening;
+  runs = s.runs;
+  reruns = s.reruns;
+  skipped = s.skipped ++ position ∷ [];
+  is_over = s.is_over;
+  is_cancelled = s.is_cancelled;
+}
+
+-- a search after a skip of a run at a position, with a fate
+abbrev pub after_skip : SearchView → (position : ℕ) → SkipFate → SearchView
+after_skip s position skip.Taken = skipped_at s position
+after_skip s position skip.Late = s
+
+-- A run at a position may be of a search: it is at a suspect's position where it is to find the culprit, and at the
+-- suspect at the bar or just below it where it is to verify that one
+pub record IsPlacedAt (s : SearchView) (stage : Stage) (position : ℕ) : Type 0 where
+  pub first : stage ≡ Search → 1 ≤ position
+  pub last : stage ≡ Search → position < hypotheses (setup_of s.opening)
+  pub side : (culprit : ℕ) → stage ≡ Verify → bar_of s ≡ Some culprit → (position ≡ culprit) ⊎ (position + 1 ≡ culprit)
+
+abbrev pub IsPlaced : SearchView → Stage → Run → Type 0
+IsPlaced s stage r = IsPlacedAt s stage r.position
 
 -- a search that was cancelled
 abbrev pub cancelled : SearchView → SearchView
@@ -118,6 +152,7 @@ cancelled s = record {
   opening = s.opening;
   runs = s.runs;
   reruns = s.reruns;
+  skipped = s.skipped;
   is_over = s.is_over;
   is_cancelled = true;
 }
@@ -126,7 +161,7 @@ cancelled s = record {
 
 -- where it is to run next at its stage, while its runs at these positions are out
 abbrev pub position_searching : SearchView → List ℕ → Option ℕ
-position_searching s out = due_search (plan (setup_of s.opening) s.runs s.opening.width) out
+position_searching s out = due_search (open_plan (setup_of s.opening) s.runs s.skipped s.opening.width) out
 
 abbrev pub position_verifying : SearchView → (culprit : ℕ) → List ℕ → Option ℕ
 position_verifying s culprit out =
@@ -147,3 +182,7 @@ due_in s out = due_standing (standing_in s) s out
 abbrev pub shares_in : SearchView → List ℕ
 shares_in s =
     map (basis_points (setup_of s.opening) s.runs) (range_with_len 1 (hypotheses (setup_of s.opening)))
+
+-- the positions that were skipped, rising, each once. Position 0 is the base
+abbrev pub untestable_in : SearchView → List ℕ
+untestable_in s = filter (is_skipped s.skipped) (range_with_len 0 (hypotheses (setup_of s.opening)))

@@ -3,27 +3,26 @@
 ghost use Rattle.std.specs.Prelude.{ℕ, ◌≡◌, ◌⊎◌, ◌+◌, ◌<◌, ◌≤◌, [], true, false, length, IfOk};
 ghost use Rattle.std.specs.Option.{option_map};
 ghost use Rattle.flake_rate.specs.Miss.{FitsRate};
-ghost use Rattle.weight_exact.specs.Plan.{pick};
+ghost use Rattle.open_positions.specs.Open.{open_pick};
 ghost use Rattle.weight_exact.specs.Weights.{hypotheses};
-ghost use Rattle.weight_exact.specs.declared.limits.TheConstants.{MAX_WIDTH};
 ghost use Rattle.posterior.specs.StandsFor.{StandsFor};
-ghost use Rattle.threshold_pick.specs.CanPick.{CanPick};
-ghost use Rattle.threshold_pick.specs.Picks.{IsPick};
 ghost use Rattle.farm_entry.specs.Setup.{budget_of_search, setup_of};
 ghost use Rattle.farm_entry.specs.declared.limits.TheConstants.{MAX_ENTRIES};
 ghost use Rattle.farm_entry.specs.declared.standing.Standing.TheVariants.{Searching, Verifying};
 ghost use Rattle.farm_laws.specs.Openings.{OpenWithin};
-ghost use Rattle.search_state.specs.SearchView.{IsPlaced, adds_load, after_counted, after_report, cancelled, due_in, fate_in, gone_over, has_room, opened, passes_budget, position_searching, position_verifying, shares_in, standing_in};
+ghost use Rattle.search_state.specs.SearchView.{IsPlaced, IsPlacedAt, adds_load, after_counted, after_report, after_skip, cancelled, due_in, fate_in, gone_over, has_room, opened, passes_budget, position_searching, position_verifying, shares_in, skip_fate_in, skipped_at, standing_in, untestable_in};
 
-use crate::decided::{first_standing, first_verification, next_standing};
-use farm_entry::{DueRun, Fate, Opening, Shares, Standing};
+use crate::decided::{begun, next_standing, standing_with_skip};
+use farm_entry::{DueRun, Fate, Opening, Positions, Shares, SkipFate, Standing};
 use farm_types::{Memory, Stage};
+use flake_rate::Bar;
+use open_positions::Skips;
 use posterior::Belief;
 use run_plan::{due_verify, is_left};
 use std::alloc::Global;
 use std::marker::Model;
 use std::snapshot::Snapshot;
-use threshold_pick::pick_uncounted;
+use threshold_pick::open_pick_uncounted;
 use told_list::ToldList;
 use verify_flow::Verify;
 use weight_exact::{Factors, MAX_WIDTH, Run};
@@ -37,11 +36,13 @@ pub struct SearchState {
     width: u8,
     asked: u8,
     suspects: u16,
+    bar: Bar,
     may_miss: bool,
     standing: Standing,
     /// The first position of the plan, while the search is searching.
-    first: u16,
+    first: Option<u16>,
     verification: Verify,
+    skips: Skips,
     is_over: bool,
     is_cancelled: bool,
     runs: ToldList<Run>,
@@ -76,8 +77,15 @@ impl SearchState {
     {
         let belief = first_belief(alloc, opening)?;
         let suspects = opening.range.len() as u16;
-        let standing = first_standing(belief.reached(), suspects);
-        let first = first_pick(standing, &belief, opening.width);
+        let skips = Skips::new();
+        let begun = begun(
+            &belief,
+            &skips,
+            opening.bar,
+            suspects,
+            opening.width,
+            opening.reruns,
+        );
         Ok(SearchState {
             opening: Snapshot::of(opening),
             belief,
@@ -85,10 +93,12 @@ impl SearchState {
             width: opening.width,
             asked: opening.reruns,
             suspects,
+            bar: opening.bar,
             may_miss: 0 < Factors::of(opening.rate, opening.miss).pass_in,
-            standing,
-            first,
-            verification: first_verification(standing, opening.reruns),
+            standing: begun.standing,
+            first: begun.first,
+            verification: begun.verification,
+            skips,
             is_over: false,
             is_cancelled: false,
             runs: ToldList::new(),
@@ -141,6 +151,17 @@ impl SearchState {
         Ok(Shares::of(shares))
     }
 
+    /// The positions that were skipped, rising, each once. Position 0 is the base.
+    ///
+    /// # Errors
+    ///
+    /// [`Memory`].
+    pub fn untestable(&self, alloc: Global) -> Result<Positions, Memory>
+        ensures { IfOk result (λ positions. positions ≡ untestable_in self.now) }
+    {
+        Ok(Positions::of(self.skips.positions(alloc, self.suspects)?))
+    }
+
     // What is due.
 
     /// The run that is due, while the runs at these positions are out, of the stage at which the search stands. A
@@ -162,7 +183,7 @@ impl SearchState {
     }
 
     /// Where a search that is searching is to run next. Its plan is made pick by pick, up to the first that no
-    /// outstanding run stands for.
+    /// outstanding run stands for. Where no position is open it has none.
     fn position_searching(&self, outstanding: &[u16]) -> Option<u16>
         requires { standing_in self.now ≡ Searching }
         ensures { result ≡ position_searching self.now outstanding.now }
@@ -172,7 +193,9 @@ impl SearchState {
         }
         let mut plan = [0; MAX_WIDTH as usize];
         for index in 0..self.width {
-            let position = self.pick(index + 1);
+            let Some(position) = self.pick(index + 1) else {
+                return None;
+            };
             let place = usize::from(index);
             if is_left(position, &plan[..place], outstanding) {
                 return Some(position);
@@ -191,18 +214,25 @@ impl SearchState {
         due_verify(culprit, at_culprit, at_parent, outstanding, self.asked)
     }
 
-    /// The j-th position of the plan of a search that is searching. The first is kept since the last run that counted,
-    /// which had the sums in hand: mostly it is the one that is asked for.
-    fn pick(&self, j: u8) -> u16
+    /// The j-th position of the plan of a search that is searching, where one is open. The first is kept since the last
+    /// run that counted, or the last skip: mostly it is the one that is asked for.
+    fn pick(&self, j: u8) -> Option<u16>
         requires searching { standing_in self.now ≡ Searching }
         requires first { 1 ≤ j }
         requires last { j ≤ self.now.opening.width }
-        ensures { result ≡ pick (setup_of self.now.opening) self.now.runs self.now.opening.width j }
+        ensures { result
+            ≡ open_pick (setup_of self.now.opening) self.now.runs self.now.skipped self.now.opening.width j }
     {
         if j == 1 {
             return self.first;
         }
-        pick_uncounted(self.belief.sums(), self.belief.floor(), j, self.width)
+        open_pick_uncounted(
+            self.belief.sums(),
+            self.belief.floor(),
+            &self.skips,
+            j,
+            self.width,
+        )
     }
 
     // What a report does.
@@ -289,9 +319,17 @@ impl SearchState {
         let _noted = self.belief.note_uncounted(run.position, run.verdict);
         self.runs.tell(&run);
         self.counted += 1;
-        self.standing = first_standing(self.belief.reached(), self.suspects);
-        self.first = first_pick(self.standing, &self.belief, self.width);
-        self.verification = first_verification(self.standing, self.asked);
+        let begun = begun(
+            &self.belief,
+            &self.skips,
+            self.bar,
+            self.suspects,
+            self.width,
+            self.asked,
+        );
+        self.standing = begun.standing;
+        self.first = begun.first;
+        self.verification = begun.verification;
     }
 
     /// Counts a rerun of a search that verifies a suspect.
@@ -317,6 +355,72 @@ impl SearchState {
         self.standing = Standing::Inconclusive;
     }
 
+    // What a report does that says that a tree can't be tested.
+
+    /// The fate of the first report of one of the search's runs, that was handed out at a stage, where it says that the
+    /// run's tree can't be tested.
+    pub fn skip_fate(&self, stage: Stage) -> SkipFate
+        ensures { result ≡ skip_fate_in self.now stage }
+    {
+        match (self.standing, stage) {
+            (Standing::Searching, Stage::Search) | (Standing::Verifying(_), Stage::Verify) => {
+                SkipFate::Taken
+            }
+            _ => SkipFate::Late,
+        }
+    }
+
+    /// Takes in the first report, as a skip, of one of its runs at a position, that was handed out at a stage, by its
+    /// fate.
+    pub fn skip(&mut self, stage: Stage, position: u16, fate: SkipFate)
+        requires ruled { fate ≡ skip_fate_in self.old stage }
+        requires placed { IsPlacedAt self.old stage position }
+        ensures { self.new ≡ after_skip self.old position fate }
+    {
+        match fate {
+            SkipFate::Taken => match stage {
+                Stage::Search => self.skip_searching(position),
+                Stage::Verify => self.skip_verifying(position),
+            },
+            SkipFate::Late => {}
+        }
+    }
+
+    /// Closes a position of a search that is searching.
+    fn skip_searching(&mut self, position: u16)
+        requires searching { standing_in self.old ≡ Searching }
+        requires last { position < hypotheses (setup_of self.old.opening) }
+        ensures { self.new ≡ skipped_at self.old position }
+    {
+        self.skips.skip(position);
+        let begun = begun(
+            &self.belief,
+            &self.skips,
+            self.bar,
+            self.suspects,
+            self.width,
+            self.asked,
+        );
+        self.standing = begun.standing;
+        self.first = begun.first;
+        self.verification = begun.verification;
+    }
+
+    /// Closes a position of a search that verifies a suspect.
+    fn skip_verifying(&mut self, position: u16)
+        requires { (culprit : ℕ) × (standing_in self.old ≡ Verifying culprit)
+            × ((position ≡ culprit) ⊎ (position + 1 ≡ culprit)) }
+        ensures { self.new ≡ skipped_at self.old position }
+    {
+        self.skips.skip(position);
+        self.standing = standing_with_skip(
+            self.standing,
+            &self.verification,
+            self.asked,
+            &self.skips,
+        );
+    }
+
     // The end, and from the start again.
 
     /// Cancels the search.
@@ -328,20 +432,29 @@ impl SearchState {
     }
 
     /// Puts the search back to where it was opened. It takes no memory. Whoever takes the last report of a search
-    /// away, or its cancellation, does so, and then gives it the reports that are left.
+    /// away, with a verdict or as a skip, or its cancellation, does so, and then gives it the reports that are left.
     pub fn clear(&mut self)
         ensures { self.new ≡ opened self.old.opening }
     {
         self.belief.clear();
         self.runs = ToldList::new();
         self.reruns = ToldList::new();
+        self.skips.clear();
         self.counted = 0;
         self.verified = 0;
         self.is_over = false;
         self.is_cancelled = false;
-        self.standing = first_standing(self.belief.reached(), self.suspects);
-        self.first = first_pick(self.standing, &self.belief, self.width);
-        self.verification = first_verification(self.standing, self.asked);
+        let begun = begun(
+            &self.belief,
+            &self.skips,
+            self.bar,
+            self.suspects,
+            self.width,
+            self.asked,
+        );
+        self.standing = begun.standing;
+        self.first = begun.first;
+        self.verification = begun.verification;
     }
 }
 
@@ -355,19 +468,6 @@ fn due_at(search: u32, stage: Stage, position: Option<u16>) -> Option<DueRun>
         stage,
         position,
     })
-}
-
-/// The first position of the plan of a search that is searching. In any other standing nobody reads it.
-fn first_pick(standing: Standing, belief: &Belief, width: u8) -> u16
-    requires sums { standing ≡ Searching → CanPick belief.now.floor belief.now.sums }
-    requires some { 1 ≤ width }
-    requires narrow { width ≤ MAX_WIDTH }
-    ensures { standing ≡ Searching → IsPick belief.now.sums belief.now.floor 1 width result }
-{
-    match standing {
-        Standing::Searching => pick_uncounted(belief.sums(), belief.floor(), 1, width),
-        _ => 0,
-    }
 }
 
 /// What a search believes before any run.

@@ -4,22 +4,24 @@ use Rattle.std.specs.List.{cons_option, range_with_len}
 use Rattle.std.proofs.lemmas.List.{map-append}
 use Rattle.std.proofs.lemmas.Option.{none-some}
 use Rattle.farm_entry.specs.Decision.{run_with}
-use Rattle.farm_entry.specs.History.{cancelled_in, lease_of, opening_in, openings, report_in}
+use Rattle.farm_entry.specs.History.{cancelled_in, lease_of, opening_in, openings, report_in, skip_in, told_in}
 use Rattle.farm_entry.specs.Legal.{IsLegal}
 use Rattle.farm_entry.specs.declared.entry.Entry.{Entry}
 use Rattle.farm_entry.specs.declared.entry.What.{What}
-use Rattle.farm_entry.specs.declared.entry.What.TheVariants.{Founded, Opened, Leased, Reported, Cancelled, Ordered}
+use Rattle.farm_entry.specs.declared.entry.What.TheVariants.{Founded, Opened, Leased, Reported, Skipped, Cancelled, Ordered}
 use Rattle.farm_entry.specs.declared.lease.LeasedRun.{LeasedRun}
 use Rattle.farm_entry.specs.declared.lease.ReportedRun.{ReportedRun}
+use Rattle.farm_entry.specs.declared.lease.SkippedRun.{SkippedRun}
 use Rattle.farm_entry.specs.declared.opening.Opening.{Opening}
 use Rattle.farm_entry.proofs.Growing.{openings-grow}
+use Rattle.farm_laws.proofs.EntryParts.{report-told, skip-told}
 use Rattle.farm_laws.proofs.Numbered.{number-at, openings-numbered, tail_of}
 use Rattle.farm_laws.proofs.Stepped.{Stepped}
 use Rattle.search_laws.specs.Steps.{IsAbout}
 use Rattle.search_laws.proofs.Counting.{about-one}
-use Rattle.search_state.specs.SearchView.{SearchView, after_report, cancelled, opened}
+use Rattle.search_state.specs.SearchView.{SearchView, after_report, after_skip, cancelled, opened}
 use Rattle.state_laws.specs.Seen.{all_seen, seen}
-use Rattle.state_laws.proofs.Changes.{cancelled-seen, opened-not_cancelled, opened-not_report, opened-seen, other-seen, reported-seen}
+use Rattle.state_laws.proofs.Changes.{cancelled-seen, opened-not_cancelled, opened-not_told, opened-seen, other-seen, reported-seen, skipped-seen}
 
 -- Lists by number.
 
@@ -58,19 +60,17 @@ map-set f g a (suc k) (x ∷ os) o below is all same =
 
 -- What an entry is about.
 
-abbrev run_of_report : Option ReportedRun → ℕ
-run_of_report None = 0
-run_of_report (Some r) = r.run
-
-about-report : (H : List Entry) (w : What) (r : ReportedRun) (l : LeasedRun) (s : ℕ) → report_in w ≡ Some r →
-    lease_of H r.run ≡ Some l → l.search ≡ s → IsAbout H w s
-about-report H (Reported run v f) r l s is known same =
-    let run_is : r.run ≡ run = ap run_of_report (sym is) in (l, ap (lease_of H) (sym run_is) ∙ known, same)
-about-report H (Founded x) r l s is known same = absurd (none-some r is)
-about-report H (Opened o) r l s is known same = absurd (none-some r is)
-about-report H (Leased k w n q t p d) r l s is known same = absurd (none-some r is)
-about-report H (Cancelled k q) r l s is known same = absurd (none-some r is)
-about-report H (Ordered k a n c q d) r l s is known same = absurd (none-some r is)
+about-told : (H : List Entry) (w : What) (run : ℕ) (l : LeasedRun) (s : ℕ) → told_in w ≡ Some run →
+    lease_of H run ≡ Some l → l.search ≡ s → IsAbout H w s
+about-told H (Reported x v f) run l s is known same =
+    let it : x ≡ run = cc in (l, ap (lease_of H) it ∙ known, same)
+about-told H (Skipped x f) run l s is known same =
+    let it : x ≡ run = cc in (l, ap (lease_of H) it ∙ known, same)
+about-told H (Founded x) run l s is known same = absurd (none-some run is)
+about-told H (Opened o) run l s is known same = absurd (none-some run is)
+about-told H (Leased k w n q t p d) run l s is known same = absurd (none-some run is)
+about-told H (Cancelled k q) run l s is known same = absurd (none-some run is)
+about-told H (Ordered k a n c q d) run l s is known same = absurd (none-some run is)
 
 about-cancel : (H : List Entry) (w : What) (q s : ℕ) → cancelled_in w ≡ Some q → q ≡ s → IsAbout H w s
 about-cancel H (Cancelled k x) q s is same = let it : x ≡ q = cc in it ∙ same
@@ -78,16 +78,18 @@ about-cancel H (Founded x) q s is same = absurd (none-some q is)
 about-cancel H (Opened o) q s is same = absurd (none-some q is)
 about-cancel H (Leased k w n x t p d) q s is same = absurd (none-some q is)
 about-cancel H (Reported run v _) q s is same = absurd (none-some q is)
+about-cancel H (Skipped run _) q s is same = absurd (none-some q is)
 about-cancel H (Ordered k a n c x d) q s is same = absurd (none-some q is)
 
--- an entry that neither reports a run nor cancels a search
-about-none : (H : List Entry) (w : What) (s : ℕ) → report_in w ≡ None → cancelled_in w ≡ None → IsAbout H w s → ⊥
-about-none H (Reported run v f) s no_report no_end about = none-some _ (sym no_report)
-about-none H (Cancelled k x) s no_report no_end about = none-some x (sym no_end)
-about-none H (Founded x) s no_report no_end about = about
-about-none H (Opened o) s no_report no_end about = about
-about-none H (Leased k w n x t p d) s no_report no_end about = about
-about-none H (Ordered k a n c x d) s no_report no_end about = about
+-- an entry that neither reports a run, with a verdict or not, nor cancels a search
+about-none : (H : List Entry) (w : What) (s : ℕ) → told_in w ≡ None → cancelled_in w ≡ None → IsAbout H w s → ⊥
+about-none H (Reported run v f) s none_told no_end about = none-some run (sym none_told)
+about-none H (Skipped run f) s none_told no_end about = none-some run (sym none_told)
+about-none H (Cancelled k x) s none_told no_end about = none-some x (sym no_end)
+about-none H (Founded x) s none_told no_end about = about
+about-none H (Opened o) s none_told no_end about = about
+about-none H (Leased k w n x t p d) s none_told no_end about = about
+about-none H (Ordered k a n c x d) s none_told no_end about = about
 
 -- What appending an entry makes of all searches.
 
@@ -115,8 +117,18 @@ pub reported-all : (H : List Entry) (e : Entry) (o : Opening) (r : ReportedRun) 
     all_seen (H ++ e ∷ [])
     ≡ set (all_seen H) (o.search - 1) (after_report (seen H o) l.stage (run_with l r.verdict) r.fate)
 reported-all H e o r l legal step there no_opening is known same =
-    set-seen H e o legal step there no_opening (about-report H e.what r l o.search is known same)
+    set-seen H e o legal step there no_opening
+    (about-told H e.what r.run l o.search (report-told e.what r is) known same)
     ∙ ap (λ (s : SearchView). set (all_seen H) (o.search - 1) s) (reported-seen H e o r l legal is known same)
+
+pub skipped-all : (H : List Entry) (e : Entry) (o : Opening) (r : SkippedRun) (l : LeasedRun) → IsLegal H →
+    Stepped H e.at e.what → Contains (openings H) o → opening_in e.what ≡ None → skip_in e.what ≡ Some r →
+    lease_of H r.run ≡ Some l → l.search ≡ o.search →
+    all_seen (H ++ e ∷ []) ≡ set (all_seen H) (o.search - 1) (after_skip (seen H o) l.position r.fate)
+skipped-all H e o r l legal step there no_opening is known same =
+    set-seen H e o legal step there no_opening
+    (about-told H e.what r.run l o.search (skip-told e.what r is) known same)
+    ∙ ap (λ (s : SearchView). set (all_seen H) (o.search - 1) s) (skipped-seen H e o r l legal is known same)
 
 pub cancelled-all : (H : List Entry) (e : Entry) (o : Opening) → IsLegal H → Stepped H e.at e.what →
     Contains (openings H) o → opening_in e.what ≡ None → cancelled_in e.what ≡ Some o.search →
@@ -130,16 +142,16 @@ map-same : (f g : Opening → SearchView) (os : List Opening) → ((x : Opening)
 map-same f g [] same = refl
 map-same f g (x ∷ os) same = let rest = map-same f g os same in λ i. same x i ∷ rest i
 
-quiet-map : (H : List Entry) (e : Entry) → IsLegal H → Stepped H e.at e.what → report_in e.what ≡ None →
+quiet-map : (H : List Entry) (e : Entry) → IsLegal H → Stepped H e.at e.what → told_in e.what ≡ None →
     cancelled_in e.what ≡ None → map (seen (H ++ e ∷ [])) (openings H) ≡ all_seen H
-quiet-map H e legal step no_report no_end =
+quiet-map H e legal step none_told no_end =
     map-same (seen H) (seen (H ++ e ∷ [])) (openings H)
-    (λ x. other-seen H e x legal step (about-none H e.what x.search no_report no_end))
+    (λ x. other-seen H e x legal step (about-none H e.what x.search none_told no_end))
 
 pub quiet-all : (H : List Entry) (e : Entry) → IsLegal H → Stepped H e.at e.what → opening_in e.what ≡ None →
-    report_in e.what ≡ None → cancelled_in e.what ≡ None → all_seen (H ++ e ∷ []) ≡ all_seen H
-quiet-all H e legal step no_opening no_report no_end =
-    ap (map (seen (H ++ e ∷ []))) (same-openings H e no_opening) ∙ quiet-map H e legal step no_report no_end
+    told_in e.what ≡ None → cancelled_in e.what ≡ None → all_seen (H ++ e ∷ []) ≡ all_seen H
+quiet-all H e legal step no_opening none_told no_end =
+    ap (map (seen (H ++ e ∷ []))) (same-openings H e no_opening) ∙ quiet-map H e legal step none_told no_end
 
 -- and one that opens a search adds what is held of it
 pub opened-all : (H : List Entry) (e : Entry) (o : Opening) → IsLegal H → Stepped H e.at e.what →
@@ -149,5 +161,5 @@ opened-all H e o legal step is =
     ap (map (seen longer)) (openings-grow H e ∙ ap (λ (x : Option Opening). openings H ++ cons_option x []) is)
     ∙ map-append (seen longer) (openings H) (o ∷ [])
     ∙ ap (λ (ss : List SearchView). ss ++ seen longer o ∷ [])
-    (quiet-map H e legal step (opened-not_report e.what o is) (opened-not_cancelled e.what o is))
+    (quiet-map H e legal step (opened-not_told e.what o is) (opened-not_cancelled e.what o is))
     ∙ ap (λ (s : SearchView). all_seen H ++ s ∷ []) (opened-seen H e o legal step is)

@@ -6,31 +6,32 @@ use Rattle.farm_types.specs.declared.stage.Stage.{Stage}
 use Rattle.farm_types.specs.declared.stage.Stage.TheVariants.{Search, Verify}
 use Rattle.weight_exact.specs.declared.run.Run.{Run}
 use Rattle.weight_exact.specs.declared.run.Verdict.{Verdict}
-use Rattle.farm_entry.specs.Decision.{fate_of, run_with}
-use Rattle.farm_entry.specs.History.{counted_run, is_counted, lease_of, opening_numbered, openings, report_in, reports, reruns, run_of, runs, same_stage}
+use Rattle.farm_entry.specs.Decision.{fate_of, run_with, skip_fate_of}
+use Rattle.farm_entry.specs.History.{counted_run, is_counted, lease_of, opening_numbered, openings, report_in, reports, reruns, run_of, runs, same_stage, skip_in}
 use Rattle.farm_entry.specs.Legal.{IsLegal}
 use Rattle.farm_entry.specs.Standing.{at_bar, standing}
 use Rattle.farm_entry.specs.declared.entry.Entry.{Entry}
 use Rattle.farm_entry.specs.declared.lease.LeasedRun.{LeasedRun}
 use Rattle.farm_entry.specs.declared.lease.ReportedRun.{ReportedRun}
+use Rattle.farm_entry.specs.declared.lease.SkippedRun.{SkippedRun}
 use Rattle.farm_entry.specs.declared.limits.TheConstants.{MAX_ENTRIES}
 use Rattle.farm_entry.specs.declared.opening.Opening.{Opening}
 use Rattle.farm_laws.proofs.Bounds.{entries-bounded}
-use Rattle.farm_laws.proofs.EntryParts.{reported-facts}
+use Rattle.farm_laws.proofs.EntryParts.{reported-facts, skipped-facts}
 use Rattle.farm_laws.proofs.InRange.{lease-fits}
 use Rattle.farm_laws.proofs.Numbered.{lease-there}
-use Rattle.farm_laws.proofs.RunSteps.{fate-here}
+use Rattle.farm_laws.proofs.RunSteps.{fate-here, skip_fate-here}
 use Rattle.farm_laws.proofs.Stepped.{Stepped}
 use Rattle.search_laws.proofs.Counting.{some-equal}
-use Rattle.search_state.specs.SearchView.{IsPlaced, fate_in}
+use Rattle.search_state.specs.SearchView.{IsPlaced, IsPlacedAt, fate_in, skip_fate_in}
 use Rattle.state_laws.specs.Seen.{seen}
-use Rattle.state_laws.proofs.Reading.{fate-seen}
+use Rattle.state_laws.proofs.Reading.{fate-seen, skip_fate-seen}
 
 -- The place of a run.
 
-pub run-placed : (H : List Entry) (o : Opening) (l : LeasedRun) (v : Verdict) → IsLegal H → Contains (openings H) o →
-    lease_of H l.run ≡ Some l → l.search ≡ o.search → IsPlaced (seen H o) l.stage (run_with l v)
-run-placed H o l v legal there known same =
+pub skip-placed : (H : List Entry) (o : Opening) (l : LeasedRun) → IsLegal H → Contains (openings H) o →
+    lease_of H l.run ≡ Some l → l.search ≡ o.search → IsPlacedAt (seen H o) l.stage l.position
+skip-placed H o l legal there known same =
     let fits = lease-fits H o l legal there (lease-there H l.run l known).0 same in
     record {
       first = λ at. (fits.searching at).0;
@@ -40,6 +41,10 @@ run-placed H o l v legal there known same =
           let here : verifies.0 ≡ c = some-equal verifies.0 c (at_bar H o) verifies.1 bar in
           subst (λ (k : ℕ). (l.position ≡ k) ⊎ (l.position + 1 ≡ k)) here verifies.4;
     }
+
+pub run-placed : (H : List Entry) (o : Opening) (l : LeasedRun) (v : Verdict) → IsLegal H → Contains (openings H) o →
+    lease_of H l.run ≡ Some l → l.search ≡ o.search → IsPlaced (seen H o) l.stage (run_with l v)
+run-placed H o l v legal there known same = skip-placed H o l legal there known same
 
 -- How many runs and reruns there can be.
 
@@ -113,3 +118,15 @@ report-ruled H e o r l legal step there is known same =
     ∙ ap (λ (x : LeasedRun). fate_of H x r.verdict (opening_numbered H x.search)) it
     ∙ fate-here H o l r.verdict legal there same
     ∙ sym (fate-seen (standing H o) H o l r.verdict)
+
+pub skip-ruled : (H : List Entry) (e : Entry) (o : Opening) (r : SkippedRun) (l : LeasedRun) → IsLegal H →
+    Stepped H e.at e.what → Contains (openings H) o → skip_in e.what ≡ Some r → lease_of H r.run ≡ Some l →
+    l.search ≡ o.search → r.fate ≡ skip_fate_in (seen H o) l.stage
+skip-ruled H e o r l legal step there is known same =
+    let facts = skipped-facts H e.at e.what r is step in
+    let both : Some facts.lease ≡ Some l = sym facts.known ∙ known in
+    let it : facts.lease ≡ l = cc in
+    facts.ruled
+    ∙ ap (λ (x : LeasedRun). skip_fate_of H x (opening_numbered H x.search)) it
+    ∙ skip_fate-here H o l legal there same
+    ∙ sym (skip_fate-seen (standing H o) l)

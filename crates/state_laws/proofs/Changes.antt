@@ -1,5 +1,5 @@
 -- How appending an entry changes what a history holds of a search.
-use Rattle.std.proofs.Common.{◌≡◌, ℕ, ◌+◌, ◌≤◌, ◌==◌, Bool, true, false, ◌&&◌, ◌||◌, List, [], ◌∷◌, ◌++◌, length, get_or, All, Option, Some, None, refl, sym, ap, ◌∙◌, append-nil, arith}
+use Rattle.std.proofs.Common.{◌≡◌, ℕ, ◌+◌, ◌≤◌, ◌==◌, Bool, true, false, ◌&&◌, ◌||◌, List, [], ◌∷◌, ◌++◌, length, get_or, All, Option, Some, None, refl, sym, ap, ◌∙◌, append-nil, arith, true≢false}
 use Rattle.std.specs.List.{cons_option, filter_map, list_any}
 use Rattle.std.proofs.lemmas.Bool.Decides.{nat_tests}
 use Rattle.std.proofs.lemmas.List.Elements.{All-contains, All-head, All-tail}
@@ -8,28 +8,31 @@ use Rattle.farm_types.specs.declared.stage.Stage.{Stage}
 use Rattle.farm_types.specs.declared.stage.Stage.TheVariants.{Search, Verify}
 use Rattle.weight_exact.specs.declared.run.Run.{Run}
 use Rattle.farm_entry.specs.Decision.{run_with}
-use Rattle.farm_entry.specs.History.{all_leases, cancellations, cancelled_in, counted, counted_run, is_counted, is_of_search, is_over, lease_of, opening_in, openings, report_in, reports, same_stage, was_cancelled, went_over}
+use Rattle.farm_entry.specs.History.{all_leases, cancellations, cancelled_in, counted, counted_run, is_counted, is_of_search, is_over, is_taken, lease_of, opening_in, openings, report_in, reports, same_stage, skip_in, skipped, skipped_position, skips, told_in, was_cancelled, went_over}
 use Rattle.farm_entry.specs.Legal.{IsFounding, IsLegal, ask_of}
 use Rattle.farm_entry.specs.declared.entry.Entry.{Entry}
 use Rattle.farm_entry.specs.declared.entry.Fate.{Fate}
 use Rattle.farm_entry.specs.declared.entry.Fate.TheVariants.{Counted, Late, Over}
+use Rattle.farm_entry.specs.declared.entry.SkipFate.{SkipFate}
+use Rattle.farm_entry.specs.declared.entry.SkipFate.TheVariants as skip
 use Rattle.farm_entry.specs.declared.entry.What.{What}
-use Rattle.farm_entry.specs.declared.entry.What.TheVariants.{Founded, Opened, Leased, Reported, Cancelled, Ordered}
+use Rattle.farm_entry.specs.declared.entry.What.TheVariants.{Founded, Opened, Leased, Reported, Skipped, Cancelled, Ordered}
 use Rattle.farm_entry.specs.declared.lease.LeasedRun.{LeasedRun}
 use Rattle.farm_entry.specs.declared.lease.ReportedRun.{ReportedRun}
+use Rattle.farm_entry.specs.declared.lease.SkippedRun.{SkippedRun}
 use Rattle.farm_entry.specs.declared.opening.Opening.{Opening}
 use Rattle.farm_laws.specs.Openings.{HasOpening}
-use Rattle.farm_laws.proofs.EntryParts.{cancelled-facts, each_part, opened-facts}
-use Rattle.farm_laws.proofs.Filters.{HasLease, counted-grow, lease_of-stays, opening_numbered-stays, was_cancelled-grow, went_over-grow}
-use Rattle.farm_laws.proofs.Known.{leases-known, reports-known}
+use Rattle.farm_laws.proofs.EntryParts.{cancelled-facts, each_part, opened-facts, report-no_skip, skip-no_report, told-none}
+use Rattle.farm_laws.proofs.Filters.{HasLease, counted-grow, lease_of-stays, opening_numbered-stays, skipped-grow, was_cancelled-grow, went_over-grow}
+use Rattle.farm_laws.proofs.Known.{leases-known, reports-known, skips-known}
 use Rattle.farm_laws.proofs.Made.{is_made}
 use Rattle.farm_laws.proofs.Numbered.{lease-there, number-at, opening-there, openings-numbered}
 use Rattle.farm_laws.proofs.Opened.{fresh-counted}
-use Rattle.farm_laws.proofs.RunSteps.{chosen_run, counted_run-is}
+use Rattle.farm_laws.proofs.RunSteps.{chosen_position, chosen_run, counted_run-is, skipped_position-is}
 use Rattle.farm_laws.proofs.Stepped.{Stepped}
 use Rattle.search_laws.specs.Steps.{IsAbout}
-use Rattle.search_laws.proofs.OneMore.{cancelled-same, counted-same, not_about-cancel, not_about-report, over-same, runs-same}
-use Rattle.search_state.specs.SearchView.{SearchView, after_report, cancelled, opened}
+use Rattle.search_laws.proofs.OneMore.{cancelled-same, not_about-cancel, not_about-report, over-same, runs-same, skips-same}
+use Rattle.search_state.specs.SearchView.{SearchView, after_report, after_skip, cancelled, opened}
 use Rattle.state_laws.specs.Seen.{seen}
 
 or-none : (a b : Bool) → b ≡ false → (a || b) ≡ a
@@ -46,52 +49,76 @@ same-number a b e = grind (arith, nat_tests)
 -- What an entry holds beside.
 
 pub report-not_cancelled : (w : What) (r : ReportedRun) → report_in w ≡ Some r → cancelled_in w ≡ None
-report-not_cancelled (Reported run v _) r h = refl
+report-not_cancelled (Reported n v _) r h = refl
 report-not_cancelled (Founded x) r h = absurd (none-some r h)
 report-not_cancelled (Opened o) r h = absurd (none-some r h)
 report-not_cancelled (Leased k w n q t p d) r h = absurd (none-some r h)
+report-not_cancelled (Skipped n _) r h = absurd (none-some r h)
 report-not_cancelled (Cancelled k q) r h = absurd (none-some r h)
 report-not_cancelled (Ordered k a n c q d) r h = absurd (none-some r h)
 
-pub cancelled-not_report : (w : What) (q : ℕ) → cancelled_in w ≡ Some q → report_in w ≡ None
-cancelled-not_report (Cancelled k x) q h = refl
-cancelled-not_report (Founded x) q h = absurd (none-some q h)
-cancelled-not_report (Opened o) q h = absurd (none-some q h)
-cancelled-not_report (Leased k w n s t p d) q h = absurd (none-some q h)
-cancelled-not_report (Reported run v _) q h = absurd (none-some q h)
-cancelled-not_report (Ordered k a n c s d) q h = absurd (none-some q h)
+pub skip-not_cancelled : (w : What) (r : SkippedRun) → skip_in w ≡ Some r → cancelled_in w ≡ None
+skip-not_cancelled (Skipped n _) r h = refl
+skip-not_cancelled (Founded x) r h = absurd (none-some r h)
+skip-not_cancelled (Opened o) r h = absurd (none-some r h)
+skip-not_cancelled (Leased k w n q t p d) r h = absurd (none-some r h)
+skip-not_cancelled (Reported n v _) r h = absurd (none-some r h)
+skip-not_cancelled (Cancelled k q) r h = absurd (none-some r h)
+skip-not_cancelled (Ordered k a n c q d) r h = absurd (none-some r h)
+
+pub cancelled-not_told : (w : What) (q : ℕ) → cancelled_in w ≡ Some q → told_in w ≡ None
+cancelled-not_told (Cancelled k x) q h = refl
+cancelled-not_told (Founded x) q h = absurd (none-some q h)
+cancelled-not_told (Opened o) q h = absurd (none-some q h)
+cancelled-not_told (Leased k w n x t p d) q h = absurd (none-some q h)
+cancelled-not_told (Reported n v _) q h = absurd (none-some q h)
+cancelled-not_told (Skipped n _) q h = absurd (none-some q h)
+cancelled-not_told (Ordered k a n c x d) q h = absurd (none-some q h)
 
 pub report-not_opened : (w : What) (r : ReportedRun) → report_in w ≡ Some r → opening_in w ≡ None
-report-not_opened (Reported run v _) r h = refl
+report-not_opened (Reported n v _) r h = refl
 report-not_opened (Founded x) r h = absurd (none-some r h)
 report-not_opened (Opened o) r h = absurd (none-some r h)
 report-not_opened (Leased k w n q t p d) r h = absurd (none-some r h)
+report-not_opened (Skipped n _) r h = absurd (none-some r h)
 report-not_opened (Cancelled k q) r h = absurd (none-some r h)
 report-not_opened (Ordered k a n c q d) r h = absurd (none-some r h)
+
+pub skip-not_opened : (w : What) (r : SkippedRun) → skip_in w ≡ Some r → opening_in w ≡ None
+skip-not_opened (Skipped n _) r h = refl
+skip-not_opened (Founded x) r h = absurd (none-some r h)
+skip-not_opened (Opened o) r h = absurd (none-some r h)
+skip-not_opened (Leased k w n q t p d) r h = absurd (none-some r h)
+skip-not_opened (Reported n v _) r h = absurd (none-some r h)
+skip-not_opened (Cancelled k q) r h = absurd (none-some r h)
+skip-not_opened (Ordered k a n c q d) r h = absurd (none-some r h)
 
 pub cancelled-not_opened : (w : What) (q : ℕ) → cancelled_in w ≡ Some q → opening_in w ≡ None
 cancelled-not_opened (Cancelled k x) q h = refl
 cancelled-not_opened (Founded x) q h = absurd (none-some q h)
 cancelled-not_opened (Opened o) q h = absurd (none-some q h)
-cancelled-not_opened (Leased k w n s t p d) q h = absurd (none-some q h)
-cancelled-not_opened (Reported run v _) q h = absurd (none-some q h)
-cancelled-not_opened (Ordered k a n c s d) q h = absurd (none-some q h)
+cancelled-not_opened (Leased k w n x t p d) q h = absurd (none-some q h)
+cancelled-not_opened (Reported n v _) q h = absurd (none-some q h)
+cancelled-not_opened (Skipped n _) q h = absurd (none-some q h)
+cancelled-not_opened (Ordered k a n c x d) q h = absurd (none-some q h)
 
-pub opened-not_report : (w : What) (o : Opening) → opening_in w ≡ Some o → report_in w ≡ None
-opened-not_report (Opened x) o h = refl
-opened-not_report (Founded x) o h = absurd (none-some o h)
-opened-not_report (Leased k w n s t p d) o h = absurd (none-some o h)
-opened-not_report (Reported run v _) o h = absurd (none-some o h)
-opened-not_report (Cancelled k q) o h = absurd (none-some o h)
-opened-not_report (Ordered k a n c s d) o h = absurd (none-some o h)
+pub opened-not_told : (w : What) (o : Opening) → opening_in w ≡ Some o → told_in w ≡ None
+opened-not_told (Opened x) o h = refl
+opened-not_told (Founded x) o h = absurd (none-some o h)
+opened-not_told (Leased k w n q t p d) o h = absurd (none-some o h)
+opened-not_told (Reported n v _) o h = absurd (none-some o h)
+opened-not_told (Skipped n _) o h = absurd (none-some o h)
+opened-not_told (Cancelled k q) o h = absurd (none-some o h)
+opened-not_told (Ordered k a n c q d) o h = absurd (none-some o h)
 
 pub opened-not_cancelled : (w : What) (o : Opening) → opening_in w ≡ Some o → cancelled_in w ≡ None
 opened-not_cancelled (Opened x) o h = refl
 opened-not_cancelled (Founded x) o h = absurd (none-some o h)
-opened-not_cancelled (Leased k w n s t p d) o h = absurd (none-some o h)
-opened-not_cancelled (Reported run v _) o h = absurd (none-some o h)
+opened-not_cancelled (Leased k w n q t p d) o h = absurd (none-some o h)
+opened-not_cancelled (Reported n v _) o h = absurd (none-some o h)
+opened-not_cancelled (Skipped n _) o h = absurd (none-some o h)
 opened-not_cancelled (Cancelled k q) o h = absurd (none-some o h)
-opened-not_cancelled (Ordered k a n c s d) o h = absurd (none-some o h)
+opened-not_cancelled (Ordered k a n c q d) o h = absurd (none-some o h)
 
 -- An entry that isn't about the search.
 
@@ -100,9 +127,17 @@ pub other-seen : (H : List Entry) (e : Entry) (o : Opening) → IsLegal H → St
 other-seen H e o legal step other =
     let run = runs-same H e o.search Search legal step other in
     let again = runs-same H e o.search Verify legal step other in
+    let skips_are = skips-same H e o.search legal step other in
     let over = over-same H e o.search legal step (not_about-report H e.what o.search other) in
     let ended = cancelled-same H e o.search (not_about-cancel H e.what o.search other) in
-    λ i. record { opening = o; runs = run i; reruns = again i; is_over = over i; is_cancelled = ended i }
+    λ i. record {
+      opening = o;
+      runs = run i;
+      reruns = again i;
+      skipped = skips_are i;
+      is_over = over i;
+      is_cancelled = ended i;
+    }
 
 -- A report of one of its runs.
 
@@ -112,6 +147,7 @@ by_fate : (s : SearchView) (stage : Stage) (r : Run) (f : Fate) →
       opening = s.opening;
       runs = s.runs ++ cons_option (chosen_run (is_counted f) (same_stage stage Search) r) [];
       reruns = s.reruns ++ cons_option (chosen_run (is_counted f) (same_stage stage Verify) r) [];
+      skipped = s.skipped;
       is_over = s.is_over || is_over f;
       is_cancelled = s.is_cancelled;
     } ≡ after_report s stage r f
@@ -119,6 +155,7 @@ by_fate s Search r Counted = λ i. record {
   opening = s.opening;
   runs = s.runs ++ r ∷ [];
   reruns = append-nil s.reruns i;
+  skipped = s.skipped;
   is_over = or-none s.is_over false refl i;
   is_cancelled = s.is_cancelled;
 }
@@ -126,6 +163,7 @@ by_fate s Verify r Counted = λ i. record {
   opening = s.opening;
   runs = append-nil s.runs i;
   reruns = s.reruns ++ r ∷ [];
+  skipped = s.skipped;
   is_over = or-none s.is_over false refl i;
   is_cancelled = s.is_cancelled;
 }
@@ -133,6 +171,7 @@ by_fate s stage r Over = λ i. record {
   opening = s.opening;
   runs = append-nil s.runs i;
   reruns = append-nil s.reruns i;
+  skipped = s.skipped;
   is_over = or-some s.is_over true refl i;
   is_cancelled = s.is_cancelled;
 }
@@ -140,6 +179,7 @@ by_fate s stage r Late = λ i. record {
   opening = s.opening;
   runs = append-nil s.runs i;
   reruns = append-nil s.reruns i;
+  skipped = s.skipped;
   is_over = or-none s.is_over false refl i;
   is_cancelled = s.is_cancelled;
 }
@@ -178,6 +218,15 @@ over-reported H e o r l legal is known same =
     ∙ ap (λ (b : Bool). went_over H o.search || b)
     (over-of (is_over r.fate) (is_of_search o.search (lease_of longer r.run)) here)
 
+-- and the skipped positions stay
+unskipped : (H : List Entry) (e : Entry) (s : ℕ) → IsLegal H → skip_in e.what ≡ None →
+    skipped (H ++ e ∷ []) s ≡ skipped H s
+unskipped H e s legal none =
+    skipped-grow H e s (skips-known H legal)
+    ∙ ap (λ (x : Option SkippedRun).
+    skipped H s ++ filter_map (skipped_position (H ++ e ∷ []) s) (cons_option x [])) none
+    ∙ append-nil (skipped H s)
+
 pub reported-seen : (H : List Entry) (e : Entry) (o : Opening) (r : ReportedRun) (l : LeasedRun) → IsLegal H →
     report_in e.what ≡ Some r → lease_of H r.run ≡ Some l → l.search ≡ o.search →
     seen (H ++ e ∷ []) o ≡ after_report (seen H o) l.stage (run_with l r.verdict) r.fate
@@ -187,23 +236,114 @@ reported-seen H e o r l legal is known same =
     let over = over-reported H e o r l legal is known same in
     let ended : was_cancelled (H ++ e ∷ []) o.search ≡ was_cancelled H o.search =
     cancelled-same H e o.search (λ x h. absurd (none-some x (sym (report-not_cancelled e.what r is) ∙ h))) in
-    (λ i. record { opening = o; runs = run i; reruns = again i; is_over = over i; is_cancelled = ended i })
+    let skips_are = unskipped H e o.search legal (report-no_skip e.what r is) in
+    (λ i. record {
+      opening = o;
+      runs = run i;
+      reruns = again i;
+      skipped = skips_are i;
+      is_over = over i;
+      is_cancelled = ended i;
+    })
     ∙ by_fate (seen H o) l.stage (run_with l r.verdict) r.fate
+
+-- A skip of one of its runs.
+
+-- what a skip adds, by its fate
+by_skip_fate : (s : SearchView) (position : ℕ) (f : SkipFate) →
+    record {
+      opening = s.opening;
+      runs = s.runs;
+      reruns = s.reruns;
+      skipped = s.skipped ++ cons_option (chosen_position (is_taken f) true position) [];
+      is_over = s.is_over;
+      is_cancelled = s.is_cancelled;
+    } ≡ after_skip s position f
+by_skip_fate s position skip.Taken = refl
+by_skip_fate s position skip.Late = λ i. record {
+  opening = s.opening;
+  runs = s.runs;
+  reruns = s.reruns;
+  skipped = append-nil s.skipped i;
+  is_over = s.is_over;
+  is_cancelled = s.is_cancelled;
+}
+
+-- the runs that count at a stage stay
+unreported : (H : List Entry) (e : Entry) (s : ℕ) (stage : Stage) → IsLegal H → report_in e.what ≡ None →
+    counted (H ++ e ∷ []) s stage ≡ counted H s stage
+unreported H e s stage legal none =
+    counted-grow H e s stage (reports-known H legal)
+    ∙ ap (λ (x : Option ReportedRun).
+    counted H s stage ++ filter_map (counted_run (H ++ e ∷ []) s stage) (cons_option x [])) none
+    ∙ append-nil (counted H s stage)
+
+-- and so does whether it went over
+over-unreported : (H : List Entry) (e : Entry) (s : ℕ) → IsLegal H → report_in e.what ≡ None →
+    went_over (H ++ e ∷ []) s ≡ went_over H s
+over-unreported H e s legal none =
+    let test : ReportedRun → Bool = λ x. is_over x.fate && is_of_search s (lease_of (H ++ e ∷ []) x.run) in
+    went_over-grow H e s (reports-known H legal)
+    ∙ ap (λ (x : Option ReportedRun). went_over H s || list_any test (cons_option x [])) none
+    ∙ or-none (went_over H s) false refl
+
+-- its position is added where it is taken
+skipped-told : (H : List Entry) (e : Entry) (o : Opening) (r : SkippedRun) (l : LeasedRun) → IsLegal H →
+    skip_in e.what ≡ Some r → lease_of H r.run ≡ Some l → l.search ≡ o.search →
+    skipped (H ++ e ∷ []) o.search
+    ≡ skipped H o.search ++ cons_option (chosen_position (is_taken r.fate) true l.position) []
+skipped-told H e o r l legal is known same =
+    let longer = H ++ e ∷ [] in
+    let before : List ℕ = skipped H o.search in
+    skipped-grow H e o.search (skips-known H legal)
+    ∙ ap (λ (x : Option SkippedRun). before ++ filter_map (skipped_position longer o.search) (cons_option x [])) is
+    ∙ ap (λ (x : Option ℕ). before ++ cons_option x [])
+    (skipped_position-is longer o.search r l (lease_of-stays H e r.run l known)
+    ∙ ap (λ (here : Bool). chosen_position (is_taken r.fate) here l.position) (same-number l.search o.search same))
+
+pub skipped-seen : (H : List Entry) (e : Entry) (o : Opening) (r : SkippedRun) (l : LeasedRun) → IsLegal H →
+    skip_in e.what ≡ Some r → lease_of H r.run ≡ Some l → l.search ≡ o.search →
+    seen (H ++ e ∷ []) o ≡ after_skip (seen H o) l.position r.fate
+skipped-seen H e o r l legal is known same =
+    let none = skip-no_report e.what r is in
+    let run = unreported H e o.search Search legal none in
+    let again = unreported H e o.search Verify legal none in
+    let skips_are = skipped-told H e o r l legal is known same in
+    let over = over-unreported H e o.search legal none in
+    let ended : was_cancelled (H ++ e ∷ []) o.search ≡ was_cancelled H o.search =
+    cancelled-same H e o.search (λ x h. absurd (none-some x (sym (skip-not_cancelled e.what r is) ∙ h))) in
+    (λ i. record {
+      opening = o;
+      runs = run i;
+      reruns = again i;
+      skipped = skips_are i;
+      is_over = over i;
+      is_cancelled = ended i;
+    })
+    ∙ by_skip_fate (seen H o) l.position r.fate
 
 -- Its cancellation.
 
 pub cancelled-seen : (H : List Entry) (e : Entry) (o : Opening) → IsLegal H → Stepped H e.at e.what →
     cancelled_in e.what ≡ Some o.search → seen (H ++ e ∷ []) o ≡ cancelled (seen H o)
 cancelled-seen H e o legal step is =
-    let no_report = cancelled-not_report e.what o.search is in
-    let run = counted-same H e o.search Search legal step (λ r l h known. absurd (none-some r (sym no_report ∙ h))) in
-    let again = counted-same H e o.search Verify legal step (λ r l h known. absurd (none-some r (sym no_report ∙ h))) in
-    let over = over-same H e o.search legal step (λ r l h known. absurd (none-some r (sym no_report ∙ h))) in
+    let none = told-none e.what (cancelled-not_told e.what o.search is) in
+    let run = unreported H e o.search Search legal none.0 in
+    let again = unreported H e o.search Verify legal none.0 in
+    let skips_are = unskipped H e o.search legal none.1 in
+    let over = over-unreported H e o.search legal none.0 in
     let ended : was_cancelled (H ++ e ∷ []) o.search ≡ true =
     was_cancelled-grow H e o.search
     ∙ ap (λ (x : Option ℕ). was_cancelled H o.search || list_any (λ (c : ℕ). c == o.search) (cons_option x [])) is
     ∙ or-some (was_cancelled H o.search) _ (or-none (o.search == o.search) false refl ∙ same-number o.search o.search refl) in
-    λ i. record { opening = o; runs = run i; reruns = again i; is_over = over i; is_cancelled = ended i }
+    λ i. record {
+      opening = o;
+      runs = run i;
+      reruns = again i;
+      skipped = skips_are i;
+      is_over = over i;
+      is_cancelled = ended i;
+    }
 
 -- Its opening.
 
@@ -221,6 +361,7 @@ no-cancelled (Founded x) h = refl
 no-cancelled (Opened o) h = absurd h
 no-cancelled (Leased k w n s t p d) h = absurd h
 no-cancelled (Reported run v _) h = absurd h
+no-cancelled (Skipped run _) h = absurd h
 no-cancelled (Cancelled k q) h = absurd h
 no-cancelled (Ordered k a n c s d) h = absurd h
 
@@ -268,18 +409,52 @@ not-cancelled H s legal next =
     above (get_or (cancellations H) k d) (length (openings H)) s
     (known-low H (get_or (cancellations H) k d) legal (cancellations-known H legal k d below)) next)
 
+none-mapped : {X Y : Type 0} (f : X → Option Y) (xs : List X) → All (λ (x : X). f x ≡ None) xs → filter_map f xs ≡ []
+none-mapped f [] h = refl
+none-mapped f (x ∷ xs) h =
+    ap (λ o. cons_option o (filter_map f xs)) (All-head (λ y. f y ≡ None) x xs h)
+    ∙ none-mapped f xs (All-tail (λ y. f y ≡ None) x xs h)
+
+elsewhere : (taken here : Bool) (k : ℕ) → here ≡ false → chosen_position taken here k ≡ None
+elsewhere true true k h = absurd (true≢false h)
+elsewhere true false k h = refl
+elsewhere false here k h = refl
+
+-- a run that was skipped is of a search that was opened
+skipped_none_at : (H : List Entry) (s : ℕ) → IsLegal H → length (openings H) + 1 ≡ s → (r : SkippedRun) →
+    HasLease H r.run → skipped_position H s r ≡ None
+skipped_none_at H s legal next r known =
+    let l : LeasedRun = known.0 in
+    let has : HasOpening H l.search =
+    All-contains (λ (x : LeasedRun). HasOpening H x.search) (all_leases H) l (leases-known H legal)
+    (lease-there H r.run l known.1).0 in
+    skipped_position-is H s r l known.1
+    ∙ elsewhere (is_taken r.fate) (l.search == s) l.position
+    (above l.search (length (openings H)) s (known-low H l.search legal has) next)
+
+none-skipped : (H : List Entry) (s : ℕ) → IsLegal H → length (openings H) + 1 ≡ s → skipped H s ≡ []
+none-skipped H s legal next =
+    none-mapped (skipped_position H s) (skips H)
+    (λ k d below. skipped_none_at H s legal next (get_or (skips H) k d) (skips-known H legal k d below))
+
 pub opened-seen : (H : List Entry) (e : Entry) (o : Opening) → IsLegal H → Stepped H e.at e.what →
     opening_in e.what ≡ Some o → seen (H ++ e ∷ []) o ≡ opened o
 opened-seen H e o legal step is =
     let next : length (openings H) + 1 ≡ o.search =
     (is_made (ask_of o) _ o (opened-facts H e.at e.what o is step).made).number in
-    let no_report = opened-not_report e.what o is in
+    let none = told-none e.what (opened-not_told e.what o is) in
     let no_end = opened-not_cancelled e.what o is in
     let run = fresh-counted H e o Search legal step is in
     let again = fresh-counted H e o Verify legal step is in
-    let over =
-    over-same H e o.search legal step (λ r l h known. absurd (none-some r (sym no_report ∙ h)))
-    ∙ not-over H o.search legal next in
+    let skips_are = unskipped H e o.search legal none.1 ∙ none-skipped H o.search legal next in
+    let over = over-unreported H e o.search legal none.0 ∙ not-over H o.search legal next in
     let ended =
     cancelled-same H e o.search (λ x h. absurd (none-some x (sym no_end ∙ h))) ∙ not-cancelled H o.search legal next in
-    λ i. record { opening = o; runs = run i; reruns = again i; is_over = over i; is_cancelled = ended i }
+    λ i. record {
+      opening = o;
+      runs = run i;
+      reruns = again i;
+      skipped = skips_are i;
+      is_over = over i;
+      is_cancelled = ended i;
+    }

@@ -11,7 +11,7 @@ mod read;
 mod steps;
 mod tables;
 
-pub use asked::{histories_meet_what_states_ask, reports_have_their_fate};
+pub use asked::{histories_meet_what_states_ask, reports_have_their_fate, skips_have_their_fate};
 pub use read::states_say_what_histories_hold;
 pub use steps::an_entry_changes_a_state;
 pub use tables::an_entry_changes_one_state;

@@ -77,6 +77,9 @@ pub(crate) fn command(alloc: Global, number: u32, dice: &mut Dice) -> Result<Com
             worker: name(alloc, "w")?,
         }),
         6 => rare(alloc, key, dice),
+        7 => Ok(Command::Skip {
+            run: dice.below(30),
+        }),
         _ => Ok(Command::Report {
             run: dice.below(30),
             verdict: verdict(dice),

@@ -8,7 +8,7 @@ use farm_books::Books;
 use farm_entry::Entry;
 use farm_types::{Key, Memory, Moment, Stage};
 use lease_book::OUT_MAX;
-use plain_farm::{is_next, open_positions};
+use plain_farm::{is_next, outstanding_positions};
 use plain_history::{all_leases_count, lease_of, place_of_key, place_of_report};
 use std::alloc::Global;
 
@@ -50,12 +50,12 @@ pub(crate) fn tell_the_same_out(
     stage: Stage,
     moment: Moment,
 ) -> Result<bool, Memory> {
-    let wanted = open_positions(alloc, books.history(), search, stage, moment)?;
+    let wanted = outstanding_positions(alloc, books.history(), search, stage, moment)?;
     if wanted.len() > OUT_MAX {
         return Ok(false);
     }
     let mut out = [0; OUT_MAX];
-    let count = books.open_positions(search, stage, moment, &mut out);
+    let count = books.outstanding_positions(search, stage, moment, &mut out);
     Ok(out.get(..count) == Some(wanted.as_slice()))
 }
 

@@ -12,12 +12,14 @@ use std::alloc::Global;
 // Whether a state tells what stands on a page.
 fn is_on_page(alloc: Global, state: &SearchState, page: &SearchPage) -> Result<bool, Memory> {
     let shares = state.shares(alloc)?;
+    let untestable = state.untestable(alloc)?;
     let counts = state.counted() == page.counted && state.verified() == page.verified;
     Ok(
         counts
             && state.standing() == page.standing
             && state.budget() == page.budget
-            && shares == page.shares,
+            && shares == page.shares
+            && untestable == page.untestable,
     )
 }
 

@@ -7,9 +7,9 @@ use Rattle.std.specs.Str.{bytes_eq}
 use Rattle.farm_types.specs.CommitId.{id_bytes}
 use Rattle.test_runners.specs.Index.{IsFirst, IsIndex, IsLinked, bucket_of, buckets}
 use Rattle.test_runners.specs.Rows.{TableRow, row_seen}
-use Rattle.test_runners.specs.Tables.{is_row_of, verdict_in}
+use Rattle.test_runners.specs.Tables.{is_row_of, tested_in}
 use Rattle.test_runners.specs.declared.row.Row.{Row}
-use Rattle.test_runners.proofs.Tables.{verdict-behind, verdict-here}
+use Rattle.test_runners.proofs.Tables.{tested-behind, tested-here}
 
 -- a place of another bucket in front changes nothing
 first-past : (homes : List ℕ) (b i at : ℕ) → get_or homes i 0 ≢ b → IsFirst homes b (i + 1) at → IsFirst homes b i at
@@ -88,14 +88,14 @@ first-behind home homes b from at f = record {
 -- no row before the first one of the bucket decides
 pub skipped : (size : ℕ) (rows : List TableRow) (test commit : List ℕ) (from at : ℕ) →
     IsFirst (buckets size rows) (bucket_of size test commit) from at →
-    verdict_in (drop from rows) test commit ≡ verdict_in (drop at rows) test commit
+    tested_in (drop from rows) test commit ≡ tested_in (drop at rows) test commit
 skipped size [] test commit from at f = nothing from ∙ sym (nothing at) where
-  nothing : (n : ℕ) → verdict_in (drop n []) test commit ≡ None
+  nothing : (n : ℕ) → tested_in (drop n []) test commit ≡ None
   nothing zero = refl
   nothing (suc n) = refl
 skipped size (row ∷ rows) test commit zero zero f = refl
 skipped size (row ∷ rows) test commit zero (suc at) f =
-    verdict-behind row rows test commit (row-elsewhere size row test commit (f.others 0 (omega arith) (omega arith)))
+    tested-behind row rows test commit (row-elsewhere size row test commit (f.others 0 (omega arith) (omega arith)))
     ∙ skipped size rows test commit zero at (record {
       later = omega arith;
       others = λ j low below. f.others (suc j) (omega arith) (omega (arith, below));
@@ -130,13 +130,13 @@ linked-row rows size heads next left b row l some within is b_is low =
     linked-more (buckets size seen) heads next (left - 1) b (subst (λ (n : ℕ). IsLinked (buckets size seen) n heads next) more l)
     (omega (arith, inside, length-buckets size seen)) (b_is ∙ sym home) low
 
--- the verdict stands at this place or behind it, and the row there, if there is one, is of the right bucket
+-- the row that is sought stands at this place or behind it, and the row there, if there is one, is of the right bucket
 pub record IsSought (size : ℕ) (rows : List TableRow) (test commit : List ℕ) (at : ℕ) : Type 0 where
-  pub left : verdict_in (drop at rows) test commit ≡ verdict_in rows test commit
+  pub left : tested_in (drop at rows) test commit ≡ tested_in rows test commit
   pub home : at < length rows → get_or (buckets size rows) at 0 ≡ bucket_of size test commit
 
 sought-first : (size : ℕ) (rows : List TableRow) (test commit : List ℕ) (from at : ℕ) →
-    verdict_in (drop from rows) test commit ≡ verdict_in rows test commit →
+    tested_in (drop from rows) test commit ≡ tested_in rows test commit →
     IsFirst (buckets size rows) (bucket_of size test commit) from at → IsSought size rows test commit at
 sought-first size rows test commit from at left f = record {
   left = sym (skipped size rows test commit from at f) ∙ left;
@@ -170,20 +170,20 @@ sought-next rows heads next test commit at n row index sought inside row_is othe
     let seen = map row_seen rows in
     let low : at < length seen = omega (arith, inside, length-map rows row_seen) in
     let first = next-first seen heads next at n index low is in
-    let here : verdict_in (drop at seen) test commit ≡ verdict_in (row_seen row ∷ drop (at + 1) seen) test commit =
-    ap (λ (l : List TableRow). verdict_in l test commit) (drop_more seen at (row_seen row) low)
-    ∙ ap (λ (r : TableRow). verdict_in (r ∷ drop (at + 1) seen) test commit) (seen-at rows at row row_is inside) in
+    let here : tested_in (drop at seen) test commit ≡ tested_in (row_seen row ∷ drop (at + 1) seen) test commit =
+    ap (λ (l : List TableRow). tested_in l test commit) (drop_more seen at (row_seen row) low)
+    ∙ ap (λ (r : TableRow). tested_in (r ∷ drop (at + 1) seen) test commit) (seen-at rows at row row_is inside) in
     sought-first (length heads) seen test commit (at + 1) n
-    (sym (verdict-behind (row_seen row) (drop (at + 1) seen) test commit other) ∙ sym here ∙ sought.left)
+    (sym (tested-behind (row_seen row) (drop (at + 1) seen) test commit other) ∙ sym here ∙ sought.left)
     (subst (λ (b : ℕ). IsFirst (buckets (length heads) seen) b (at + 1) n) (sought.home low) first)
 
 pub sought-here : (rows : List Row) (size : ℕ) (test commit : List ℕ) (at : ℕ) (row : Row) →
     IsSought size (map row_seen rows) test commit at → at < length rows → row ≡ get_or rows at row →
-    is_row_of test commit (row_seen row) ≡ true → Some row.verdict ≡ verdict_in (map row_seen rows) test commit
+    is_row_of test commit (row_seen row) ≡ true → Some row.tested ≡ tested_in (map row_seen rows) test commit
 sought-here rows size test commit at row sought inside row_is is =
     let seen = map row_seen rows in
     let low : at < length seen = omega (arith, inside, length-map rows row_seen) in
-    let here : verdict_in (drop at seen) test commit ≡ verdict_in (row_seen row ∷ drop (at + 1) seen) test commit =
-    ap (λ (l : List TableRow). verdict_in l test commit) (drop_more seen at (row_seen row) low)
-    ∙ ap (λ (r : TableRow). verdict_in (r ∷ drop (at + 1) seen) test commit) (seen-at rows at row row_is inside) in
-    sym (verdict-here (row_seen row) (drop (at + 1) seen) test commit is) ∙ sym here ∙ sought.left
+    let here : tested_in (drop at seen) test commit ≡ tested_in (row_seen row ∷ drop (at + 1) seen) test commit =
+    ap (λ (l : List TableRow). tested_in l test commit) (drop_more seen at (row_seen row) low)
+    ∙ ap (λ (r : TableRow). tested_in (r ∷ drop (at + 1) seen) test commit) (seen-at rows at row row_is inside) in
+    sym (tested-here (row_seen row) (drop (at + 1) seen) test commit is) ∙ sym here ∙ sought.left

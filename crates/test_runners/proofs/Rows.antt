@@ -13,7 +13,7 @@ use Rattle.farm_types.proofs.NameTexts.{IsName-from_no_fault}
 use Rattle.farm_types.specs.declared.commit_id.TheConstants.{ID_BYTES, ID_DIGITS}
 use Rattle.hex.specs.Hex.{decode_sized}
 use Rattle.hex.specs.declared.error.FromHexError.{FromHexError}
-use Rattle.test_runners.specs.Rows.{IsRead, TableRow, row_by, row_of, verdict_row}
+use Rattle.test_runners.specs.Rows.{IsRead, TableRow, row_by, row_of, tested_row}
 use Rattle.test_runners.specs.declared.row.Row.{Row}
 use Rattle.test_runners.specs.declared.row.RowFault.{RowFault}
 
@@ -35,10 +35,11 @@ name-other text other = faulty (name_fault text) refl where
 
 -- a line whose first bytes are the digits of an id, and what was read of the rest
 pub read-row : (line id : List ℕ) (result : Result Row RowFault) → decode_sized (take ID_DIGITS line) ID_BYTES ≡ Ok id →
-    IsRead (verdict_row id (take (length line - ID_DIGITS) (drop ID_DIGITS line))) result → IsRead (row_of line) result
+    IsRead (tested_row id (take (length line - ID_DIGITS) (drop ID_DIGITS line))) result → IsRead (row_of line) result
 read-row line id result e read =
-    let rest : verdict_row id (take (length line - ID_DIGITS) (drop ID_DIGITS line)) ≡ verdict_row id (drop ID_DIGITS line) =
-    ap (λ (r : List ℕ). verdict_row id r) (take_rest line ID_DIGITS) in
-    let by : verdict_row id (drop ID_DIGITS line) ≡ row_of line =
+    let rest : tested_row id (take (length line - ID_DIGITS) (drop ID_DIGITS line))
+    ≡ tested_row id (drop ID_DIGITS line) =
+    ap (λ (r : List ℕ). tested_row id r) (take_rest line ID_DIGITS) in
+    let by : tested_row id (drop ID_DIGITS line) ≡ row_of line =
     ap (λ (d : Result (List ℕ) FromHexError). row_by d (drop ID_DIGITS line)) (sym e) in
     subst (λ (r : Result TableRow RowFault). IsRead r result) (rest ∙ by) read

@@ -1,7 +1,7 @@
--- Tables of verdicts, as texts write them, and the verdicts in them.
+-- Tables of what tests say, as texts write them, and what they say.
 use Rattle.std.specs.Prelude.{ℕ, ◌+◌, Bool, ◌&&◌, List, [], ◌∷◌, if◌then◌else◌, Option, Some, None, Result, Ok, Err}
 use Rattle.std.specs.Str.{bytes_eq}
-use Rattle.weight_exact.specs.declared.run.Verdict.{Verdict}
+use Rattle.worker_core.specs.declared.tested.Tested.{Tested}
 use Rattle.test_runners.specs.Lines.{lines}
 use Rattle.test_runners.specs.Rows.{TableRow, row_of}
 use Rattle.test_runners.specs.declared.row.RowFault.{RowFault}
@@ -27,8 +27,8 @@ table_of text = rows_of 1 (lines text)
 abbrev pub is_row_of : (test commit : List ℕ) → TableRow → Bool
 is_row_of test commit row = bytes_eq row.commit commit && bytes_eq row.test test
 
--- the verdict of the first row of a test at a commit
-abbrev pub verdict_in : List TableRow → (test commit : List ℕ) → Option Verdict
-verdict_in [] test commit = None
-verdict_in (row ∷ rows) test commit =
-    if is_row_of test commit row then Some row.verdict else verdict_in rows test commit
+-- what the first row of a test at a commit says
+abbrev pub tested_in : List TableRow → (test commit : List ℕ) → Option Tested
+tested_in [] test commit = None
+tested_in (row ∷ rows) test commit =
+    if is_row_of test commit row then Some row.tested else tested_in rows test commit

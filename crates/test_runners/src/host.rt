@@ -12,6 +12,7 @@ use farm_types::{CommitId, ID_DIGITS, NAME_MAX_BYTES, Name};
 use link_io::{Link, TakeFailed, put_all, take_piece};
 use net_io::{Connected, Network};
 use weight_exact::Verdict;
+use worker_core::Tested;
 
 /// The greatest length of a question in bytes: an id, a space, a name and a line feed.
 const QUESTION_BYTES: usize = 242;
@@ -22,13 +23,13 @@ const ANSWER_BYTES: usize = 5;
 /// How many bytes are taken of an answer at most: one more than an answer has.
 const LOOK_BYTES: usize = ANSWER_BYTES + 1;
 
-/// Asks the host behind a network for the verdict of a test at a commit, over a connection of its own, which is given
-/// back. None where the host gives none.
+/// Asks the host behind a network what comes of a test at a commit, over a connection of its own, which is given back.
+/// None where the host doesn't say.
 pub(crate) fn ask_host<N: Network>(
     network: &mut N,
     test: &Name,
     commit: &CommitId,
-) -> Option<Verdict>
+) -> Option<Tested>
     ensures { (x : Exchange) × (N.told network.new ≡ tell_all (exchange_events x) (N.told network.old))
         × SaysOver (question_of commit.now test.now) x result }
 {
@@ -42,7 +43,7 @@ pub(crate) fn ask_host<N: Network>(
 }
 
 /// The same over a connection that was just made.
-fn ask_over<N: Network>(network: &mut N, mut link: N::End, question: &[u8]) -> Option<Verdict>
+fn ask_over<N: Network>(network: &mut N, mut link: N::End, question: &[u8]) -> Option<Tested>
     requires fresh { IfSome (N.told network.old) (λ _. link_state N.End.Source N.End.Sink link ≡ fresh_link) }
     ensures { (t : Talk) × (N.told network.new ≡ add_told (returned (talk_state t)) (N.told network.old))
         × SaysOver question.now (talked t) result }
@@ -53,7 +54,7 @@ fn ask_over<N: Network>(network: &mut N, mut link: N::End, question: &[u8]) -> O
 }
 
 /// Puts a question to a connection and takes the answer.
-fn ask<L: Link>(link: &mut L, question: &[u8]) -> Option<Verdict>
+fn ask<L: Link>(link: &mut L, question: &[u8]) -> Option<Tested>
     ensures { (sent taken : List ℕ)
         × (L.Sink.written link.new ≡ append_known (L.Sink.written link.old) sent)
         × (L.Source.taken link.new ≡ append_known (L.Source.taken link.old) taken)
@@ -83,7 +84,7 @@ fn question(test: &Name, commit: &CommitId) -> ArrayVec<u8, QUESTION_BYTES>
 
 /// Takes an answer to the end of the input, or to one byte more than an answer has, and reads it. What came before a
 /// take that failed is an answer where it is a whole line.
-fn take_answer<L: Link>(link: &mut L) -> Option<Verdict>
+fn take_answer<L: Link>(link: &mut L) -> Option<Tested>
     ensures taken { (taken : List ℕ) × (L.Source.taken link.new ≡ append_known (L.Source.taken link.old) taken)
         × Says taken (L.Source.ended link.new) (L.Source.count link.new) result }
     ensures aside { L.Source.aside link.new ≡ L.Source.aside link.old }
@@ -127,27 +128,31 @@ fn take_more<'a, L: Link>(
     take_piece(link, buf)
 }
 
-/// The verdict that the whole of an answer says: the line `pass` or `fail`, which may lack its line feed.
-fn answer_said(answer: &[u8]) -> Option<Verdict>
+/// What the whole of an answer says: the line `pass`, `fail` or `skip`, which may lack its line feed.
+fn answer_said(answer: &[u8]) -> Option<Tested>
     ensures { result ≡ answer_of answer.now }
 {
     if answer == b"pass".as_slice() {
-        Some(Verdict::Pass)
+        Some(Tested::Verdict(Verdict::Pass))
     } else if answer == b"fail".as_slice() {
-        Some(Verdict::Fail)
+        Some(Tested::Verdict(Verdict::Fail))
+    } else if answer == b"skip".as_slice() {
+        Some(Tested::Untestable)
     } else {
         line_said(answer)
     }
 }
 
-/// The verdict that a line says which has come whole, with its line feed, and with nothing behind it.
-fn line_said(answer: &[u8]) -> Option<Verdict>
+/// What a line says that has come whole, with its line feed, and with nothing behind it.
+fn line_said(answer: &[u8]) -> Option<Tested>
     ensures { result ≡ line_of answer.now }
 {
     if answer == b"pass\n".as_slice() {
-        Some(Verdict::Pass)
+        Some(Tested::Verdict(Verdict::Pass))
     } else if answer == b"fail\n".as_slice() {
-        Some(Verdict::Fail)
+        Some(Tested::Verdict(Verdict::Fail))
+    } else if answer == b"skip\n".as_slice() {
+        Some(Tested::Untestable)
     } else {
         None
     }

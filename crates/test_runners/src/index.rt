@@ -3,12 +3,12 @@ ghost use Rattle.std.specs.Prelude.{ℕ, ◌≡◌, ◌<◌, IfOk, get_or, lengt
 ghost use Rattle.farm_types.specs.CommitId.{id_bytes};
 ghost use Rattle.test_runners.specs.Index.{IsIndex, bucket_of, hash_after};
 ghost use Rattle.test_runners.specs.Rows.{row_seen};
-ghost use Rattle.test_runners.specs.Tables.{verdict_in};
+ghost use Rattle.test_runners.specs.Tables.{tested_in};
 
 use crate::row::Row;
 use farm_types::{CommitId, Memory, Name};
 use std::alloc::Global;
-use weight_exact::Verdict;
+use worker_core::Tested;
 
 /// By what a hash is multiplied for each byte.
 const HASH_FACTOR: u64 = 31;
@@ -37,16 +37,16 @@ impl Index {
         Ok(Index { heads, next })
     }
 
-    /// The verdict of the first of these rows, whose index it is, for a test at a commit.
-    pub(crate) fn verdict(&self, rows: &[Row], test: &Name, commit: &CommitId) -> Option<Verdict>
+    /// What the first of these rows, whose index it is, says of a test at a commit.
+    pub(crate) fn tested(&self, rows: &[Row], test: &Name, commit: &CommitId) -> Option<Tested>
         requires { IsIndex (map row_seen rows.now) self.now.heads.items self.now.next.items }
-        ensures { result ≡ verdict_in (map row_seen rows.now) test.now (id_bytes commit.now) }
+        ensures { result ≡ tested_in (map row_seen rows.now) test.now (id_bytes commit.now) }
     {
         let mut at = self.heads[bucket(self.heads.len(), test, commit)];
         while at < rows.len() {
             let row = &rows[at];
             if row.is_of(test, commit) {
-                return Some(row.verdict);
+                return Some(row.tested);
             }
             at = self.next[at];
         }

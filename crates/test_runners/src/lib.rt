@@ -1,6 +1,6 @@
-//! Where the verdicts of a real worker come from: a table of verdicts (`table:PATH`), or a test host that is asked over
-//! connections of their own (`host:ADDRESS`). [`runner_named`] says which of them a word names, and [`TestRunner`] is
-//! either of them, as a `Runner`.
+//! What a real worker reports of its tests: what a table says of them (`table:PATH`), or a test host that is asked over
+//! connections of their own (`host:ADDRESS`). Either gives a verdict, or says that the tree can't be tested.
+//! [`runner_named`] says which of them a word names, and [`TestRunner`] is either of them, as a `Runner`.
 //!
 //! Whatever is read here is a value: [`read_table`] makes a [`Table`] of a file's bytes, or says which line is outside
 //! the form and why, and a host's question and answer are functions of their bytes (`specs/Host`). What a file or a
@@ -8,8 +8,8 @@
 //! is handed in.
 //!
 //! The crate stands on `worker_io` for runners, on `net_io` and `link_io` for connections, on `http_exchange` for what
-//! is told of one connection, on `hex` and `memchr`, and on `farm_types` and `weight_exact` for names, ids and
-//! verdicts. The layers above may use every name below.
+//! is told of one connection, on `hex` and `memchr`, and on `farm_types`, `weight_exact` and `worker_core` for names,
+//! ids and what comes of a test. The layers above may use every name below.
 #![tactic(auto)]
 
 mod host;

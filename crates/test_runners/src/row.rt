@@ -1,22 +1,23 @@
-//! The rows of a table of verdicts.
+//! The rows of a table.
 ghost use Rattle.std.specs.Prelude.{◌≡◌, ◌≢◌, ◌≤◌, ℕ, List, IfSome, IfNone, Ok, length, take};
 ghost use Rattle.hex.specs.Hex.{decode_sized};
 ghost use Rattle.farm_types.specs.CommitId.{id_bytes};
 ghost use Rattle.farm_types.specs.declared.commit_id.TheConstants.{ID_BYTES, ID_DIGITS};
-ghost use Rattle.test_runners.specs.Rows.{IsRead, named_row, row_of, row_seen, verdict_row};
+ghost use Rattle.test_runners.specs.Rows.{IsRead, named_row, row_of, row_seen, tested_row};
 ghost use Rattle.test_runners.specs.Tables.{is_row_of};
 
 use farm_types::{CommitId, ID_BYTES, ID_DIGITS, Name, NameFault};
 use hex::FromHex;
 use std::alloc::Global;
 use weight_exact::Verdict;
+use worker_core::Tested;
 
 /// Why a line is no row of a table.
 #[derive(Clone, Copy, Debug, PartialEq, Eq)]
 pub enum RowFault {
     /// Its first 40 bytes are not the digits of a commit's id.
     Commit,
-    /// What follows the id is neither ` pass ` nor ` fail `.
+    /// What follows the id is none of ` pass `, ` fail ` and ` skip `.
     Verdict,
     /// What follows the verdict is not the name of a test.
     Test,
@@ -24,11 +25,11 @@ pub enum RowFault {
     Memory,
 }
 
-/// The verdict of a test at a commit.
+/// What comes of a test at a commit.
 #[derive(Debug, Drop)]
 pub(crate) struct Row {
     pub commit: CommitId,
-    pub verdict: Verdict,
+    pub tested: Tested,
     pub test: Name,
 }
 
@@ -48,7 +49,7 @@ pub(crate) fn read_row(alloc: Global, line: &[u8]) -> Result<Row, RowFault>
     let Some(commit) = read_commit(line) else {
         return Err(RowFault::Commit);
     };
-    read_verdict(alloc, commit, &line[ID_DIGITS..])
+    read_tested(alloc, commit, &line[ID_DIGITS..])
 }
 
 /// The commit that the first digits of a line name.
@@ -65,26 +66,23 @@ fn read_commit(line: &[u8]) -> Option<CommitId>
 }
 
 /// The row of a commit, where this follows the commit's digits.
-fn read_verdict(alloc: Global, commit: CommitId, rest: &[u8]) -> Result<Row, RowFault>
-    ensures { IsRead (verdict_row (id_bytes commit) rest.now) result }
+fn read_tested(alloc: Global, commit: CommitId, rest: &[u8]) -> Result<Row, RowFault>
+    ensures { IsRead (tested_row (id_bytes commit) rest.now) result }
 {
     if let Some(test) = rest.strip_prefix(b" pass ") {
-        read_test(alloc, commit, Verdict::Pass, test)
+        read_test(alloc, commit, Tested::Verdict(Verdict::Pass), test)
     } else if let Some(test) = rest.strip_prefix(b" fail ") {
-        read_test(alloc, commit, Verdict::Fail, test)
+        read_test(alloc, commit, Tested::Verdict(Verdict::Fail), test)
+    } else if let Some(test) = rest.strip_prefix(b" skip ") {
+        read_test(alloc, commit, Tested::Untestable, test)
     } else {
         Err(RowFault::Verdict)
     }
 }
 
-/// The row of a commit and a verdict, where this follows the verdict.
-fn read_test(
-    alloc: Global,
-    commit: CommitId,
-    verdict: Verdict,
-    test: &[u8],
-) -> Result<Row, RowFault>
-    ensures { IsRead (named_row (id_bytes commit) verdict test.now) result }
+/// The row of a commit and what comes of its test, where this follows the word for that.
+fn read_test(alloc: Global, commit: CommitId, tested: Tested, test: &[u8]) -> Result<Row, RowFault>
+    ensures { IsRead (named_row (id_bytes commit) tested test.now) result }
 {
     let Ok(text) = str::from_utf8(test) else {
         return Err(RowFault::Test);
@@ -92,7 +90,7 @@ fn read_test(
     match Name::of(alloc, text) {
         Ok(test) => Ok(Row {
             commit,
-            verdict,
+            tested,
             test,
         }),
         Err(NameFault::Memory) => Err(RowFault::Memory),

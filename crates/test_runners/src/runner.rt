@@ -8,10 +8,10 @@ use crate::host::ask_host;
 use crate::table::Table;
 use farm_types::{CommitId, Name};
 use net_io::Network;
-use weight_exact::Verdict;
+use worker_core::Tested;
 use worker_io::{Ran, Runner};
 
-/// Where verdicts come from.
+/// Who says what comes of a test.
 #[derive(Drop)]
 enum Origin<N: Network + Drop> {
     Nothing,
@@ -19,8 +19,8 @@ enum Origin<N: Network + Drop> {
     Host(N),
 }
 
-/// A runner whose verdicts stand in a table, or are asked of a test host, or of which there are none. A run that has no
-/// verdict fails. It tells nothing of its answers.
+/// A runner that says of a test what a table says, or a test host, or nothing. A run of which nothing is said fails. It
+/// tells nothing of its answers.
 #[derive(Drop)]
 pub struct TestRunner<N: Network + Drop> {
     origin: Origin<N>,
@@ -39,7 +39,7 @@ impl<N: Network + Drop> TestRunner<N> {
         }
     }
 
-    /// A runner whose verdicts are those of a table. A test at a commit of which there is no row fails to run.
+    /// A runner that says what a table does. A test at a commit of which there is no row fails to run.
     pub fn table(table: Table) -> TestRunner<N>
         ensures origin { origin_of result ≡ by_table table }
         ensures faults { runner_faults result ≡ 0 }
@@ -51,8 +51,8 @@ impl<N: Network + Drop> TestRunner<N> {
     }
 
     /// A runner that asks the test host behind a network, over a connection of its own for each run: it puts the line
-    /// of the commit's id in digits, a space and the test's name, and takes the line `pass` or `fail`. Any other
-    /// answer, and none, fails.
+    /// of the commit's id in digits, a space and the test's name, and takes the line `pass`, `fail` or
+    /// `skip`. Any other answer, and none, fails.
     pub fn host(network: N) -> TestRunner<N>
         ensures origin { origin_of result ≡ by_host network }
         ensures faults { runner_faults result ≡ 0 }
@@ -63,14 +63,14 @@ impl<N: Network + Drop> TestRunner<N> {
         }
     }
 
-    /// The verdict of a test at a commit, if there is one.
-    fn verdict(&mut self, test: &Name, commit: &CommitId) -> Option<Verdict>
+    /// What is said of a test at a commit, if anything is.
+    fn tested(&mut self, test: &Name, commit: &CommitId) -> Option<Tested>
         ensures asks { Asks N.told test.now commit.now (origin_of self.old) (origin_of self.new) (ran_by result) }
         ensures faults { runner_faults self.new ≡ runner_faults self.old }
     {
         match &mut self.origin {
             Origin::Nothing => None,
-            Origin::Table(table) => table.verdict(test, commit),
+            Origin::Table(table) => table.tested(test, commit),
             Origin::Host(network) => ask_host(network, test, commit),
         }
     }
@@ -90,8 +90,8 @@ impl<N: Network + Drop> Runner for TestRunner<N> {
         ensures rises { OnRunFailed result (Rose (runner_faults self.old) (runner_faults self.new)) }
         ensures never_falls { runner_faults self.old ≤ runner_faults self.new }
     {
-        match self.verdict(test, commit) {
-            Some(verdict) => Ran::Verdict(verdict),
+        match self.tested(test, commit) {
+            Some(tested) => Ran::Tested(tested),
             None => {
                 self.faults = self.faults.saturating_add(1);
                 Ran::Failed

@@ -1,7 +1,7 @@
-//! A table of verdicts.
+//! A table of what tests say.
 ghost use Rattle.std.specs.Prelude.{◌≡◌, ◌≢◌, Err, IfErr, IfOk, IsErrOf, Ok};
 ghost use Rattle.farm_types.specs.CommitId.{id_bytes};
-ghost use Rattle.test_runners.specs.Tables.{table_of, verdict_in};
+ghost use Rattle.test_runners.specs.Tables.{table_of, tested_in};
 
 use crate::index::Index;
 use crate::lines::split_line;
@@ -9,7 +9,7 @@ use crate::row::{Row, RowFault, read_row};
 use farm_types::{CommitId, Name};
 use std::alloc::Global;
 use std::marker::Model;
-use weight_exact::Verdict;
+use worker_core::Tested;
 
 /// Why a text is no table.
 #[derive(Clone, Copy, Debug, PartialEq, Eq)]
@@ -20,7 +20,7 @@ pub enum TableFault {
     Memory,
 }
 
-/// A table of verdicts, which is seen as the list of its rows.
+/// A table of what tests say, which is seen as the list of its rows.
 #[derive(Debug, Drop)]
 pub struct Table {
     rows: Vec<Row>,
@@ -40,8 +40,8 @@ impl Model for Table {
     ghost invariant = { λ table. IsIndex (map row_seen table.rows.items) table.index.heads.items table.index.next.items };
 }
 
-/// The table that a text writes: lines of a commit's id in 40 digits, `pass` or `fail`, and the name of a test, with
-/// one space between two. Each line ends with a line feed, which the last one may lack.
+/// The table that a text writes: lines of a commit's id in 40 digits, `pass`, `fail` or `skip`, and the name of a test,
+/// with one space between two. Each line ends with a line feed, which the last one may lack.
 ///
 /// # Errors
 ///
@@ -74,11 +74,11 @@ pub fn read_table(alloc: Global, text: &[u8]) -> Result<Table, TableFault>
 }
 
 impl Table {
-    /// The verdict of the first row of this test at this commit. It is found by an index, so that the number of rows
+    /// What the first row of this test at this commit says. It is found by an index, so that the number of rows
     /// counts little.
-    pub fn verdict(&self, test: &Name, commit: &CommitId) -> Option<Verdict>
-        ensures { result ≡ verdict_in self.now test.now (id_bytes commit.now) }
+    pub fn tested(&self, test: &Name, commit: &CommitId) -> Option<Tested>
+        ensures { result ≡ tested_in self.now test.now (id_bytes commit.now) }
     {
-        self.index.verdict(&self.rows, test, commit)
+        self.index.tested(&self.rows, test, commit)
     }
 }

@@ -107,7 +107,7 @@ IsValley-away sums floor j k parts mark turn rising parts_is mark_is above withi
     }
 
 -- the distance of a sum that was read
-abs_diff-away : (sums : List ℕ) (j k i sum parts mark : ℕ) → parts ≡ k + 1 → mark ≡ j * whole sums →
+pub abs_diff-away : (sums : List ℕ) (j k i sum parts mark : ℕ) → parts ≡ k + 1 → mark ≡ j * whole sums →
     sum ≡ sum_at sums i → abs_diff (sum * parts) mark ≡ away sums j k i
 abs_diff-away sums j k i sum parts mark parts_is mark_is sum_is = rw (sum_is, parts_is, mark_is) refl
 

@@ -1,5 +1,7 @@
 -- Where to run next, by cumulative sums.
-use Rattle.std.specs.Prelude.{◌≡◌, ℕ, ◌-◌, ◌≤◌, List, length, slice_index}
+use Rattle.std.specs.Prelude.{◌≡◌, ℕ, ◌-◌, ◌≤◌, List, Option, length, slice_index}
+use Rattle.std.specs.List.{filter_map, range_with_len}
+use Rattle.open_positions.specs.Open.{is_open, nearest_open}
 use Rattle.weight_exact.specs.Plan.{distance, IsNearest}
 use Rattle.threshold_pick.specs.Sums.{sum_at, whole, suspects_in}
 
@@ -16,3 +18,12 @@ IsPick sums floor j k i = IsNearest (away sums j k) floor (suspects_in sums) i
 pub record ArePicks (sums : List ℕ) (floor k : ℕ) (positions : List ℕ) : Type 0 where
   pub width : length positions ≡ k
   pub each : (j : ℕ) → 1 ≤ j → j ≤ k → IsPick sums floor j k (slice_index positions (j - 1))
+
+-- the j-th of k positions to run next of those above the floor that weren't skipped, where one is left: as `IsPick`
+-- says of it, and nothing where each was skipped
+abbrev pub open_pick_in : (sums : List ℕ) → (floor : ℕ) → (skipped : List ℕ) → (j k : ℕ) → Option ℕ
+open_pick_in sums floor skipped j k = nearest_open (is_open skipped) (away sums j k) floor (suspects_in sums - floor)
+
+-- all k of them, in order: none where each position was skipped
+abbrev pub open_plan_in : (sums : List ℕ) → (floor : ℕ) → (skipped : List ℕ) → (k : ℕ) → List ℕ
+open_plan_in sums floor skipped k = filter_map (λ j. open_pick_in sums floor skipped j k) (range_with_len 1 k)

@@ -10,10 +10,18 @@
 //!
 //! Each picked position is the nearest to its threshold above the floor, the smaller one on a tie, and is found in at
 //! most log2(8n) steps for n suspects.
+//!
+//! Where trees can't be tested, [`open_pick`] picks among the positions that weren't skipped, as `Skips` of
+//! `open_positions` has them, and [`is_hidden`] says when skipped positions alone part hypotheses that are at the bar
+//! together. They meet the definitions of that crate by the laws.
 #![tactic(auto)]
 
+mod hidden;
 pub mod laws;
+mod open_picks;
 mod picks;
 mod threshold;
 
+pub use hidden::is_hidden;
+pub use open_picks::{open_pick, open_pick_uncounted};
 pub use picks::{pick, pick_uncounted, plan_into, plan_uncounted};

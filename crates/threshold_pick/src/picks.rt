@@ -42,7 +42,7 @@ pub fn pick<L: Ledger>(sums: &Sums, floor: u16, j: u8, k: u8, steps: &mut Steps<
 }
 
 /// The first position above the floor whose sum reaches the threshold, or the last position, where none before it does.
-fn first_reaching<L: Ledger>(
+pub(crate) fn first_reaching<L: Ledger>(
     sums: &Sums,
     floor: u16,
     threshold: Threshold,

@@ -13,7 +13,7 @@ use Rattle.farm_entry.specs.Legal.{IsLegal, ask_of}
 use Rattle.farm_entry.specs.Standing.{is_active, standing}
 use Rattle.farm_entry.specs.declared.entry.Entry.{Entry}
 use Rattle.farm_entry.specs.declared.entry.What.{What}
-use Rattle.farm_entry.specs.declared.entry.What.TheVariants.{Founded, Opened, Leased, Reported, Cancelled, Ordered}
+use Rattle.farm_entry.specs.declared.entry.What.TheVariants.{Founded, Opened, Leased, Reported, Skipped, Cancelled, Ordered}
 use Rattle.farm_entry.specs.declared.lease.LeasedRun.{LeasedRun}
 use Rattle.farm_entry.specs.declared.opening.Opening.{Opening}
 use Rattle.farm_entry.proofs.Growing.{openings-grow}
@@ -77,11 +77,13 @@ opens-no_lease (Opened x) o h = refl
 opens-no_lease (Founded x) o h = refl
 opens-no_lease (Leased k w r q t p d) o h = absurd (none-some o h)
 opens-no_lease (Reported r v _) o h = refl
+opens-no_lease (Skipped r _) o h = refl
 opens-no_lease (Cancelled k q) o h = refl
 opens-no_lease (Ordered k a n c q d) o h = refl
 
 about-no_lease : (H : List Entry) (w : What) (s : ℕ) → IsAbout H w s → lease_in w ≡ None
 about-no_lease H (Reported run v _) s a = refl
+about-no_lease H (Skipped run _) s a = refl
 about-no_lease H (Cancelled key q) s a = refl
 about-no_lease H (Founded settings) s a = absurd a
 about-no_lease H (Opened o) s a = absurd a
@@ -93,6 +95,7 @@ leases-no_opening (Leased k w r q t p d) l h = refl
 leases-no_opening (Founded x) l h = refl
 leases-no_opening (Opened o) l h = absurd (none-some l h)
 leases-no_opening (Reported r v _) l h = refl
+leases-no_opening (Skipped r _) l h = refl
 leases-no_opening (Cancelled k q) l h = refl
 leases-no_opening (Ordered k a n c q d) l h = refl
 

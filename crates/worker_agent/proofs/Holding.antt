@@ -29,12 +29,12 @@ step-last left lost (Some (AskLease key)) Nothing = refl
 step-last left lost (Some (AskLease key)) (Lost status) =
     lost-last left (lost + 1) (AskLease key) (Stop (Peer status)) (nat_lt (lost + 1) MAX_TRIES)
 step-last left lost (Some (AskLease key)) event = refl
-step-last left lost (Some (RunTest run)) (Ran verdict) = refl
+step-last left lost (Some (RunTest run)) (Ran tested) = refl
 step-last left lost (Some (RunTest run)) event = refl
-step-last left lost (Some (SendReport run verdict)) Noted = refl
-step-last left lost (Some (SendReport run verdict)) (Lost status) =
-    lost-last left (lost + 1) (SendReport run verdict) (Stop (Peer status)) (nat_lt (lost + 1) MAX_TRIES)
-step-last left lost (Some (SendReport run verdict)) event = refl
+step-last left lost (Some (SendReport run tested)) Noted = refl
+step-last left lost (Some (SendReport run tested)) (Lost status) =
+    lost-last left (lost + 1) (SendReport run tested) (Stop (Peer status)) (nat_lt (lost + 1) MAX_TRIES)
+step-last left lost (Some (SendReport run tested)) event = refl
 step-last left lost (Some (Stop end)) event = refl
 
 -- the lease of a run whose test is to be run is held
@@ -58,12 +58,12 @@ holds-on left lost (Some (AskLease key)) Nothing held other holds = tt
 holds-on left lost (Some (AskLease key)) (Lost status) held other holds =
     lost-holds left (lost + 1) (AskLease key) (Stop (Peer status)) held (nat_lt (lost + 1) MAX_TRIES) tt tt
 holds-on left lost (Some (AskLease key)) event held other holds = tt
-holds-on left lost (Some (RunTest run)) (Ran verdict) held other holds = tt
+holds-on left lost (Some (RunTest run)) (Ran tested) held other holds = tt
 holds-on left lost (Some (RunTest run)) event held other holds = holds
-holds-on left lost (Some (SendReport run verdict)) Noted held other holds = noted-holds left held (left == 0)
-holds-on left lost (Some (SendReport run verdict)) (Lost status) held other holds =
-    lost-holds left (lost + 1) (SendReport run verdict) (Stop (Peer status)) held (nat_lt (lost + 1) MAX_TRIES) tt tt
-holds-on left lost (Some (SendReport run verdict)) event held other holds = tt
+holds-on left lost (Some (SendReport run tested)) Noted held other holds = noted-holds left held (left == 0)
+holds-on left lost (Some (SendReport run tested)) (Lost status) held other holds =
+    lost-holds left (lost + 1) (SendReport run tested) (Stop (Peer status)) held (nat_lt (lost + 1) MAX_TRIES) tt tt
+holds-on left lost (Some (SendReport run tested)) event held other holds = tt
 holds-on left lost (Some (Stop end)) event held other holds = tt
 
 -- the lease of the run that was asked for

@@ -15,7 +15,7 @@ use Rattle.http_exchange.specs.declared.sending.Sent.TheVariants as came
 use Rattle.http_words.specs.declared.status_code.StatusCode.TheVariants as status
 use Rattle.link_io.specs.Telling.{add_told}
 use Rattle.net_io.specs.Events.{NetworkEvent}
-use Rattle.weight_exact.specs.declared.run.Verdict.{Verdict}
+use Rattle.worker_core.specs.declared.tested.Tested.{Tested}
 use Rattle.worker_core.specs.declared.action.Action.{Action}
 use Rattle.worker_core.specs.declared.action.Action.TheVariants.{Draw, AskLease, RunTest, SendReport, Stop}
 use Rattle.worker_core.specs.declared.event.Event.{Event}
@@ -55,10 +55,11 @@ asks-lease worker last key is =
     subst (λ (l : Option Action). IsAsked worker l (lease_request key worker) lease_event lease_held) (sym is)
     (record { does = λ lease t by. by; comes = λ t. refl; holds = λ t held. refl; tries = λ x put. put })
 
-pub asks-report : (worker : List ℕ) (last : Option Action) (run : ℕ) (verdict : Verdict) → last ≡ Some (SendReport run verdict) →
-    IsAsked worker last (report_request run verdict) report_event as_held
-asks-report worker last run verdict is =
-    subst (λ (l : Option Action). IsAsked worker l (report_request run verdict) report_event as_held) (sym is)
+pub asks-report : (worker : List ℕ) (last : Option Action) (run : ℕ) (tested : Tested) →
+    last ≡ Some (SendReport run tested) →
+    IsAsked worker last (report_request run tested) report_event as_held
+asks-report worker last run tested is =
+    subst (λ (l : Option Action). IsAsked worker l (report_request run tested) report_event as_held) (sym is)
     (record { does = λ lease t by. by; comes = λ t. refl; holds = λ t held. refl; tries = λ x put. put })
 
 -- memory ran out for a request
@@ -217,7 +218,7 @@ report-peer (came.Lost by) = tt
 -- no step is ended by a fault of the network: the request is lost then
 
 run-not-net : (answer : runner.Ran) → run_event answer ≡ Err NetFault → ⊥
-run-not-net (ran_is.Verdict verdict) e = cc
+run-not-net (ran_is.Tested tested) e = cc
 run-not-net ran_is.Failed e = cc
 
 comes-not-net : (last : Option Action) (step : Step) → event_of last step ≡ Err NetFault → ⊥
@@ -234,10 +235,10 @@ comes-not-net (Some (AskLease key)) (ran asked) e = cc
 comes-not-net (Some (RunTest run)) (drew key) e = cc
 comes-not-net (Some (RunTest run)) (sent t) e = cc
 comes-not-net (Some (RunTest run)) (ran asked) e = run-not-net asked.answer e
-comes-not-net (Some (SendReport run verdict)) (drew key) e = cc
-comes-not-net (Some (SendReport run verdict)) (sent t) e =
+comes-not-net (Some (SendReport run tested)) (drew key) e = cc
+comes-not-net (Some (SendReport run tested)) (sent t) e =
     subst (λ (r : Result Event WorkFault). IsOrPeer r) e (report-peer (sent_of t.answer))
-comes-not-net (Some (SendReport run verdict)) (ran asked) e = cc
+comes-not-net (Some (SendReport run tested)) (ran asked) e = cc
 comes-not-net (Some (Stop end)) (drew key) e = cc
 comes-not-net (Some (Stop end)) (sent t) e = cc
 comes-not-net (Some (Stop end)) (ran asked) e = cc
@@ -261,7 +262,7 @@ drew-comes None key = refl
 drew-comes (Some Draw) key = refl
 drew-comes (Some (AskLease k)) key = refl
 drew-comes (Some (RunTest run)) key = refl
-drew-comes (Some (SendReport run verdict)) key = refl
+drew-comes (Some (SendReport run tested)) key = refl
 drew-comes (Some (Stop end)) key = refl
 
 drew-keeps : (last : Option Action) (key : Key) (held : Option LeaseAnswer) → lease_after last (drew key) held ≡ held
@@ -269,7 +270,7 @@ drew-keeps None key held = refl
 drew-keeps (Some Draw) key held = refl
 drew-keeps (Some (AskLease k)) key held = refl
 drew-keeps (Some (RunTest run)) key held = refl
-drew-keeps (Some (SendReport run verdict)) key held = refl
+drew-keeps (Some (SendReport run tested)) key held = refl
 drew-keeps (Some (Stop end)) key held = refl
 
 pub drew-ok : {A : Type 0} (worker : List ℕ) (agent now : AgentState) (before after : Option (List Key)) (n : Option (List NetworkEvent))
@@ -303,17 +304,17 @@ ran-comes : (last : Option Action) (a : Asked) (answer : runner.Ran) → IsTest 
 ran-comes last a answer test same = test-comes last a test ∙ ap run_event same
 
 pub ran-ok : {A : Type 0} (worker : List ℕ) (agent now : AgentState) (before after : Option (List Asked)) (n : Option (List NetworkEvent))
-    (k : Option (List Key)) (done : A) (verdict : Verdict) → IsTest agent.core.last →
-    AsksRunner agent.core.last agent.lease before after (ran_is.Verdict verdict) →
-    now ≡ agent_after agent agent.lease (event.Ran verdict) false →
+    (k : Option (List Key)) (done : A) (tested : Tested) → IsTest agent.core.last →
+    AsksRunner agent.core.last agent.lease before after (ran_is.Tested tested) →
+    now ≡ agent_after agent agent.lease (event.Ran tested) false →
     StepSays {A = A} worker agent now (told_of n before k) (told_of n after k) (Ok done)
-ran-ok worker agent now before after n k done verdict test asks now_is = (
+ran-ok worker agent now before after n k done tested test asks now_is = (
   ran asks.0,
-  event.Ran verdict,
+  event.Ran tested,
   record {
     does = asks.3 worker;
-    comes = ran-comes agent.core.last asks.0 (ran_is.Verdict verdict) test asks.2;
-    after_is = now_is ∙ ap (λ (l : Option LeaseAnswer). agent_after agent l (event.Ran verdict) false)
+    comes = ran-comes agent.core.last asks.0 (ran_is.Tested tested) test asks.2;
+    after_is = now_is ∙ ap (λ (l : Option LeaseAnswer). agent_after agent l (event.Ran tested) false)
         (sym (test-keeps agent.core.last asks.0 agent.lease test));
   },
   ap (λ (r : Option (List Asked)). told_of n r k) asks.1,

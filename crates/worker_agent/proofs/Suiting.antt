@@ -6,7 +6,7 @@ use Rattle.http_exchange.specs.Statuses.{status_number}
 use Rattle.http_exchange.specs.declared.sending.Sent.{Sent}
 use Rattle.http_exchange.specs.declared.sending.Sent.TheVariants as came
 use Rattle.http_words.specs.declared.status_code.StatusCode.TheVariants as status
-use Rattle.weight_exact.specs.declared.run.Verdict.{Verdict}
+use Rattle.worker_core.specs.declared.tested.Tested.{Tested}
 use Rattle.worker_core.specs.Core.{IsCore}
 use Rattle.worker_core.specs.declared.action.Action.{Action}
 use Rattle.worker_core.specs.declared.action.Action.TheVariants.{Draw, AskLease, RunTest, SendReport, Stop}
@@ -40,27 +40,29 @@ lease-suits key (came.Answered r) event e = leased-suits key (lease_reply r) eve
 lease-suits key (came.Lost lost) event e = given (Some (AskLease key)) (Lost (lost_status lost)) event tt e
 
 -- an event that a report comes to
-pub record IsOfReport (run : ℕ) (verdict : Verdict) (event : Event) : Type 0 where
-  pub suits : Suits (Some (SendReport run verdict)) event
+pub record IsOfReport (run : ℕ) (tested : Tested) (event : Event) : Type 0 where
+  pub suits : Suits (Some (SendReport run tested)) event
   pub other : IsOther event
 
-reported : (run : ℕ) (verdict : Verdict) (event other : Event) → IsOfReport run verdict event → ok_of event ≡ ok_of other →
-    IsOfReport run verdict other
-reported run verdict event other of same =
-    let is : event ≡ other = cc in subst (λ (e : Event). IsOfReport run verdict e) is of
+reported : (run : ℕ) (tested : Tested) (event other : Event) → IsOfReport run tested event → ok_of event ≡ ok_of other →
+    IsOfReport run tested other
+reported run tested event other of same =
+    let is : event ≡ other = cc in subst (λ (e : Event). IsOfReport run tested e) is of
 
-noted-is : (run : ℕ) (verdict : Verdict) (ok : Bool) (status : ℕ) (event : Event) →
-    (if ok then ok_of Noted else Err (Peer status)) ≡ Ok event → IsOfReport run verdict event
-noted-is run verdict true status event e = reported run verdict Noted event (record { suits = tt; other = tt }) e
-noted-is run verdict false status event e = absurd (cc e)
+noted-is : (run : ℕ) (tested : Tested) (ok : Bool) (status : ℕ) (event : Event) →
+    (if ok then ok_of Noted else Err (Peer status)) ≡ Ok event → IsOfReport run tested event
+noted-is run tested true status event e = reported run tested Noted event (record { suits = tt; other = tt }) e
+noted-is run tested false status event e = absurd (cc e)
 
-pub report-is : (run : ℕ) (verdict : Verdict) (s : Sent) (event : Event) → report_event s ≡ Ok event → IsOfReport run verdict event
-report-is run verdict (came.Answered r) event e = noted-is run verdict (r.status == status_number status.Ok) r.status event e
-report-is run verdict (came.Lost lost) event e =
-    reported run verdict (Lost (lost_status lost)) event (record { suits = tt; other = tt }) e
+pub report-is : (run : ℕ) (tested : Tested) (s : Sent) (event : Event) → report_event s ≡ Ok event →
+    IsOfReport run tested event
+report-is run tested (came.Answered r) event e =
+    noted-is run tested (r.status == status_number status.Ok) r.status event e
+report-is run tested (came.Lost lost) event e =
+    reported run tested (Lost (lost_status lost)) event (record { suits = tt; other = tt }) e
 
 run-suits : (run : ℕ) (said : runner.Ran) (event : Event) → run_event said ≡ Ok event → Suits (Some (RunTest run)) event
-run-suits run (answer.Verdict verdict) event e = given (Some (RunTest run)) (Ran verdict) event tt e
+run-suits run (answer.Tested tested) event e = given (Some (RunTest run)) (Ran tested) event tt e
 run-suits run answer.Failed event e = absurd (cc e)
 
 suits-of : (worker : List ℕ) (last : Option Action) (lease : Option LeaseAnswer) (step : Step) (event : Event) →
@@ -76,10 +78,10 @@ suits-of worker (Some (RunTest run)) None step event does e = absurd does
 suits-of worker (Some (RunTest run)) (Some lease) (drew key) event does e = absurd does
 suits-of worker (Some (RunTest run)) (Some lease) (sent t) event does e = absurd does
 suits-of worker (Some (RunTest run)) (Some lease) (ran asked) event does e = run-suits run asked.answer event e
-suits-of worker (Some (SendReport run verdict)) lease (drew key) event does e = absurd does
-suits-of worker (Some (SendReport run verdict)) lease (sent t) event does e =
-    (report-is run verdict (sent_of t.answer) event e).suits
-suits-of worker (Some (SendReport run verdict)) lease (ran asked) event does e = absurd does
+suits-of worker (Some (SendReport run tested)) lease (drew key) event does e = absurd does
+suits-of worker (Some (SendReport run tested)) lease (sent t) event does e =
+    (report-is run tested (sent_of t.answer) event e).suits
+suits-of worker (Some (SendReport run tested)) lease (ran asked) event does e = absurd does
 suits-of worker (Some (Stop end)) lease step event does e = absurd does
 
 -- a step makes what is left to do less

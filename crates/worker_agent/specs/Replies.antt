@@ -73,5 +73,5 @@ report_event (Lost lost) = Ok (event.Lost (lost_status lost))
 
 -- what comes of a test
 abbrev pub run_event : Ran → Result Event WorkFault
-run_event (ran.Verdict verdict) = Ok (event.Ran verdict)
+run_event (ran.Tested tested) = Ok (event.Ran tested)
 run_event ran.Failed = Err RunnerFault

@@ -36,7 +36,7 @@ agent_start runs = record { core = (core_step (core_start runs) event.Begin).cor
 abbrev pub Does : (worker : List ℕ) → Option Action → Option LeaseAnswer → Step → Type 0
 Does worker (Some Draw) lease (drew key) = ⊤
 Does worker (Some (AskLease key)) lease (sent t) = IsTry (lease_request key worker) t
-Does worker (Some (SendReport run verdict)) lease (sent t) = IsTry (report_request run verdict) t
+Does worker (Some (SendReport run tested)) lease (sent t) = IsTry (report_request run tested) t
 Does worker (Some (RunTest run)) (Some lease) (ran asked) =
     (lease.run ≡ run) × (asked.test ≡ lease.test) × (asked.commit ≡ lease.commit)
 Does worker action lease step = ⊥
@@ -44,7 +44,7 @@ Does worker action lease step = ⊥
 -- what comes of a step
 abbrev pub event_of : Option Action → Step → Result Event WorkFault
 event_of (Some (AskLease key)) (sent t) = lease_event (sent_of t.answer)
-event_of (Some (SendReport run verdict)) (sent t) = report_event (sent_of t.answer)
+event_of (Some (SendReport run tested)) (sent t) = report_event (sent_of t.answer)
 event_of (Some (RunTest run)) (ran asked) = run_event asked.answer
 event_of action (drew key) = Ok (event.Drew key)
 event_of action step = Ok event.Begin

@@ -31,7 +31,7 @@ told_last (cut_off x) told = told_exchange x told
 -- the request of an action was put, or a prefix of it
 abbrev pub Tries : (worker : List ℕ) → Option Action → Exchange → Type 0
 Tries worker (Some (AskLease key)) x = IsPut (lease_request key worker) x
-Tries worker (Some (SendReport run verdict)) x = IsPut (report_request run verdict) x
+Tries worker (Some (SendReport run tested)) x = IsPut (report_request run tested) x
 Tries worker action x = ⊥
 
 -- A fault that ends the work in its midst: memory runs out, for a request or for its answer; or the answer is none that

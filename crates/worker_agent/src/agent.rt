@@ -16,8 +16,7 @@ use http_exchange::{Sent, send_once};
 use net_io::Network;
 use std::alloc::Global;
 use std::marker::Model;
-use weight_exact::Verdict;
-use worker_core::{Action, End, Event, WorkerCore};
+use worker_core::{Action, End, Event, Tested, WorkerCore};
 use worker_io::{KeySource, Ran, Runner};
 use worker_wire::{LeaseAnswer, lease_request, report_request};
 
@@ -93,7 +92,7 @@ impl Agent {
             }
             Action::AskLease(key) => self.ask_lease(alloc, network, key, worker),
             Action::RunTest(_) => self.run_test(runner),
-            Action::SendReport(run, verdict) => self.report(alloc, network, run, verdict),
+            Action::SendReport(run, tested) => self.report(alloc, network, run, tested),
             Action::Stop(_) => Ok(()),
         }
     }
@@ -147,9 +146,9 @@ impl Agent {
         alloc: Global,
         network: &mut N,
         run: u32,
-        verdict: Verdict,
+        tested: Tested,
     ) -> Result<(), WorkFault>
-        requires { self.old.core.last ≡ Some (Action.SendReport run verdict) }
+        requires { self.old.core.last ≡ Some (Action.SendReport run tested) }
         ensures says { (worker : List ℕ) (runner : Option (List Asked)) (keys : Option (List Key)) → StepSays worker self.old self.new
             (record { network = N.told network.old; runner = runner; keys = keys })
             (record { network = N.told network.new; runner = runner; keys = keys }) result }
@@ -157,7 +156,7 @@ impl Agent {
         ensures unfailed { IsErrOf result WorkFault.RunnerFault → ⊥ }
         ensures never_falls { N.count network.old ≤ N.count network.new }
     {
-        let request = report_request(alloc, run, verdict)?;
+        let request = report_request(alloc, run, tested)?;
         let sent = send_once(alloc, network, &request)?;
         let event = report_event(&sent)?;
         self.note(event, is_network(&sent));
@@ -174,8 +173,8 @@ impl Agent {
         ensures never_falls { R.count runner.old ≤ R.count runner.new }
     {
         match self.ask_runner(runner) {
-            Ran::Verdict(verdict) => {
-                self.note(Event::Ran(verdict), false);
+            Ran::Tested(tested) => {
+                self.note(Event::Ran(tested), false);
                 Ok(())
             }
             Ran::Failed => Err(WorkFault::RunnerFault),

@@ -46,8 +46,8 @@ impl From<Memory> for WorkFault {
     }
 }
 
-/// Leases runs under a name, runs their tests and reports their verdicts, until the farm has no run to hand out, or so
-/// many leases were taken. A request that is lost is sent again as it was, three times in all. Every connection is
+/// Leases runs under a name, runs their tests and reports what came of them, until the farm has no run to hand out, or
+/// so many leases were taken. A request that is lost is sent again as it was, three times in all. Every connection is
 /// given back to the network.
 pub fn work<N: Network, R: Runner, Q: KeySource>(
     alloc: Global,

@@ -66,15 +66,15 @@ on-way left lost (Some (AskLease key)) Nothing leases spent =
 on-way left lost (Some (AskLease key)) (Lost status) leases spent =
     lost-way left lost (AskLease key) status leases spent refl _
 on-way left lost (Some (AskLease key)) event leases spent = same-way left lost (AskLease key) event leases spent refl
-on-way left lost (Some (RunTest run)) (Ran verdict) leases spent =
+on-way left lost (Some (RunTest run)) (Ran tested) leases spent =
     record { way = record { leases = tt; spent = tt }; counts = omega arith }
 on-way left lost (Some (RunTest run)) event leases spent = same-way left lost (RunTest run) event leases spent refl
-on-way left lost (Some (SendReport run verdict)) Noted leases spent =
-    noted-way left (Some (SendReport run verdict)) refl _ refl
-on-way left lost (Some (SendReport run verdict)) (Lost status) leases spent =
-    lost-way left lost (SendReport run verdict) status leases spent refl _
-on-way left lost (Some (SendReport run verdict)) event leases spent =
-    same-way left lost (SendReport run verdict) event leases spent refl
+on-way left lost (Some (SendReport run tested)) Noted leases spent =
+    noted-way left (Some (SendReport run tested)) refl _ refl
+on-way left lost (Some (SendReport run tested)) (Lost status) leases spent =
+    lost-way left lost (SendReport run tested) status leases spent refl _
+on-way left lost (Some (SendReport run tested)) event leases spent =
+    same-way left lost (SendReport run tested) event leases spent refl
 on-way left lost (Some (Stop end)) event leases spent = same-way left lost (Stop end) event leases spent refl
 
 -- over a list of events

@@ -34,14 +34,14 @@ from left lost (Some (AskLease key)) Nothing = inr ((key, refl), refl)
 from left lost (Some (AskLease key)) (Lost status) =
     lost-from (record { left = left; lost = lost; last = Some (AskLease key) }) (AskLease key) status (inl refl) (inl (key, refl)) _ refl
 from left lost (Some (AskLease key)) event = inl refl
-from left lost (Some (RunTest run)) (Ran verdict) = inr (refl, refl)
+from left lost (Some (RunTest run)) (Ran tested) = inr (refl, refl)
 from left lost (Some (RunTest run)) event = inl refl
-from left lost (Some (SendReport run verdict)) Noted =
-    noted-from (record { left = left; lost = lost; last = Some (SendReport run verdict) }) (run, verdict, refl) _ refl
-from left lost (Some (SendReport run verdict)) (Lost status) =
-    lost-from (record { left = left; lost = lost; last = Some (SendReport run verdict) }) (SendReport run verdict) status
-    (inl refl) (inr (run, verdict, refl)) _ refl
-from left lost (Some (SendReport run verdict)) event = inl refl
+from left lost (Some (SendReport run tested)) Noted =
+    noted-from (record { left = left; lost = lost; last = Some (SendReport run tested) }) (run, tested, refl) _ refl
+from left lost (Some (SendReport run tested)) (Lost status) =
+    lost-from (record { left = left; lost = lost; last = Some (SendReport run tested) }) (SendReport run tested) status
+    (inl refl) (inr (run, tested, refl)) _ refl
+from left lost (Some (SendReport run tested)) event = inl refl
 from left lost (Some (Stop Idle)) event = inl refl
 from left lost (Some (Stop Limit)) event = inl refl
 from left lost (Some (Stop (Peer status))) event = inl refl
@@ -67,11 +67,11 @@ last-from left lost (Some (AskLease key)) (Leased run) = refl
 last-from left lost (Some (AskLease key)) Nothing = refl
 last-from left lost (Some (AskLease key)) (Lost status) = last-lost left lost (AskLease key) status _
 last-from left lost (Some (AskLease key)) event = refl
-last-from left lost (Some (RunTest run)) (Ran verdict) = refl
+last-from left lost (Some (RunTest run)) (Ran tested) = refl
 last-from left lost (Some (RunTest run)) event = refl
-last-from left lost (Some (SendReport run verdict)) Noted = refl
-last-from left lost (Some (SendReport run verdict)) (Lost status) = last-lost left lost (SendReport run verdict) status _
-last-from left lost (Some (SendReport run verdict)) event = refl
+last-from left lost (Some (SendReport run tested)) Noted = refl
+last-from left lost (Some (SendReport run tested)) (Lost status) = last-lost left lost (SendReport run tested) status _
+last-from left lost (Some (SendReport run tested)) event = refl
 last-from left lost (Some (Stop end)) event = refl
 
 pub last-is : (core : Core) (event : Event) → (core_step core event).core.last ≡ Some (core_step core event).action

@@ -15,7 +15,7 @@ use Rattle.worker_core.specs.declared.worker.TheConstants.{MAX_TRIES}
 -- whether a lease was taken whose report isn't noted yet
 abbrev owed : Option Action → ℕ
 owed (Some (RunTest run)) = 1
-owed (Some (SendReport run verdict)) = 1
+owed (Some (SendReport run tested)) = 1
 owed last = 0
 
 lost-owed : (left lost status : ℕ) (request : Action) (b : Bool) →
@@ -37,12 +37,12 @@ step-owed left lost (Some (AskLease key)) Nothing = omega arith
 step-owed left lost (Some (AskLease key)) (Lost status) =
     let few = lost-owed left lost status (AskLease key) (nat_lt (lost + 1) MAX_TRIES) in omega (arith, few)
 step-owed left lost (Some (AskLease key)) event = omega arith
-step-owed left lost (Some (RunTest run)) (Ran verdict) = omega arith
+step-owed left lost (Some (RunTest run)) (Ran tested) = omega arith
 step-owed left lost (Some (RunTest run)) event = omega arith
-step-owed left lost (Some (SendReport run verdict)) Noted = let few = noted-owed left (left == 0) in omega (arith, few)
-step-owed left lost (Some (SendReport run verdict)) (Lost status) =
-    let few = lost-owed left lost status (SendReport run verdict) (nat_lt (lost + 1) MAX_TRIES) in omega (arith, few)
-step-owed left lost (Some (SendReport run verdict)) event = omega arith
+step-owed left lost (Some (SendReport run tested)) Noted = let few = noted-owed left (left == 0) in omega (arith, few)
+step-owed left lost (Some (SendReport run tested)) (Lost status) =
+    let few = lost-owed left lost status (SendReport run tested) (nat_lt (lost + 1) MAX_TRIES) in omega (arith, few)
+step-owed left lost (Some (SendReport run tested)) event = omega arith
 step-owed left lost (Some (Stop end)) event = omega arith
 
 steps-owed : (core : Core) (events : List Event) →
@@ -71,7 +71,7 @@ stays-given_up left lost None event up = absurd (cc up)
 stays-given_up left lost (Some Draw) event up = absurd (cc up)
 stays-given_up left lost (Some (AskLease key)) event up = absurd (cc up)
 stays-given_up left lost (Some (RunTest run)) event up = absurd (cc up)
-stays-given_up left lost (Some (SendReport run verdict)) event up = absurd (cc up)
+stays-given_up left lost (Some (SendReport run tested)) event up = absurd (cc up)
 stays-given_up left lost (Some (Stop end)) event up = up
 
 ever-given_up : (core : Core) (events : List Event) → given_up core.last ≡ true → given_up (core_after core events).last ≡ true
@@ -100,12 +100,14 @@ step-paid left lost (Some (AskLease key)) Nothing kept = omega arith
 step-paid left lost (Some (AskLease key)) (Lost status) kept =
     let same = lost-paid left lost status (AskLease key) (nat_lt (lost + 1) MAX_TRIES) kept in omega (arith, same)
 step-paid left lost (Some (AskLease key)) event kept = omega arith
-step-paid left lost (Some (RunTest run)) (Ran verdict) kept = omega arith
+step-paid left lost (Some (RunTest run)) (Ran tested) kept = omega arith
 step-paid left lost (Some (RunTest run)) event kept = omega arith
-step-paid left lost (Some (SendReport run verdict)) Noted kept = let none = noted-paid left (left == 0) in omega (arith, none)
-step-paid left lost (Some (SendReport run verdict)) (Lost status) kept =
-    let same = lost-paid left lost status (SendReport run verdict) (nat_lt (lost + 1) MAX_TRIES) kept in omega (arith, same)
-step-paid left lost (Some (SendReport run verdict)) event kept = omega arith
+step-paid left lost (Some (SendReport run tested)) Noted kept =
+    let none = noted-paid left (left == 0) in omega (arith, none)
+step-paid left lost (Some (SendReport run tested)) (Lost status) kept =
+    let same = lost-paid left lost status (SendReport run tested) (nat_lt (lost + 1) MAX_TRIES) kept in
+    omega (arith, same)
+step-paid left lost (Some (SendReport run tested)) event kept = omega arith
 step-paid left lost (Some (Stop end)) event kept = omega arith
 
 not-up : (core : Core) (events : List Event) (b : Bool) → given_up core.last ≡ b → given_up (core_after core events).last ≡ false →

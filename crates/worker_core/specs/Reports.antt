@@ -9,7 +9,7 @@ use Rattle.worker_core.specs.declared.event.Event.TheVariants.{Noted}
 
 -- a report is noted where one was sent and the farm said so
 abbrev pub noted_by : Option Action → Event → ℕ
-noted_by (Some (SendReport run verdict)) Noted = 1
+noted_by (Some (SendReport run tested)) Noted = 1
 noted_by last event = 0
 
 -- how many reports are noted over a list of events

@@ -36,9 +36,9 @@ step_after left lost Draw (Drew key) = act left (AskLease key)
 step_after left lost (AskLease key) (Leased run) = act (left - 1) (RunTest run)
 step_after left lost (AskLease key) Nothing = act left (Stop Idle)
 step_after left lost (AskLease key) (Lost status) = lose left lost (AskLease key) status
-step_after left lost (RunTest run) (Ran verdict) = act left (SendReport run verdict)
-step_after left lost (SendReport run verdict) Noted = act left (if left == 0 then Stop Limit else Draw)
-step_after left lost (SendReport run verdict) (Lost status) = lose left lost (SendReport run verdict) status
+step_after left lost (RunTest run) (Ran tested) = act left (SendReport run tested)
+step_after left lost (SendReport run tested) Noted = act left (if left == 0 then Stop Limit else Draw)
+step_after left lost (SendReport run tested) (Lost status) = lose left lost (SendReport run tested) status
 step_after left lost action event = again left lost action
 
 abbrev pub step_from : (left lost : ℕ) → Option Action → Event → Stepped

@@ -1,7 +1,7 @@
 //! What a worker is to do.
 
+use crate::Tested;
 use farm_types::Key;
-use weight_exact::Verdict;
 
 /// What a worker does next.
 #[derive(Clone, Copy, Debug, PartialEq, Eq)]
@@ -12,8 +12,8 @@ pub enum Action {
     AskLease(Key),
     /// To run the test of this run, at the commit that came with the lease.
     RunTest(u32),
-    /// To report this verdict of the run.
-    SendReport(u32, Verdict),
+    /// To report this of the run: a verdict, or that its tree can't be tested.
+    SendReport(u32, Tested),
     /// To do nothing more.
     Stop(End),
 }

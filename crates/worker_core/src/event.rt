@@ -1,7 +1,7 @@
 //! What a worker is told.
 
+use crate::Tested;
 use farm_types::Key;
-use weight_exact::Verdict;
 
 /// What came of the last action.
 #[derive(Clone, Copy, Debug, PartialEq, Eq)]
@@ -14,8 +14,8 @@ pub enum Event {
     Leased(u32),
     /// The farm has no run to hand out now.
     Nothing,
-    /// The test was run, and this is its verdict.
-    Ran(Verdict),
+    /// The test was to be run, and this came of it.
+    Ran(Tested),
     /// The farm has noted the report.
     Noted,
     /// The request was lost, or the farm couldn't serve it. The number is the status that came back, or 0 where no

@@ -10,8 +10,8 @@ ghost use Rattle.worker_core.specs.Steps.{core_after, core_start, core_step};
 
 use crate::{Action, End, Event};
 
-/// Each action has its cause: it was the last one already, or what came of the last one calls for it. So a verdict is
-/// only reported of the run whose test gave it, a worker is idle after it was told that there is no run, and it gives
+/// Each action has its cause: it was the last one already, or what came of the last one calls for it. So what is
+/// reported of a run is what came of its test, a worker is idle after it was told that there is no run, and it gives
 /// up after the last try of a request was lost.
 pub fn actions_have_their_causes()
     ensures { (core : Core) (event : Event) → ComesFrom core event (core_step core event).action }

@@ -1,4 +1,4 @@
-//! What a worker does next: it draws a key, asks the farm for a run, runs the test, reports the verdict, and begins
+//! What a worker does next: it draws a key, asks the farm for a run, runs the test, reports what came of it, and begins
 //! anew, over a network that may lose each request.
 //!
 //! [`WorkerCore`] only decides. Whoever drives it does what an [`Action`] says, and tells it by an [`Event`] what came
@@ -10,8 +10,10 @@
 mod action;
 mod event;
 pub mod laws;
+mod tested;
 mod worker;
 
 pub use action::{Action, End};
 pub use event::Event;
+pub use tested::Tested;
 pub use worker::{MAX_TRIES, WorkerCore};

@@ -64,12 +64,12 @@ impl WorkerCore {
             (Some(Action::AskLease(key)), Event::Lost(status)) => {
                 self.retry(Action::AskLease(key), status)
             }
-            (Some(Action::RunTest(run)), Event::Ran(verdict)) => {
-                self.act(Action::SendReport(run, verdict))
+            (Some(Action::RunTest(run)), Event::Ran(tested)) => {
+                self.act(Action::SendReport(run, tested))
             }
             (Some(Action::SendReport(_, _)), Event::Noted) => self.go_on(),
-            (Some(Action::SendReport(run, verdict)), Event::Lost(status)) => {
-                self.retry(Action::SendReport(run, verdict), status)
+            (Some(Action::SendReport(run, tested)), Event::Lost(status)) => {
+                self.retry(Action::SendReport(run, tested), status)
             }
             (Some(last), _) => last,
         }

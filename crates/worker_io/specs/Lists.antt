@@ -2,14 +2,14 @@
 use Rattle.std.specs.Prelude.{ℕ, ◌+◌, ◌%◌, ◌^◌, List, [], ◌∷◌}
 use Rattle.farm_types.specs.declared.key.Key.{Key}
 use Rattle.link_io.specs.FaultPlan.{PlannedFaults}
-use Rattle.weight_exact.specs.declared.run.Verdict.{Verdict}
+use Rattle.worker_core.specs.declared.tested.Tested.{Tested}
 use Rattle.worker_io.specs.Runs.{Asked, asked}
 use Rattle.worker_io.specs.declared.list_runner.Told.{Told}
 
--- the verdicts that it will give, the calls that are to fail, how often it failed, and what it answered, the newest
+-- what it will say of tests, the calls that are to fail, how often it failed, and what it answered, the newest
 -- first
 pub record RunnerInMemory : Type 0 where
-  pub verdicts : List Verdict
+  pub tested : List Tested
   pub plan : PlannedFaults
   pub count : ℕ
   pub told : List Asked

@@ -2,7 +2,7 @@
 ghost use Rattle.std.specs.Prelude.{◌≡◌, ◌↔◌, ◌⊎◌, ◌∷◌, [], Some};
 ghost use Rattle.fault_types.specs.Counts.{Rose, next_count};
 ghost use Rattle.link_io.specs.FaultPlan.{fresh_plan, NextFails, plan_after_success, plan_after_fault};
-ghost use Rattle.worker_io.specs.Runs.{asked, IfVerdict, OnRunFailed};
+ghost use Rattle.worker_io.specs.Runs.{asked, IfTested, OnRunFailed};
 
 use crate::{Ran, Runner};
 use farm_types::{CommitId, Name};
@@ -10,7 +10,7 @@ use link_io::FaultPlan;
 use std::marker::Model;
 use std::snapshot::Snapshot;
 use told_list::ToldList;
-use weight_exact::Verdict;
+use worker_core::Tested;
 
 /// What was asked and answered.
 #[derive(Drop)]
@@ -34,14 +34,14 @@ impl Told {
     }
 }
 
-/// A runner that answers by a list of verdicts, whatever it is asked, and tells all that it did. It fails at the calls
-/// that are listed, and at each call past its verdicts.
+/// A runner that answers by a list, whatever it is asked, and tells all that it did. It fails at the calls that are
+/// listed, and at each call past the end of its list.
 ///
-/// Contracts see it as the verdicts that it will give, the plan of the calls that are to fail, its count of faults, and
+/// Contracts see it as what it will say of tests, the plan of the calls that are to fail, its count of faults, and
 /// what it told.
 #[derive(Drop)]
 pub struct ListRunner {
-    verdicts: Vec<Verdict>,
+    tested: Vec<Tested>,
     plan: FaultPlan,
     faults: u64,
     past: ToldList<Told>,
@@ -54,7 +54,7 @@ impl Model for ListRunner {
     ghost Value = { RunnerInMemory };
 
     ghost view = { λ r. record {
-      verdicts = r.verdicts.items;
+      tested = r.tested.items;
       plan = r.plan;
       count = r.faults;
       told = map asked_of r.past;
@@ -62,18 +62,18 @@ impl Model for ListRunner {
 }
 
 impl ListRunner {
-    /// A runner that gives these verdicts in their order. The calls whose numbers are in `fails` will fail, counted
-    /// from 1; they use up no verdict.
-    pub fn of(verdicts: Vec<Verdict>, fails: Vec<u64>) -> ListRunner
+    /// A runner that says these of tests, in their order. The calls whose numbers are in `fails` will fail, counted
+    /// from 1; they use up none of them.
+    pub fn of(tested: Vec<Tested>, fails: Vec<u64>) -> ListRunner
         ensures { result ≡ record {
-          verdicts = verdicts.items;
+          tested = tested.items;
           plan = fresh_plan fails.items;
           count = 0;
           told = [];
         } }
     {
         ListRunner {
-            verdicts,
+            tested,
             plan: FaultPlan::of(fails),
             faults: 0,
             past: ToldList::new(),
@@ -91,16 +91,16 @@ impl Runner for ListRunner {
     }
 
     fn run(&mut self, test: &Name, commit: &CommitId) -> Ran
-        // A run gives the next verdict, where the plan lets it and there is one.
-        ensures verdict { IfVerdict result (λ v. self.old.verdicts ≡ v ∷ self.new.verdicts) }
-        ensures passes { IfVerdict result (λ v. self.new ≡ record self.old {
-          verdicts = self.new.verdicts;
+        // A run says the next one, where the plan lets it and there is one.
+        ensures tested { IfTested result (λ t. self.old.tested ≡ t ∷ self.new.tested) }
+        ensures passes { IfTested result (λ _. self.new ≡ record self.old {
+          tested = self.new.tested;
           plan = plan_after_success self.old.plan;
           told = self.new.told;
         }) }
 
-        // Any other fails, and then it uses up no verdict.
-        ensures fails { (result ≡ Ran.Failed) ↔ (NextFails self.old.plan ⊎ (self.old.verdicts ≡ [])) }
+        // Any other fails, and then it uses up none.
+        ensures fails { (result ≡ Ran.Failed) ↔ (NextFails self.old.plan ⊎ (self.old.tested ≡ [])) }
         ensures failed { OnRunFailed result (self.new ≡ record self.old {
           plan = self.new.plan;
           count = next_count self.old.count;
@@ -114,12 +114,12 @@ impl Runner for ListRunner {
         ensures told { self.new.told ≡ asked test.now commit.now result ∷ self.old.told }
     {
         let fails = self.plan.next_fails();
-        if fails || self.verdicts.is_empty() {
+        if fails || self.tested.is_empty() {
             self.faults = self.faults.saturating_add(1);
             self.past.tell(&Told::of(test, commit, Ran::Failed));
             return Ran::Failed;
         }
-        let ran = Ran::Verdict(self.verdicts.remove(0));
+        let ran = Ran::Tested(self.tested.remove(0));
         self.past.tell(&Told::of(test, commit, ran));
         ran
     }

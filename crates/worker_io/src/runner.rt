@@ -1,18 +1,18 @@
-//! Where verdicts come from.
+//! Who runs tests.
 ghost use Rattle.std.specs.Prelude.{◌≡◌, ◌≤◌, ℕ, List, Option};
 ghost use Rattle.fault_types.specs.Counts.{Rose};
 ghost use Rattle.link_io.specs.Telling.{add_told};
 ghost use Rattle.worker_io.specs.Runs.{Asked, asked, OnRunFailed};
 
 use farm_types::{CommitId, Name};
-use weight_exact::Verdict;
+use worker_core::Tested;
 
 /// What a run answers.
 #[derive(Clone, Copy, Debug, PartialEq, Eq)]
 pub enum Ran {
-    /// The test ran to its end, and passed or failed.
-    Verdict(Verdict),
-    /// The test said nothing, and the count of faults rose.
+    /// The test passed or failed, or the tree can't be tested.
+    Tested(Tested),
+    /// Nothing was said, and the count of faults rose.
     Failed,
 }
 

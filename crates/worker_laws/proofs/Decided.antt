@@ -8,8 +8,8 @@ use Rattle.farm_rules.specs.declared.orders.NoOrder.TheVariants as none
 use Rattle.farm_types.specs.declared.key.Key.{Key}
 use Rattle.farm_types.specs.declared.moment.Moment.{Moment}
 use Rattle.weight_exact.specs.declared.run.Verdict.{Verdict}
-use Rattle.farm_entry.specs.Decision.{add_at, add_opening, asked_before, cancel_decision, decide, fate_of, full_decision, keyed_decision, known_decision, lease_decision, moment_used, or_else, own_decision, page_decision, refuse_opening, repeat_or_clash, report_decision, revert_decision, shape_decision}
-use Rattle.farm_entry.specs.History.{opening_numbered, place_of_key, place_of_report, report_in}
+use Rattle.farm_entry.specs.Decision.{add_at, add_opening, asked_before, cancel_decision, decide, fate_of, full_decision, keyed_decision, known_decision, lease_decision, moment_used, or_else, own_decision, page_decision, refuse_opening, repeat_or_clash, report_decision, revert_decision, shape_decision, skip_decision, skip_fate_of}
+use Rattle.farm_entry.specs.History.{opening_numbered, place_of_key, place_of_report, report_in, skip_in}
 use Rattle.farm_entry.specs.Standing.{is_active, standing}
 use Rattle.farm_entry.specs.declared.command.Command.{Command}
 use Rattle.farm_entry.specs.declared.command.Command.TheVariants as command
@@ -20,6 +20,7 @@ use Rattle.farm_entry.specs.declared.entry.What.TheVariants.{Cancelled}
 use Rattle.farm_entry.specs.declared.lease.DueRun.{DueRun}
 use Rattle.farm_entry.specs.declared.lease.LeasedRun.{LeasedRun}
 use Rattle.farm_entry.specs.declared.lease.ReportedRun.{ReportedRun}
+use Rattle.farm_entry.specs.declared.lease.SkippedRun.{SkippedRun}
 use Rattle.farm_entry.specs.declared.opening.Opening.{Opening}
 use Rattle.farm_entry.specs.declared.refusal.OpenFault.{OpenFault}
 use Rattle.farm_entry.specs.declared.refusal.Refusal.TheVariants.{Full, KeyClash, SearchEnded, TooManySearches}
@@ -29,7 +30,9 @@ use Rattle.worker_laws.specs.World.{replied}
 -- what is shown is no lease, and what is added reports nothing but what the command reports
 abbrev pub IsPlain : Command → Decision → Type 0
 IsPlain q (Show r) = lease_in_answer (replied r) ≡ None
-IsPlain q (New e) = (r : ReportedRun) → report_in e.what ≡ Some r → q ≡ command.Report r.run r.verdict
+IsPlain q (New e) =
+    ((r : ReportedRun) → report_in e.what ≡ Some r → q ≡ command.Report r.run r.verdict)
+    × ((s : SkippedRun) → skip_in e.what ≡ Some s → q ≡ command.Skip s.run)
 IsPlain q _ = Unit {0}
 
 abbrev IsPlainIn : Command → Option Decision → Type 0
@@ -41,32 +44,45 @@ either-plain q true x y first second = first
 either-plain q false x y first second = second
 
 opening-plain : (q : Command) (m : Moment) (made : Result Opening OpenFault) → IsPlain q (add_opening m made)
-opening-plain q m (Ok o) = λ r is. absurd (none-some r is)
+opening-plain q m (Ok o) = (λ r is. absurd (none-some r is), λ s is. absurd (none-some s is))
 opening-plain q m (Err f) = tt
 
 lease-plain : (q : Command) (H : List Entry) (key : Key) (worker : List ℕ) (m : Moment) (due : Option DueRun) →
     IsPlain q (lease_decision H key worker m due)
 lease-plain q H key worker m None = tt
-lease-plain q H key worker m (Some d) = λ r is. absurd (none-some r is)
+lease-plain q H key worker m (Some d) = (λ r is. absurd (none-some r is), λ s is. absurd (none-some s is))
 
 report-plain : (H : List Entry) (run : ℕ) (verdict : Verdict) (m : Moment) (l : Option LeasedRun) →
     IsPlain (command.Report run verdict) (report_decision H run verdict m l)
 report-plain H run verdict m None = tt
-report-plain H run verdict m (Some l) = λ r is.
-    let fate = fate_of H l verdict (opening_numbered H l.search) in
-    let same : record { run = run; verdict = verdict; fate = fate } ≡ r = cc in
-    ap (λ (x : ReportedRun). command.Report x.run x.verdict) same
+report-plain H run verdict m (Some l) = (
+  λ r is.
+      let fate = fate_of H l verdict (opening_numbered H l.search) in
+      let same : record { run = run; verdict = verdict; fate = fate } ≡ r = cc in
+      ap (λ (x : ReportedRun). command.Report x.run x.verdict) same,
+  λ s is. absurd (none-some s is),
+)
+
+skip-plain : (H : List Entry) (run : ℕ) (m : Moment) (l : Option LeasedRun) →
+    IsPlain (command.Skip run) (skip_decision H run m l)
+skip-plain H run m None = tt
+skip-plain H run m (Some l) = (
+  λ r is. absurd (none-some r is),
+  λ s is.
+      let fate = skip_fate_of H l (opening_numbered H l.search) in
+      let same : record { run = run; fate = fate } ≡ s = cc in ap (λ (x : SkippedRun). command.Skip x.run) same,
+)
 
 cancel-plain : (q : Command) (H : List Entry) (key : Key) (search : ℕ) (m : Moment) (o : Option Opening) →
     IsPlain q (cancel_decision H key search m o)
 cancel-plain q H key search m None = tt
 cancel-plain q H key search m (Some o) =
     either-plain q (is_active (standing H o)) (add_at m (Cancelled key search)) (Refuse (SearchEnded (standing H o)))
-    (λ r is. absurd (none-some r is)) tt
+    (λ r is. absurd (none-some r is), λ s is. absurd (none-some s is)) tt
 
 revert-plain : (q : Command) (key : Key) (agent : List ℕ) (m : Moment) (next : Result Draft NoOrder) →
     IsPlain q (revert_decision key agent m next)
-revert-plain q key agent m (Ok d) = λ r is. absurd (none-some r is)
+revert-plain q key agent m (Ok d) = (λ r is. absurd (none-some r is), λ s is. absurd (none-some s is))
 revert-plain q key agent m (Err none.NoRevert) = tt
 revert-plain q key agent m (Err (none.DailyLimit day count)) = tt
 
@@ -79,6 +95,7 @@ own-plain H (command.Open ask) m =
     either-plain (command.Open ask) _ (Refuse TooManySearches) (add_opening m _) tt (opening-plain (command.Open ask) m _)
 own-plain H (command.Lease key worker) m = lease-plain _ H key worker m _
 own-plain H (command.Report run verdict) m = report-plain H run verdict m _
+own-plain H (command.Skip run) m = skip-plain H run m _
 own-plain H (command.Cancel key search) m = cancel-plain _ H key search m _
 own-plain H (command.TakeRevert key agent) m = revert-plain _ key agent m _
 own-plain H (command.ShowSearch search) m = page-plain _ H search _
@@ -93,6 +110,7 @@ shape-plain : (q : Command) → IsPlainIn q (shape_decision q)
 shape-plain (command.Open ask) = refused-plain (command.Open ask) _
 shape-plain (command.Lease key worker) = tt
 shape-plain (command.Report run verdict) = tt
+shape-plain (command.Skip run) = tt
 shape-plain (command.Cancel key search) = tt
 shape-plain (command.TakeRevert key agent) = tt
 shape-plain (command.ShowSearch search) = tt
@@ -116,6 +134,7 @@ known-plain H (command.Open ask) = keyed-plain H (command.Open ask) (Some ask.ke
 known-plain H (command.Lease key worker) = keyed-plain H (command.Lease key worker) (Some key)
 known-plain H (command.Report run verdict) =
     placed-plain (command.Report run verdict) Repeat (λ place. tt) (place_of_report H run)
+known-plain H (command.Skip run) = placed-plain (command.Skip run) Repeat (λ place. tt) (place_of_report H run)
 known-plain H (command.Cancel key search) = keyed-plain H (command.Cancel key search) (Some key)
 known-plain H (command.TakeRevert key agent) = keyed-plain H (command.TakeRevert key agent) (Some key)
 known-plain H (command.ShowSearch search) = keyed-plain H (command.ShowSearch search) None

@@ -6,7 +6,7 @@ use Rattle.std.proofs.lemmas.List.Elements.{All-append, All-cons, All-nil, All-w
 use Rattle.std.proofs.lemmas.Option.{none-some, same_Some}
 use Rattle.farm_types.specs.declared.moment.Moment.{Moment}
 use Rattle.farm_entry.specs.Decision.{decide}
-use Rattle.farm_entry.specs.History.{report_in, reports}
+use Rattle.farm_entry.specs.History.{report_in, reports, skip_in, skips}
 use Rattle.farm_entry.specs.Legal.{IsLegal}
 use Rattle.farm_entry.specs.Playing.{after}
 use Rattle.farm_entry.specs.Reply.{reply_at}
@@ -16,9 +16,11 @@ use Rattle.farm_entry.specs.declared.decision.Decision.{Decision}
 use Rattle.farm_entry.specs.declared.decision.Decision.TheVariants.{New, Refuse, Repeat, Show}
 use Rattle.farm_entry.specs.declared.entry.Entry.{Entry}
 use Rattle.farm_entry.specs.declared.lease.ReportedRun.{ReportedRun}
+use Rattle.farm_entry.specs.declared.lease.SkippedRun.{SkippedRun}
 use Rattle.farm_entry.specs.declared.reply.Reply.{Reply}
-use Rattle.farm_entry.proofs.Growing.{reports-grow}
+use Rattle.farm_entry.proofs.Growing.{reports-grow, skips-grow}
 use Rattle.decision_laws.proofs.Played.{decided-legal}
+use Rattle.worker_core.specs.declared.tested.Tested.TheVariants.{Untestable, Verdict}
 use Rattle.worker_laws.specs.Given.{IsGiven}
 use Rattle.worker_laws.specs.Happenings.{Reach, answer_to, answered, decides, farm_is_asked, farm_takes, is_report, nothing_appended, nothing_sent, said_of}
 use Rattle.worker_laws.specs.Workers.{lease_in_answer}
@@ -76,15 +78,25 @@ after-sound world q (New e) sound legal plain backed =
     let H = world.history in
     let G = H ++ e ∷ [] in
     let made = world.made in
-    let P : ReportedRun → Type 0 = λ r. IsGiven G made r.run r.verdict in
+    let P : ReportedRun → Type 0 = λ r. IsGiven G made r.run (Verdict r.verdict) in
     let old : All P (reports H) =
-    All-weaker (λ (r : ReportedRun). IsGiven H made r.run r.verdict) P (λ r is. given-stays H e made r.run r.verdict is)
-    (reports H) sound.reported in
+    All-weaker (λ (r : ReportedRun). IsGiven H made r.run (Verdict r.verdict)) P
+    (λ r is. given-stays H e made r.run (Verdict r.verdict) is) (reports H) sound.reported in
     let new : All P (cons_option (report_in e.what) []) =
-    optional P (report_in e.what) (λ r is. given-stays H e made r.run r.verdict (backed r.run r.verdict (plain r is))) in
+    optional P (report_in e.what)
+    (λ r is. given-stays H e made r.run (Verdict r.verdict) (backed r.run (Verdict r.verdict) (plain.0 r is))) in
+    let S : SkippedRun → Type 0 = λ s. IsGiven G made s.run Untestable in
+    let old_said : All S (skips H) =
+    All-weaker (λ (s : SkippedRun). IsGiven H made s.run Untestable) S
+    (λ s is. given-stays H e made s.run Untestable is) (skips H) sound.said in
+    let new_said : All S (cons_option (skip_in e.what) []) =
+    optional S (skip_in e.what)
+    (λ s is. given-stays H e made s.run Untestable (backed s.run Untestable (plain.1 s is))) in
     record {
       legal = legal;
       reported = subst (All P) (sym (reports-grow H e)) (All-append P (reports H) (cons_option (report_in e.what) []) old new);
+      said = subst (All S) (sym (skips-grow H e))
+          (All-append S (skips H) (cons_option (skip_in e.what) []) old_said new_said);
       requested =
           All-weaker (λ (r : Request). IsBacked H made r.command) (λ (r : Request). IsBacked G made r.command)
           (λ r is. backed-stays H e made r.command is) world.requests sound.requested;
@@ -106,6 +118,7 @@ decides-sound world sender q d answered sound legal plain backed =
     record {
       legal = next.legal;
       reported = next.reported;
+      said = next.said;
       requested = next.requested;
       answered = All-append (λ (a : Answer). IsTruthful G a.said) world.answers (answer_to sender (said_of world.history d)) next.answered
           (sent-true G sender (said_of world.history d) (λ said is. said-true world.history q d said legal plain is));
@@ -131,8 +144,10 @@ takes-sound world place m reach sound = takes-at world place m reach sound (slic
 
 -- a command that isn't a report has nothing to be backed
 unreported : (H : List Entry) (made : List Made) (q : Command) → is_report q ≡ false → IsBacked H made q
-unreported H made q other run v is =
+unreported H made q other run (Verdict v) is =
     let both : is_report (command.Report run v) ≡ false = ap is_report (sym is) ∙ other in absurd cc
+unreported H made q other run Untestable is =
+    let both : is_report (command.Skip run) ≡ false = ap is_report (sym is) ∙ other in absurd cc
 
 asked-at : (world : World) (sender : ℕ) (q : Command) (m : Moment) (reach : Reach) → IsSound world → (b : Bool) →
     is_report q ≡ b → IsSound (if b then world else decides world sender (decide world.history q m) reach)

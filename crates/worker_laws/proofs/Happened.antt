@@ -4,7 +4,9 @@ use Rattle.std.proofs.lemmas.List.Elements.{All-map, All-nil}
 use Rattle.farm_types.specs.declared.moment.Moment.{Moment}
 use Rattle.farm_entry.specs.declared.entry.What.TheVariants.{Founded}
 use Rattle.farm_entry.specs.declared.lease.ReportedRun.{ReportedRun}
+use Rattle.farm_entry.specs.declared.lease.SkippedRun.{SkippedRun}
 use Rattle.farm_entry.specs.declared.settings.Settings.{Settings}
+use Rattle.worker_core.specs.declared.tested.Tested.TheVariants.{Untestable, Verdict}
 use Rattle.worker_laws.specs.Given.{IsGiven}
 use Rattle.worker_laws.specs.Happenings.{Happening, all_happen, begins, draws, farm_starts_anew, happens, is_asked, loses, receives, runner_answers, starts_anew, takes}
 use Rattle.worker_laws.specs.Workers.{crew, fresh}
@@ -18,7 +20,8 @@ founded-sound settings at starts =
     let H = record { at = at; what = Founded settings } ∷ [] in
     record {
       legal = (tt, tt);
-      reported = All-nil (λ (r : ReportedRun). IsGiven H [] r.run r.verdict);
+      reported = All-nil (λ (r : ReportedRun). IsGiven H [] r.run (Verdict r.verdict));
+      said = All-nil (λ (s : SkippedRun). IsGiven H [] s.run Untestable);
       requested = All-nil (λ (r : Request). IsBacked H [] r.command);
       answered = All-nil (λ (a : Answer). IsTruthful H a.said);
       staffed = All-map (λ (w : Worker). IsHonest H [] w) (λ (start : List ℕ × ℕ). fresh start.0 start.1) starts
@@ -30,7 +33,7 @@ happens-sound world (begins worker) sound = begins-sound world worker sound
 happens-sound world (draws worker key) sound = draws-sound world worker key sound
 happens-sound world (loses worker status) sound = loses-sound world worker status sound
 happens-sound world (receives worker answer) sound = gets-sound world worker answer sound
-happens-sound world (runner_answers worker verdict) sound = says-sound world worker verdict sound
+happens-sound world (runner_answers worker tested) sound = says-sound world worker tested sound
 happens-sound world (starts_anew worker runs) sound = restarts-sound world worker runs sound
 happens-sound world (takes request m reach) sound = takes-sound world request m reach sound
 happens-sound world (is_asked sender q m reach) sound = is_asked-sound world sender q m reach sound

@@ -6,16 +6,18 @@ use Rattle.std.proofs.lemmas.List.Elements.{Contains-append_left, filter_map-app
 use Rattle.std.proofs.lemmas.List.Folds.{find-append}
 use Rattle.std.proofs.lemmas.Option.{none-some, same_Some}
 use Rattle.weight_exact.specs.declared.run.Verdict.{Verdict}
+use Rattle.worker_core.specs.declared.tested.Tested.{Tested}
 use Rattle.farm_types.specs.declared.key.Key.{Key}
 use Rattle.farm_types.specs.declared.stage.Stage.{Stage}
 use Rattle.farm_entry.specs.History.{lease_in, lease_of, opening_in, opening_numbered, openings}
 use Rattle.farm_entry.specs.Legal.{IsLegal}
-use Rattle.farm_entry.specs.Reply.{reply_at, reply_to, reply_to_report}
+use Rattle.farm_entry.specs.Reply.{reply_at, reply_to, reply_to_report, reply_to_skip}
 use Rattle.farm_entry.specs.Setup.{commit_of}
 use Rattle.farm_entry.specs.declared.entry.Entry.{Entry}
 use Rattle.farm_entry.specs.declared.entry.Fate.{Fate}
+use Rattle.farm_entry.specs.declared.entry.SkipFate.{SkipFate}
 use Rattle.farm_entry.specs.declared.entry.What.{What}
-use Rattle.farm_entry.specs.declared.entry.What.TheVariants.{Founded, Opened, Leased, Reported, Cancelled, Ordered}
+use Rattle.farm_entry.specs.declared.entry.What.TheVariants.{Founded, Opened, Leased, Reported, Skipped, Cancelled, Ordered}
 use Rattle.farm_entry.specs.declared.lease.LeasedRun.{LeasedRun}
 use Rattle.farm_entry.specs.declared.opening.Opening.{Opening}
 use Rattle.farm_entry.specs.declared.reply.Reply.{Reply}
@@ -46,9 +48,9 @@ true-stays H e a is = record {
   commit = is.commit;
 }
 
-pub given-stays : (H : List Entry) (e : Entry) (made : List Made) (run : ℕ) (v : Verdict) → IsGiven H made run v →
-    IsGiven (H ++ e ∷ []) made run v
-given-stays H e made run v is = record {
+pub given-stays : (H : List Entry) (e : Entry) (made : List Made) (run : ℕ) (t : Tested) → IsGiven H made run t →
+    IsGiven (H ++ e ∷ []) made run t
+given-stays H e made run t is = record {
   lease = is.lease;
   leased = lease_of-stays H e run is.lease is.leased;
   search = is.search;
@@ -56,9 +58,9 @@ given-stays H e made run v is = record {
   given = is.given;
 }
 
-pub given-more : (H : List Entry) (made more : List Made) (run : ℕ) (v : Verdict) → IsGiven H made run v →
-    IsGiven H (made ++ more) run v
-given-more H made more run v is = record {
+pub given-more : (H : List Entry) (made more : List Made) (run : ℕ) (t : Tested) → IsGiven H made run t →
+    IsGiven H (made ++ more) run t
+given-more H made more run t is = record {
   lease = is.lease;
   leased = is.leased;
   search = is.search;
@@ -95,6 +97,11 @@ report-untold : (H : List Entry) (v : Verdict) (fate : Fate) (l : Option LeasedR
 report-untold H v _ None = refl
 report-untold H v _ (Some l) = mapped-untold _ (λ o. refl) (opening_numbered H l.search)
 
+skip-untold : (H : List Entry) (fate : SkipFate) (l : Option LeasedRun) →
+    lease_in_reply (option_and_then (reply_to_skip H fate) l) ≡ None
+skip-untold H _ None = refl
+skip-untold H _ (Some l) = mapped-untold _ (λ o. refl) (opening_numbered H l.search)
+
 -- the lease that an entry records, as its reply tells it by the history up to it
 record IsTold (G : List Entry) (w : What) (a : LeaseAnswer) : Type 0 where
   lease : LeasedRun
@@ -129,6 +136,7 @@ entry-told G (Opened o) a is = absurd (none-some a is)
 entry-told G (Leased key worker run s stage position deadline) a is =
     lease-told G key worker run s stage position deadline (opening_numbered G s) refl a is
 entry-told G (Reported run v fate) a is = absurd (none-some a (sym (report-untold G v fate (lease_of G run)) ∙ is))
+entry-told G (Skipped run fate) a is = absurd (none-some a (sym (skip-untold G fate (lease_of G run)) ∙ is))
 entry-told G (Cancelled key s) a is = absurd (none-some a is)
 entry-told G (Ordered key agent order commit s day) a is = absurd (none-some a is)
 

@@ -3,10 +3,9 @@ use Rattle.std.proofs.Common.{◌≡◌, ◌==◌, ℕ, Bool, true, false, not, 
 use Rattle.std.proofs.lemmas.List.Elements.{All-append, All-cons, All-nil, All-set, Contains-append_right}
 use Rattle.std.proofs.lemmas.Option.{none-some, same_Some}
 use Rattle.farm_laws.proofs.Lists.{contains-head}
-use Rattle.weight_exact.specs.declared.run.Verdict.{Verdict}
 use Rattle.farm_types.specs.declared.key.Key.{Key}
 use Rattle.farm_entry.specs.Setup.{commit_of}
-use Rattle.farm_entry.specs.declared.command.Command.TheVariants.{Lease, Report}
+use Rattle.farm_entry.specs.declared.command.Command.TheVariants.{Lease}
 use Rattle.farm_entry.specs.declared.entry.Entry.{Entry}
 use Rattle.farm_entry.specs.declared.refusal.Refusal.TheVariants.{NoRun}
 use Rattle.farm_entry.specs.declared.reply.Reply.TheVariants as reply
@@ -17,18 +16,21 @@ use Rattle.worker_core.specs.declared.action.Action.{Action}
 use Rattle.worker_core.specs.declared.action.Action.TheVariants.{Draw, AskLease, RunTest, SendReport, Stop}
 use Rattle.worker_core.specs.declared.event.Event.{Event}
 use Rattle.worker_core.specs.declared.event.Event.TheVariants.{Begin, Drew, Leased, Ran, Lost}
+use Rattle.worker_core.specs.declared.tested.Tested.{Tested}
+use Rattle.worker_core.specs.declared.tested.Tested.TheVariants.{Untestable, Verdict}
 use Rattle.worker_core.proofs.Origins.{last-is, step-origin}
 use Rattle.worker_laws.specs.Given.{IsGiven}
-use Rattle.worker_laws.specs.Workers.{event_of, fresh, gets, hears, lease_after, lease_in_answer, request_of, restarts, runner_says, runs_test, steps, told, worker_steps}
+use Rattle.worker_laws.specs.Workers.{event_of, fresh, gets, hears, lease_after, lease_in_answer, report_of, request_of, restarts, runner_says, runs_test, steps, told, worker_steps}
 use Rattle.worker_laws.specs.World.{Answer, LeaseAnswer, Made, Request, Said, Worker, World, refused, replied}
 use Rattle.worker_laws.proofs.Leases.{IsTrueLease}
 use Rattle.worker_laws.proofs.Sound.{IsBacked, IsHonest, IsSound, IsTruthful, got, made-more}
 
--- An event that may reach a worker: a lease comes with its answer, which is so, and a verdict is what a runner said.
+-- An event that may reach a worker: a lease comes with its answer, which is so, and what came of a test is
+-- what a runner said.
 pub record IsFair (H : List Entry) (made : List Made) (w : Worker) (event : Event) (came : Option LeaseAnswer) : Type 0 where
   pub so : (a : LeaseAnswer) → came ≡ Some a → IsTrueLease H a
   pub leased : (run : ℕ) → event ≡ Leased run → (a : LeaseAnswer) × (came ≡ Some a) × (a.run ≡ run)
-  pub ran : (run : ℕ) (v : Verdict) → w.core.last ≡ Some (RunTest run) → event ≡ Ran v → IsGiven H made run v
+  pub ran : (run : ℕ) (t : Tested) → w.core.last ≡ Some (RunTest run) → event ≡ Ran t → IsGiven H made run t
 
 -- The worker after a step.
 
@@ -58,11 +60,12 @@ told-runs H made w event came honest fair after run is from =
     from
 
 told-reports : (H : List Entry) (made : List Made) (w : Worker) (event : Event) (came : Option LeaseAnswer) → IsHonest H made w →
-    IsFair H made w event came → (run : ℕ) (v : Verdict) → ComesFrom w.core event (SendReport run v) → IsGiven H made run v
-told-reports H made w event came honest fair run v from =
+    IsFair H made w event came → (run : ℕ) (t : Tested) → ComesFrom w.core event (SendReport run t) →
+    IsGiven H made run t
+told-reports H made w event came honest fair run t from =
     ⊎_elim
-    (λ (same : w.core.last ≡ Some (SendReport run v)). honest.reports run v same)
-    (λ (ran : (w.core.last ≡ Some (RunTest run)) × (event ≡ Ran v)). fair.ran run v ran.0 ran.1)
+    (λ (same : w.core.last ≡ Some (SendReport run t)). honest.reports run t same)
+    (λ (ran : (w.core.last ≡ Some (RunTest run)) × (event ≡ Ran t)). fair.ran run t ran.0 ran.1)
     from
 
 -- the cause of the action that a worker did last
@@ -78,28 +81,35 @@ told-honest H made w event came honest fair =
     record {
       lease = λ a is. either-lease (is_test next.last && not (is_test w.core.last)) came w.lease a (IsTrueLease H a) (fair.so a) (honest.lease a) is;
       runs = λ run last. told-runs H made w event came honest fair next.last run last (cause-of w.core event (RunTest run) last);
-      reports = λ run v last. told-reports H made w event came honest fair run v (cause-of w.core event (SendReport run v) last);
+      reports = λ run t last.
+          told-reports H made w event came honest fair run t (cause-of w.core event (SendReport run t) last);
     }
 
 -- What it sends.
 
-command-backed : (H : List Entry) (made : List Made) (run : ℕ) (v : Verdict) → IsGiven H made run v →
-    IsBacked H made (Report run v)
-command-backed H made run v given other u same =
+command-backed : (H : List Entry) (made : List Made) (run : ℕ) (t : Tested) → IsGiven H made run t →
+    IsBacked H made (report_of run t)
+command-backed H made run (Verdict v) given other (Verdict u) same =
     let runs : run ≡ other = cc in
     let verdicts : v ≡ u = cc in
-    subst (λ (x : ℕ). IsGiven H made x u) runs (subst (λ (x : Verdict). IsGiven H made run x) verdicts given)
+    subst (λ (x : ℕ). IsGiven H made x (Verdict u)) runs
+    (subst (λ (x : _). IsGiven H made run (Verdict x)) verdicts given)
+command-backed H made run (Verdict v) given other Untestable same = absurd cc
+command-backed H made run Untestable given other (Verdict u) same = absurd cc
+command-backed H made run Untestable given other Untestable same =
+    let runs : run ≡ other = cc in subst (λ (x : ℕ). IsGiven H made x Untestable) runs given
 
 lease-backed : (H : List Entry) (made : List Made) (key : Key) (name : List ℕ) → IsBacked H made (Lease key name)
-lease-backed H made key name run v same = absurd cc
+lease-backed H made key name run (Verdict v) same = absurd cc
+lease-backed H made key name run Untestable same = absurd cc
 
 sent-backed : (H : List Entry) (made : List Made) (worker : ℕ) (name : List ℕ) (action : Action) →
-    ((run : ℕ) (v : Verdict) → action ≡ SendReport run v → IsGiven H made run v) →
+    ((run : ℕ) (t : Tested) → action ≡ SendReport run t → IsGiven H made run t) →
     All (λ (r : Request). IsBacked H made r.command) (request_of worker name action)
 sent-backed H made worker name (AskLease key) given =
     All-cons (λ (r : Request). IsBacked H made r.command) _ [] (lease-backed H made key name) (All-nil (λ (r : Request). IsBacked H made r.command))
-sent-backed H made worker name (SendReport run v) given =
-    All-cons (λ (r : Request). IsBacked H made r.command) _ [] (command-backed H made run v (given run v refl))
+sent-backed H made worker name (SendReport run t) given =
+    All-cons (λ (r : Request). IsBacked H made r.command) _ [] (command-backed H made run t (given run t refl))
     (All-nil (λ (r : Request). IsBacked H made r.command))
 sent-backed H made worker name Draw given = All-nil (λ (r : Request). IsBacked H made r.command)
 sent-backed H made worker name (RunTest run) given = All-nil (λ (r : Request). IsBacked H made r.command)
@@ -118,10 +128,11 @@ steps-sound world worker event came w sound there fair =
     record {
       legal = sound.legal;
       reported = sound.reported;
+      said = sound.said;
       requested = All-append (λ (r : Request). IsBacked H made r.command) world.requests
           (request_of worker w.name (core_step w.core event).action) sound.requested
           (sent-backed H made worker w.name (core_step w.core event).action
-          (λ run v is. next.reports run v (last-is w.core event ∙ ap (λ (x : Action). Some x) is)));
+          (λ run t is. next.reports run t (last-is w.core event ∙ ap (λ (x : Action). Some x) is)));
       answered = sound.answered;
       staffed = All-set (λ (x : Worker). IsHonest H made x) world.workers worker (told w event came) next sound.staffed;
     }
@@ -133,26 +144,26 @@ step-sound world worker event came sound None there fair = sound
 step-sound world worker event came sound (Some w) there fair =
     steps-sound world worker event came w sound there (fair w refl)
 
--- an event that brings no lease and no verdict
+-- an event that brings no lease, and nothing that a runner said
 pub plain-sound : (world : World) (worker : ℕ) (event : Event) → IsSound world → ((run : ℕ) → event ≡ Leased run → ⊥) →
-    ((v : Verdict) → event ≡ Ran v → ⊥) → IsSound (worker_steps world worker event None)
-plain-sound world worker event sound no_lease no_verdict =
+    ((t : Tested) → event ≡ Ran t → ⊥) → IsSound (worker_steps world worker event None)
+plain-sound world worker event sound no_lease no_test =
     step-sound world worker event None sound (slice_get world.workers worker) refl
     (λ w there. record {
       so = λ a is. absurd (none-some a is);
       leased = λ run is. absurd (no_lease run is);
-      ran = λ run v last is. absurd (no_verdict v is);
+      ran = λ run t last is. absurd (no_test t is);
     })
 
 pub begins-sound : (world : World) (worker : ℕ) → IsSound world → IsSound (worker_steps world worker Begin None)
-begins-sound world worker sound = plain-sound world worker Begin sound (λ run is. absurd cc) (λ v is. absurd cc)
+begins-sound world worker sound = plain-sound world worker Begin sound (λ run is. absurd cc) (λ t is. absurd cc)
 
 pub draws-sound : (world : World) (worker : ℕ) (key : Key) → IsSound world → IsSound (worker_steps world worker (Drew key) None)
-draws-sound world worker key sound = plain-sound world worker (Drew key) sound (λ run is. absurd cc) (λ v is. absurd cc)
+draws-sound world worker key sound = plain-sound world worker (Drew key) sound (λ run is. absurd cc) (λ t is. absurd cc)
 
 pub loses-sound : (world : World) (worker status : ℕ) → IsSound world → IsSound (worker_steps world worker (Lost status) None)
 loses-sound world worker status sound =
-    plain-sound world worker (Lost status) sound (λ run is. absurd cc) (λ v is. absurd cc)
+    plain-sound world worker (Lost status) sound (λ run is. absurd cc) (λ t is. absurd cc)
 
 -- Answers.
 
@@ -162,6 +173,7 @@ tells-lease : (said : Said) (run : ℕ) → event_of said ≡ Some (Leased run) 
 tells-lease (replied (reply.Leased n search stage position commit test deadline)) run is =
     let same : n ≡ run = cc in (record { run = n; test = test; commit = commit }, refl, same)
 tells-lease (replied (reply.Reported n search verdict _ standing)) run is = absurd cc
+tells-lease (replied (reply.Skipped n search _ standing)) run is = absurd cc
 tells-lease (replied (reply.Opened search budget standing)) run is = absurd (none-some _ is)
 tells-lease (replied (reply.Cancelled search)) run is = absurd (none-some _ is)
 tells-lease (replied (reply.Ordered order commit search day)) run is = absurd (none-some _ is)
@@ -171,18 +183,19 @@ tells-lease (replied (reply.Orders page)) run is = absurd (none-some _ is)
 tells-lease (refused NoRun) run is = absurd cc
 tells-lease (refused _) run is = absurd (none-some _ is)
 
--- no answer tells a verdict
-tells-none : (said : Said) (v : Verdict) → event_of said ≡ Some (Ran v) → ⊥
-tells-none (replied (reply.Leased n search stage position commit test deadline)) v is = absurd cc
-tells-none (replied (reply.Reported n search verdict _ standing)) v is = absurd cc
-tells-none (replied (reply.Opened search budget standing)) v is = none-some _ is
-tells-none (replied (reply.Cancelled search)) v is = none-some _ is
-tells-none (replied (reply.Ordered order commit search day)) v is = none-some _ is
-tells-none (replied (reply.Search page)) v is = none-some _ is
-tells-none (replied (reply.Farm totals)) v is = none-some _ is
-tells-none (replied (reply.Orders page)) v is = none-some _ is
-tells-none (refused NoRun) v is = absurd cc
-tells-none (refused _) v is = none-some _ is
+-- no answer tells what a runner said
+tells-none : (said : Said) (t : Tested) → event_of said ≡ Some (Ran t) → ⊥
+tells-none (replied (reply.Leased n search stage position commit test deadline)) t is = absurd cc
+tells-none (replied (reply.Reported n search verdict _ standing)) t is = absurd cc
+tells-none (replied (reply.Skipped n search _ standing)) t is = absurd cc
+tells-none (replied (reply.Opened search budget standing)) t is = none-some _ is
+tells-none (replied (reply.Cancelled search)) t is = none-some _ is
+tells-none (replied (reply.Ordered order commit search day)) t is = none-some _ is
+tells-none (replied (reply.Search page)) t is = none-some _ is
+tells-none (replied (reply.Farm totals)) t is = none-some _ is
+tells-none (replied (reply.Orders page)) t is = none-some _ is
+tells-none (refused NoRun) t is = absurd cc
+tells-none (refused _) t is = none-some _ is
 
 hears-sound : (world : World) (worker : ℕ) (said : Said) → IsSound world → IsTruthful world.history said → (o : Option Event) →
     event_of said ≡ o → IsSound (hears world worker said o)
@@ -192,7 +205,7 @@ hears-sound world worker said sound so (Some event) tells =
     (λ w there. record {
       so = so;
       leased = λ run is. tells-lease said run (tells ∙ ap (λ (x : Event). Some x) is);
-      ran = λ run v last is. absurd (tells-none said v (tells ∙ ap (λ (x : Event). Some x) is));
+      ran = λ run t last is. absurd (tells-none said t (tells ∙ ap (λ (x : Event). Some x) is));
     })
 
 either-sound : (b : Bool) (one other : World) → IsSound one → IsSound other → IsSound (if b then one else other)
@@ -213,12 +226,12 @@ gets-sound world worker place sound = gets-at world worker place sound (slice_ge
 -- Runners.
 
 -- what a runner says of the run of a lease
-made-given : (H : List Entry) (made : List Made) (a : LeaseAnswer) (v : Verdict) → IsTrueLease H a →
-    IsGiven H (made ++ record { test = a.test; commit = a.commit; verdict = v } ∷ []) a.run v
-made-given H made a v is =
-    let said : Made = record { test = a.test; commit = a.commit; verdict = v } in
-    let wanted : Made = record { test = is.search.test; commit = commit_of is.search is.lease.position; verdict = v } in
-    let same : said ≡ wanted = λ i. record { test = is.test i; commit = is.commit i; verdict = v } in
+made-given : (H : List Entry) (made : List Made) (a : LeaseAnswer) (t : Tested) → IsTrueLease H a →
+    IsGiven H (made ++ record { test = a.test; commit = a.commit; tested = t } ∷ []) a.run t
+made-given H made a t is =
+    let said : Made = record { test = a.test; commit = a.commit; tested = t } in
+    let wanted : Made = record { test = is.search.test; commit = commit_of is.search is.lease.position; tested = t } in
+    let same : said ≡ wanted = λ i. record { test = is.test i; commit = is.commit i; tested = t } in
     record {
       lease = is.lease;
       leased = is.leased;
@@ -227,12 +240,13 @@ made-given H made a v is =
       given = Contains-append_right made (said ∷ []) wanted (contains-head [] said wanted same);
     }
 
-runs-at : (world : World) (worker : ℕ) (v : Verdict) (w : Worker) → slice_get world.workers worker ≡ Some w → IsSound world →
+runs-at : (world : World) (worker : ℕ) (t : Tested) (w : Worker) → slice_get world.workers worker ≡ Some w →
+    IsSound world →
     (last : Option Action) (lease : Option LeaseAnswer) → w.core.last ≡ last → w.lease ≡ lease →
-    IsSound (runs_test world worker v last lease)
-runs-at world worker v w there sound (Some (RunTest run)) (Some a) last lease =
+    IsSound (runs_test world worker t last lease)
+runs-at world worker t w there sound (Some (RunTest run)) (Some a) last lease =
     let H = world.history in
-    let more : List Made = record { test = a.test; commit = a.commit; verdict = v } ∷ [] in
+    let more : List Made = record { test = a.test; commit = a.commit; tested = t } ∷ [] in
     let wider : World = record {
       history = H;
       workers = world.workers;
@@ -244,8 +258,8 @@ runs-at world worker v w there sound (Some (RunTest run)) (Some a) last lease =
     let has = honest.runs run last in
     let same : a ≡ has.0 = same_Some a has.0 (sym lease ∙ has.1) in
     let of_run : a.run ≡ run = ap (λ (x : LeaseAnswer). x.run) same ∙ has.2 in
-    let given = made-given H world.made a v (honest.lease a lease) in
-    step-sound wider worker (Ran v) None (made-more world more sound) (slice_get world.workers worker) refl
+    let given = made-given H world.made a t (honest.lease a lease) in
+    step-sound wider worker (Ran t) None (made-more world more sound) (slice_get world.workers worker) refl
     (λ x is. record {
       so = λ b none. absurd (none-some b none);
       leased = λ other no. absurd cc;
@@ -254,20 +268,21 @@ runs-at world worker v w there sound (Some (RunTest run)) (Some a) last lease =
           let lasts : Some (RunTest run) ≡ Some (RunTest other) =
           sym last ∙ ap (λ (y : Worker). y.core.last) workers ∙ last_is in
           let runs : run ≡ other = cc in
-          let verdicts : v ≡ u = cc in
+          let tests : t ≡ u = cc in
           subst (λ (n : ℕ). IsGiven H (world.made ++ more) n u) (of_run ∙ runs)
-          (subst (λ (y : Verdict). IsGiven H (world.made ++ more) a.run y) verdicts given);
+          (subst (λ (y : Tested). IsGiven H (world.made ++ more) a.run y) tests given);
     })
-runs-at world worker v w there sound last lease last_is lease_is = sound
+runs-at world worker t w there sound last lease last_is lease_is = sound
 
-says-at : (world : World) (worker : ℕ) (v : Verdict) → IsSound world → (o : Option Worker) → slice_get world.workers worker ≡ o →
-    IsSound (runner_says world worker v o)
-says-at world worker v sound None there = sound
-says-at world worker v sound (Some w) there = runs-at world worker v w there sound w.core.last w.lease refl refl
+says-at : (world : World) (worker : ℕ) (t : Tested) → IsSound world → (o : Option Worker) →
+    slice_get world.workers worker ≡ o →
+    IsSound (runner_says world worker t o)
+says-at world worker t sound None there = sound
+says-at world worker t sound (Some w) there = runs-at world worker t w there sound w.core.last w.lease refl refl
 
-pub says-sound : (world : World) (worker : ℕ) (v : Verdict) → IsSound world →
-    IsSound (runner_says world worker v (slice_get world.workers worker))
-says-sound world worker v sound = says-at world worker v sound (slice_get world.workers worker) refl
+pub says-sound : (world : World) (worker : ℕ) (t : Tested) → IsSound world →
+    IsSound (runner_says world worker t (slice_get world.workers worker))
+says-sound world worker t sound = says-at world worker t sound (slice_get world.workers worker) refl
 
 -- Starting anew.
 
@@ -275,7 +290,7 @@ pub fresh-honest : (H : List Entry) (made : List Made) (name : List ℕ) (runs :
 fresh-honest H made name runs = record {
   lease = λ a is. absurd (none-some a is);
   runs = λ run is. absurd (none-some _ is);
-  reports = λ run v is. absurd (none-some _ is);
+  reports = λ run t is. absurd (none-some _ is);
 }
 
 restarts-at : (world : World) (worker runs : ℕ) → IsSound world → (o : Option Worker) → IsSound (restarts world worker runs o)
@@ -283,6 +298,7 @@ restarts-at world worker runs sound None = sound
 restarts-at world worker runs sound (Some w) = record {
   legal = sound.legal;
   reported = sound.reported;
+  said = sound.said;
   requested = sound.requested;
   answered = sound.answered;
   staffed = All-set (λ (x : Worker). IsHonest world.history world.made x) world.workers worker (fresh w.name runs)

@@ -3,12 +3,12 @@ use Rattle.std.specs.Prelude.{ℕ, Bool, true, false, List, [], ◌∷◌, ◌++
 use Rattle.std.specs.Option.{option_map}
 use Rattle.farm_types.specs.declared.key.Key.{Key}
 use Rattle.farm_types.specs.declared.moment.Moment.{Moment}
-use Rattle.weight_exact.specs.declared.run.Verdict.{Verdict}
+use Rattle.worker_core.specs.declared.tested.Tested.{Tested}
 use Rattle.farm_entry.specs.Decision.{decide}
 use Rattle.farm_entry.specs.Playing.{after}
 use Rattle.farm_entry.specs.Reply.{reply_at}
 use Rattle.farm_entry.specs.declared.command.Command.{Command}
-use Rattle.farm_entry.specs.declared.command.Command.TheVariants.{Report}
+use Rattle.farm_entry.specs.declared.command.Command.TheVariants.{Report, Skip}
 use Rattle.farm_entry.specs.declared.decision.Decision.{Decision}
 use Rattle.farm_entry.specs.declared.decision.Decision.TheVariants.{New, Refuse, Repeat, Show}
 use Rattle.farm_entry.specs.declared.entry.Entry.{Entry}
@@ -28,7 +28,7 @@ pub data Happening : Type 0 where
   draws : (worker : ℕ) → Key → Happening  -- it draws any key, an old one too
   loses : (worker : ℕ) → (status : ℕ) → Happening  -- its request or the answer is lost, or not served
   receives : (worker : ℕ) → (answer : ℕ) → Happening  -- it gets any answer that was ever sent to it
-  runner_answers : (worker : ℕ) → Verdict → Happening  -- its runner says anything of its run
+  runner_answers : (worker : ℕ) → Tested → Happening  -- its runner says anything of its run
   starts_anew : (worker : ℕ) → (runs : ℕ) → Happening  -- it starts anew
   takes : (request : ℕ) → Moment → Reach → Happening  -- the farm takes any request that was ever sent, at any moment
   is_asked : (sender : ℕ) → Command → Moment → Reach → Happening  -- anybody asks it anything, but for a report
@@ -70,6 +70,7 @@ farm_takes world (Some request) at reach =
 
 abbrev pub is_report : Command → Bool
 is_report (Report run verdict) = true
+is_report (Skip run) = true
 is_report q = false
 
 -- a command that no packet carried: no report is taken so, since reports come from workers alone
@@ -83,7 +84,7 @@ happens world (begins worker) = worker_steps world worker Begin None
 happens world (draws worker key) = worker_steps world worker (Drew key) None
 happens world (loses worker status) = worker_steps world worker (Lost status) None
 happens world (receives worker answer) = gets world worker (slice_get world.answers answer)
-happens world (runner_answers worker verdict) = runner_says world worker verdict (slice_get world.workers worker)
+happens world (runner_answers worker tested) = runner_says world worker tested (slice_get world.workers worker)
 happens world (starts_anew worker runs) = restarts world worker runs (slice_get world.workers worker)
 happens world (takes request at reach) = farm_takes world (slice_get world.requests request) at reach
 happens world (is_asked sender q at reach) = farm_is_asked world sender q at reach

@@ -1,15 +1,17 @@
 -- The steps of the workers in a world.
 use Rattle.std.specs.Prelude.{ℕ, ◌==◌, not, ◌&&◌, List, [], ◌∷◌, ◌++◌, map, slice_get, slice_set, if◌then◌else◌, Option, Some, None}
-use Rattle.farm_entry.specs.declared.command.Command.TheVariants.{Lease, Report}
+use Rattle.farm_entry.specs.declared.command.Command.{Command}
+use Rattle.farm_entry.specs.declared.command.Command.TheVariants.{Lease, Report, Skip}
 use Rattle.farm_entry.specs.declared.refusal.Refusal.TheVariants.{NoRun}
 use Rattle.farm_entry.specs.declared.reply.Reply.TheVariants as reply
-use Rattle.weight_exact.specs.declared.run.Verdict.{Verdict}
 use Rattle.worker_core.specs.Origins.{is_test}
 use Rattle.worker_core.specs.Steps.{core_start, core_step}
 use Rattle.worker_core.specs.declared.action.Action.{Action}
 use Rattle.worker_core.specs.declared.action.Action.TheVariants.{AskLease, RunTest, SendReport}
 use Rattle.worker_core.specs.declared.event.Event.{Event}
 use Rattle.worker_core.specs.declared.event.Event.TheVariants.{Leased, Nothing, Noted, Ran}
+use Rattle.worker_core.specs.declared.tested.Tested.{Tested}
+use Rattle.worker_core.specs.declared.tested.Tested.TheVariants.{Untestable, Verdict}
 use Rattle.worker_laws.specs.World.{Answer, LeaseAnswer, Request, Said, Worker, World, refused, replied}
 
 -- a worker that starts, or starts anew, to take so many leases
@@ -20,10 +22,15 @@ fresh name runs = record { name = name; core = core_start runs; lease = None }
 abbrev pub crew : List (List ℕ × ℕ) → List Worker
 crew starts = map (λ start. fresh start.0 start.1) starts
 
+-- the command that reports what came of a run
+abbrev pub report_of : (run : ℕ) → Tested → Command
+report_of run (Verdict verdict) = Report run verdict
+report_of run Untestable = Skip run
+
 -- the request that an action sends
 abbrev pub request_of : (worker : ℕ) → (name : List ℕ) → Action → List Request
 request_of worker name (AskLease key) = record { sender = worker; command = Lease key name } ∷ []
-request_of worker name (SendReport run verdict) = record { sender = worker; command = Report run verdict } ∷ []
+request_of worker name (SendReport run tested) = record { sender = worker; command = report_of run tested } ∷ []
 request_of worker name _ = []
 
 -- the lease answer after a step: the one that came with it, where the action became a run of the test
@@ -56,6 +63,7 @@ worker_steps world worker event came = steps world worker event came (slice_get 
 abbrev pub event_of : Said → Option Event
 event_of (replied (reply.Leased run search stage position commit test deadline)) = Some (Leased run)
 event_of (replied (reply.Reported run search verdict _ standing)) = Some Noted
+event_of (replied (reply.Skipped run search _ standing)) = Some Noted
 event_of (refused NoRun) = Some Nothing
 event_of _ = None
 
@@ -76,20 +84,20 @@ gets world worker (Some answer) =
     if answer.to == worker then hears world worker answer.said (event_of answer.said) else world
 
 -- the runner of a worker makes its run, of the test and at the commit of its lease
-abbrev pub runs_test : World → (worker : ℕ) → Verdict → (last : Option Action) → Option LeaseAnswer → World
-runs_test world worker verdict (Some (RunTest run)) (Some lease) =
+abbrev pub runs_test : World → (worker : ℕ) → Tested → (last : Option Action) → Option LeaseAnswer → World
+runs_test world worker tested (Some (RunTest run)) (Some lease) =
     worker_steps (record {
       history = world.history;
       workers = world.workers;
       requests = world.requests;
       answers = world.answers;
-      made = world.made ++ record { test = lease.test; commit = lease.commit; verdict = verdict } ∷ [];
-    }) worker (Ran verdict) None
-runs_test world worker verdict last lease = world
+      made = world.made ++ record { test = lease.test; commit = lease.commit; tested = tested } ∷ [];
+    }) worker (Ran tested) None
+runs_test world worker tested last lease = world
 
-abbrev pub runner_says : World → (worker : ℕ) → Verdict → Option Worker → World
-runner_says world worker verdict None = world
-runner_says world worker verdict (Some w) = runs_test world worker verdict w.core.last w.lease
+abbrev pub runner_says : World → (worker : ℕ) → Tested → Option Worker → World
+runner_says world worker tested None = world
+runner_says world worker tested (Some w) = runs_test world worker tested w.core.last w.lease
 
 -- a worker starts anew, and keeps nothing but its name
 abbrev pub restarts : World → (worker : ℕ) → (runs : ℕ) → Option Worker → World

@@ -2,7 +2,7 @@
 use Rattle.std.specs.Prelude.{ℕ, List, [], ◌∷◌, Option}
 use Rattle.farm_types.specs.declared.commit_id.CommitId.{CommitId}
 use Rattle.farm_types.specs.declared.moment.Moment.{Moment}
-use Rattle.weight_exact.specs.declared.run.Verdict.{Verdict}
+use Rattle.worker_core.specs.declared.tested.Tested.{Tested}
 use Rattle.farm_entry.specs.declared.command.Command.{Command}
 use Rattle.farm_entry.specs.declared.entry.Entry.{Entry}
 use Rattle.farm_entry.specs.declared.entry.What.TheVariants.{Founded}
@@ -38,11 +38,11 @@ pub record Answer : Type 0 where
   pub to : ℕ
   pub said : Said
 
--- a runner made a run of a test at a commit
+-- a runner was to run a test at a commit, and said what came of it
 pub record Made : Type 0 where
   pub test : List ℕ
   pub commit : CommitId
-  pub verdict : Verdict
+  pub tested : Tested
 
 -- Everything that was ever sent is kept. The network may hand it over never, late, often and in any order
 pub record World : Type 0 where

@@ -6,9 +6,11 @@ use Rattle.serde_json.specs.Data.{Data, string}
 use Rattle.serde_json.specs.Written.{compact_text}
 use Rattle.farm_types.specs.declared.key.Key.{Key}
 use Rattle.farm_wire.specs.Members.{object_with}
+use Rattle.farm_wire.specs.Forms.{skip_word}
 use Rattle.farm_wire.specs.Replies.{verdict_word}
 use Rattle.http_exchange.specs.Requests.{post_request}
-use Rattle.weight_exact.specs.declared.run.Verdict.{Verdict}
+use Rattle.worker_core.specs.declared.tested.Tested.{Tested}
+use Rattle.worker_core.specs.declared.tested.Tested.TheVariants.{Untestable, Verdict}
 
 -- a key as it is sent: a UUID in its hyphenated form, in lower case
 abbrev pub key_text : Key → List ℕ
@@ -30,9 +32,14 @@ runs_path = codes "/v1/runs/"
 unfoldable pub report_end : List ℕ
 report_end = codes "/report"
 
-unfoldable pub report_data : Verdict → Data
-report_data verdict = object_with ((codes "verdict", string (verdict_word verdict)) ∷ [])
+-- the word for what came of a run
+abbrev pub tested_word : Tested → List ℕ
+tested_word (Verdict verdict) = verdict_word verdict
+tested_word Untestable = skip_word
 
--- the request that reports the verdict of a run
-abbrev pub report_request : (run : ℕ) → Verdict → List ℕ
-report_request run verdict = post_request (runs_path ++ decimal run ++ report_end) (compact_text (report_data verdict))
+unfoldable pub report_data : Tested → Data
+report_data tested = object_with ((codes "verdict", string (tested_word tested)) ∷ [])
+
+-- the request that reports what came of a run
+abbrev pub report_request : (run : ℕ) → Tested → List ℕ
+report_request run tested = post_request (runs_path ++ decimal run ++ report_end) (compact_text (report_data tested))

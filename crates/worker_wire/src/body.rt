@@ -2,14 +2,14 @@
 
 ghost use Rattle.std.specs.Prelude.{◌≡◌, IfOk, string_bytes};
 ghost use Rattle.serde_json.specs.Written.{compact_text};
-ghost use Rattle.farm_wire.specs.Replies.{verdict_word};
-ghost use Rattle.worker_wire.specs.Requests.{key_text, lease_data, report_data};
+ghost use Rattle.worker_wire.specs.Requests.{key_text, lease_data, report_data, tested_word};
 
 use crate::object::TextObject;
 use farm_types::{Key, Memory, Name};
 use std::alloc::Global;
 use uuid::Uuid;
 use weight_exact::Verdict;
+use worker_core::Tested;
 
 /// The body of a request for a run.
 pub(crate) fn lease_body(alloc: Global, key: Key, worker: &Name) -> Result<String, Memory>
@@ -34,19 +34,20 @@ fn lease_text(alloc: Global, key: &str, worker: &Name) -> Result<String, Memory>
 
 /// The body of a report.
 #[tactic(auto, unfolding(crate::specs::Requests::report_data))]
-pub(crate) fn report_body(alloc: Global, verdict: Verdict) -> Result<String, Memory>
-    ensures { IfOk result (λ text. string_bytes text ≡ compact_text (report_data verdict)) }
+pub(crate) fn report_body(alloc: Global, tested: Tested) -> Result<String, Memory>
+    ensures { IfOk result (λ text. string_bytes text ≡ compact_text (report_data tested)) }
 {
     TextObject::new(alloc)
-        .with("verdict", verdict_word(verdict))?
+        .with("verdict", tested_word(tested))?
         .into_text()
 }
 
-fn verdict_word(verdict: Verdict) -> &'static str
-    ensures { result.now ≡ verdict_word verdict }
+fn tested_word(tested: Tested) -> &'static str
+    ensures { result.now ≡ tested_word tested }
 {
-    match verdict {
-        Verdict::Pass => "pass",
-        Verdict::Fail => "fail",
+    match tested {
+        Tested::Verdict(Verdict::Pass) => "pass",
+        Tested::Verdict(Verdict::Fail) => "fail",
+        Tested::Untestable => "skip",
     }
 }

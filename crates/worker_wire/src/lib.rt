@@ -2,10 +2,10 @@
 //! which tell a lease's run, its test and its commit, or that there is no run.
 //!
 //! The crate stands on `farm_wire` for the forms of members in JSON (`specs/Forms`) and for which text is an object
-//! (`specs/Reading`), on `http_exchange` for the bytes of a request, on `farm_types` for names and ids, and on
-//! `serde_json` for JSON. What a body tells is defined by `lease_reading` and `tells_no_run` of `specs/Answers`, over
-//! the value that `serde_json` reads; what is sent by `lease_request` and `report_request` of `specs/Requests`. A key
-//! is sent as `uuid` writes it, a number as `itoa` does.
+//! (`specs/Reading`), on `http_exchange` for the bytes of a request, on `worker_core` for what came of a run, on
+//! `farm_types` for names and ids, and on `serde_json` for JSON. What a body tells is defined by `lease_reading` and
+//! `tells_no_run` of `specs/Answers`, over the value that `serde_json` reads; what is sent by `lease_request` and
+//! `report_request` of `specs/Requests`. A key is sent as `uuid` writes it, a number as `itoa` does.
 #![tactic(auto)]
 
 mod answer;

@@ -10,7 +10,7 @@ use farm_types::{Key, Memory, Name};
 use http_exchange::post_request;
 use itoa::Buffer;
 use std::alloc::Global;
-use weight_exact::Verdict;
+use worker_core::Tested;
 
 /// The request for a run, under a key, by the worker of this name.
 pub fn lease_request(alloc: Global, key: Key, worker: &Name) -> Result<Vec<u8>, Memory>
@@ -20,12 +20,12 @@ pub fn lease_request(alloc: Global, key: Key, worker: &Name) -> Result<Vec<u8>, 
     post_request(alloc, lines::lease_path(), body.as_bytes())
 }
 
-/// The request that reports the verdict of a run.
-pub fn report_request(alloc: Global, run: u32, verdict: Verdict) -> Result<Vec<u8>, Memory>
-    ensures { IfOk result (λ bytes. bytes.items ≡ report_request run verdict) }
+/// The request that reports what came of a run.
+pub fn report_request(alloc: Global, run: u32, tested: Tested) -> Result<Vec<u8>, Memory>
+    ensures { IfOk result (λ bytes. bytes.items ≡ report_request run tested) }
 {
     let path = report_path(alloc, run)?;
-    let body = report_body(alloc, verdict)?;
+    let body = report_body(alloc, tested)?;
     post_request(alloc, &path, body.as_bytes())
 }
 

@@ -3,6 +3,7 @@ use Rattle.std.specs.Prelude.{List, [], ◌∷◌}
 use Rattle.weight_exact.specs.declared.run.Verdict.TheVariants.{Fail, Pass}
 use Rattle.farm_entry.specs.declared.command.Command.TheVariants.{Open}
 use Rattle.farm_worked.specs.Example.{ask_for, at_first, the_key, the_settings, the_worker}
+use Rattle.worker_core.specs.declared.tested.Tested.TheVariants.{Verdict}
 use Rattle.worker_laws.specs.Happenings.{Happening, all_happen, answered, begins, draws, is_asked, loses, receives, runner_answers, takes}
 use Rattle.worker_laws.specs.Workers.{crew}
 use Rattle.worker_laws.specs.World.{World, founded}
@@ -16,7 +17,7 @@ what_happens =
     ∷ draws 0 (the_key 2)
     ∷ takes 0 at_first answered
     ∷ receives 0 1
-    ∷ runner_answers 0 Fail
+    ∷ runner_answers 0 (Verdict Fail)
     ∷ takes 1 at_first answered
     ∷ loses 0 0
     ∷ takes 2 at_first answered
@@ -24,7 +25,7 @@ what_happens =
     ∷ draws 0 (the_key 3)
     ∷ takes 3 at_first answered
     ∷ receives 0 4
-    ∷ runner_answers 0 Pass
+    ∷ runner_answers 0 (Verdict Pass)
     ∷ takes 4 at_first answered
     ∷ receives 0 5
     ∷ draws 0 (the_key 4)

@@ -11,6 +11,7 @@ ghost use Rattle.farm_worked.specs.Example.{the_commit, the_test};
 ghost use Rattle.weight_exact.specs.declared.run.Verdict.TheVariants.{Fail, Pass};
 ghost use Rattle.worker_core.specs.declared.action.Action.TheVariants.{Stop};
 ghost use Rattle.worker_core.specs.declared.action.End.TheVariants.{Idle};
+ghost use Rattle.worker_core.specs.declared.tested.Tested.TheVariants.{Verdict};
 ghost use Rattle.worker_laws.specs.World.{Worker};
 ghost use Rattle.worker_worked.specs.Example.{played};
 
@@ -23,7 +24,7 @@ pub fn a_lost_report_is_sent_again()
     ensures entries { length played.history ≡ 6 }
     ensures runs { map (λ (r : ReportedRun). r.run) (reports played.history) ≡ 1 ∷ 2 ∷ [] }
     ensures verdicts { map (λ (r : ReportedRun). r.verdict) (reports played.history) ≡ Fail ∷ Pass ∷ [] }
-    ensures made { played.made ≡ record { test = the_test; commit = the_commit 1; verdict = Fail }
-        ∷ record { test = the_test; commit = the_commit 0; verdict = Pass } ∷ [] }
+    ensures made { played.made ≡ record { test = the_test; commit = the_commit 1; tested = Verdict Fail }
+        ∷ record { test = the_test; commit = the_commit 0; tested = Verdict Pass } ∷ [] }
     ensures ends { option_map (λ (w : Worker). w.core.last) (slice_get played.workers 0) ≡ Some (Some (Stop Idle)) }
 {}

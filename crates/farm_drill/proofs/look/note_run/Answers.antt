@@ -7,11 +7,11 @@ returns-in-Some c noted H before =
     out-lease H c.args.entry.now c.in-Some.lease c.args.out.now.items c.put_mark.new.out.items
     (sym c.lease.ensures ∙ c.in-Some.is) (c.put_mark.ensures.here noted) c.put_mark.ensures.others before
 
-pub returns-in-Some-report : goal.returns-in-Some-report
-returns-in-Some-report c noted H before =
-    out-report H c.args.entry.now c.in-Some-report.report c.args.out.now.items
-    c.put_mark-in-Some-report.new.out.items (sym c.lease.ensures ∙ c.in-None.is)
-    (sym c.report.ensures ∙ c.in-Some-report.is) c.put_mark-in-Some-report.ensures.others before
+pub returns-in-Some-told : goal.returns-in-Some-told
+returns-in-Some-told c noted H before =
+    out-report H c.args.entry.now c.in-Some-told.run' c.args.out.now.items
+    c.put_mark-in-Some-told.new.out.items (sym c.lease.ensures ∙ c.in-None.is)
+    (sym c.told.ensures ∙ c.in-Some-told.is) c.put_mark-in-Some-told.ensures.others before
 
 pub returns-in_default : goal.returns-in_default
 returns-in_default c noted H before =

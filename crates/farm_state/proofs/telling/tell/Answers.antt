@@ -1,7 +1,10 @@
 use Rattle.std.proofs.Common.{sym, ◌∙◌}
 use Rattle.farm_state.proofs.telling.tell.Goals as goal
 
-pub report-requires-then-lease-search-clause-few : goal.report-requires-then-lease-search-clause-few
-report-requires-then-lease-search-clause-few c =
-    (c.requires c.in-Some.report c.in-Some-lease_of.lease (sym c.report.ensures ∙ c.in-Some.is)
-    (sym c.lease_of.ensures ∙ c.in-Some-lease_of.is) c.if-lease-search.true).few
+pub tell_report-requires : goal.tell_report-requires
+tell_report-requires c = λ l known same.
+    c.requires.reports c.in-Some.report l (sym c.report.ensures ∙ c.in-Some.is) known same
+
+pub tell_skip-requires : goal.tell_skip-requires
+tell_skip-requires c = λ l known same.
+    c.requires.skips c.in-Some-skip.skip l (sym c.skip.ensures ∙ c.in-Some-skip.is) known same

@@ -2,7 +2,7 @@ use Rattle.std.proofs.Common.{◌≡◌, ◌+◌, List, length, vec_len, sym, su
 use Rattle.farm_types.specs.declared.stage.Stage.TheVariants.{Search, Verify}
 use Rattle.plain_farm.specs.Rows.{AreRows}
 use Rattle.plain_farm.specs.declared.rows.Row.{Row}
-use Rattle.plain_farm.proofs.Steps.{opened-fresh, opened-there, step-opened, step-unopened}
+use Rattle.plain_farm.proofs.Steps.{opened-fresh, opened-there, opened-unskipped, step-opened, step-unopened}
 use Rattle.plain_farm.proofs.rows.take_opened.Goals as goal
 
 pub first_row-requires-clause-opened : goal.first_row-requires-clause-opened
@@ -19,6 +19,11 @@ pub first_row-requires-clause-no_reruns : goal.first_row-requires-clause-no_reru
 first_row-requires-clause-no_reruns c =
     opened-fresh c.args.history.now c.args.entry.now c.args.rows.now.items c.requires.step c.args.opening.now
     c.requires.opened Verify
+
+pub first_row-requires-clause-no_skips : goal.first_row-requires-clause-no_skips
+first_row-requires-clause-no_skips c =
+    opened-unskipped c.args.history.now c.args.entry.now c.args.rows.now.items c.requires.step c.args.opening.now
+    c.requires.opened
 
 pub returns-in_ok-push : goal.returns-in_ok-push
 returns-in_ok-push c =

@@ -1,4 +1,5 @@
-use Rattle.std.proofs.Common.{◌<◌, List, length, sym, subst}
+use Rattle.std.proofs.Common.{◌<◌, List, length, refl, sym, subst}
+use Rattle.farm_laws.proofs.EntryParts.{report-told}
 use Rattle.plain_farm.specs.declared.rows.Row.{Row}
 use Rattle.plain_farm.proofs.Steps.{no-lease, no-search, step-reported, step-reported_none, step-told}
 use Rattle.plain_farm.proofs.Taking.{HasNoRow}
@@ -6,36 +7,41 @@ use Rattle.plain_farm.proofs.rows.take_report.Goals as goal
 
 pub returns-in_default : goal.returns-in_default
 returns-in_default c =
-    absurd (no-lease c.args.history.now c.args.entry.now c.args.rows.now.items c.requires.step c.args.report
-    c.requires.reported (sym c.in_default.ensures))
+    let told = report-told c.args.entry.now.what c.args.report c.requires.reported in
+    absurd (no-lease c.args.history.now c.args.entry.now c.args.rows.now.items c.requires.step c.args.report.run
+    told (sym c.in_default.ensures))
 
 pub returns-in_default-opening_numbered : goal.returns-in_default-opening_numbered
 returns-in_default-opening_numbered c =
-    absurd (no-search c.args.history.now c.args.entry.now c.args.rows.now.items c.requires.step c.args.report
-    c.requires.reported c.in-Some.lease (sym c.in-Some.ensures) (sym c.in_default-opening_numbered.ensures.found))
+    let told = report-told c.args.entry.now.what c.args.report c.requires.reported in
+    absurd (no-search c.args.history.now c.args.entry.now c.args.rows.now.items c.requires.step c.args.report.run
+    told c.in-Some.lease (sym c.in-Some.ensures) (sym c.in_default-opening_numbered.ensures.found))
 
 pub told_row-requires : goal.told_row-requires
 told_row-requires c =
+    let told = report-told c.args.entry.now.what c.args.report c.requires.reported in
     let index = c.in-Some-row_place.index in
     let at = c.in-Some-row_place.ensures.found in
     let below = subst (λ (rows : List Row). index < length rows) c.deref.ensures.value at.1 in
-    step-told c.args.history.now c.args.entry.now c.args.rows.now.items c.requires.step c.args.report
-    c.requires.reported c.in-Some.lease (sym c.in-Some.ensures) c.in-Some-opening_numbered.opening.now
-    (sym c.in-Some-opening_numbered.ensures.found) index c.index.result.now at.0 below c.index.ensures
+    step-told c.args.history.now c.args.entry.now c.args.rows.now.items c.requires.step c.args.report.run
+    told c.in-Some.lease (sym c.in-Some.ensures) c.in-Some-opening_numbered.opening.now
+    (sym c.in-Some-opening_numbered.ensures.found) c.args.report c.requires.reported refl index c.index.result.now at.0 below c.index.ensures
 
 pub returns-in_ok-rows : goal.returns-in_ok-rows
 returns-in_ok-rows c =
+    let told = report-told c.args.entry.now.what c.args.report c.requires.reported in
     let index = c.in-Some-row_place.index in
     let at = c.in-Some-row_place.ensures.found in
     let below = subst (λ (rows : List Row). index < length rows) c.deref.ensures.value at.1 in
-    step-reported c.args.history.now c.args.entry.now c.args.rows.now.items c.requires.step c.args.report
-    c.requires.reported c.in-Some.lease (sym c.in-Some.ensures) c.in-Some-opening_numbered.opening.now
+    step-reported c.args.history.now c.args.entry.now c.args.rows.now.items c.requires.step c.args.report.run
+    told c.in-Some.lease (sym c.in-Some.ensures) c.in-Some-opening_numbered.opening.now
     (sym c.in-Some-opening_numbered.ensures.found) index c.in_ok-rows.field-0 at.0 below c.in_ok-rows.ensures
 
 pub returns-in_default-row_place : goal.returns-in_default-row_place
 returns-in_default-row_place c =
-    step-reported_none c.args.history.now c.args.entry.now c.args.rows.now.items c.requires.step c.args.report
-    c.requires.reported c.in-Some.lease (sym c.in-Some.ensures) c.in-Some-opening_numbered.opening.now
+    let told = report-told c.args.entry.now.what c.args.report c.requires.reported in
+    step-reported_none c.args.history.now c.args.entry.now c.args.rows.now.items c.requires.step c.args.report.run
+    told c.in-Some.lease (sym c.in-Some.ensures) c.in-Some-opening_numbered.opening.now
     (sym c.in-Some-opening_numbered.ensures.found)
     (subst (λ (rows : List Row). HasNoRow rows c.in-Some.lease.search) c.deref.ensures.value
     c.in_default-row_place.ensures.none)

@@ -4,7 +4,6 @@ use Rattle.lease_book.specs.Leases.{Held}
 use Rattle.farm_entry.specs.History.{lease_in}
 use Rattle.farm_entry.specs.declared.entry.Entry.{Entry}
 use Rattle.farm_entry.specs.declared.lease.LeasedRun.{LeasedRun}
-use Rattle.farm_entry.specs.declared.lease.ReportedRun.{ReportedRun}
 use Rattle.farm_books.specs.Kept.{AreKeys, Places, with_mark, without_key, without_lease, without_report}
 use Rattle.farm_books.proofs.Entries.{IsLast, key-present, last-of, lease-present, popped-books, report-booked, report-present}
 use Rattle.farm_books.proofs.books.Books.pop.Goals as goal
@@ -18,8 +17,8 @@ take_mark-requires c =
     let last : n + 1 ≡ length H = omega (arith, some, c.len-last.ensures) in
     let l : IsLast H (take n H) c.index.result.now =
     last-of H n c.index.result.now c.index.result.now b.legal some last (sym c.index.ensures) in
-    report-booked H (take n H) c.index.result.now c.self.inside.leases.leases c.report-report.result b.legal l b.leases
-    c.report-report.ensures
+    report-booked H (take n H) c.index.result.now c.self.inside.leases.leases c.told-told.result b.legal l b.leases
+    c.told-told.ensures
 
 pub take_lease-requires : goal.take_lease-requires
 take_lease-requires c =
@@ -31,7 +30,7 @@ take_lease-requires c =
     let l : IsLast H (take n H) c.index.result.now =
     last-of H n c.index.result.now c.index.result.now b.legal some last (sym c.index.ensures) in
     lease-present H (take n H) c.index.result.now c.self.inside.leases.leases c.take_mark.new.leases.leases
-    c.lease-lease.result c.report-report.result l b.leases c.lease-lease.ensures c.take_mark.ensures
+    c.lease-lease.result c.told-told.result l b.leases c.lease-lease.ensures c.take_mark.ensures
 
 pub take_report-requires : goal.take_report-requires
 take_report-requires c =
@@ -42,8 +41,8 @@ take_report-requires c =
     let last : n + 1 ≡ length H = omega (arith, some, c.len-last.ensures) in
     let l : IsLast H (take n H) c.index.result.now =
     last-of H n c.index.result.now c.index.result.now b.legal some last (sym c.index.ensures) in
-    report-present H (take n H) c.index.result.now c.self.inside.inbox.runs c.report-report.result l b.reports
-    c.report-report.ensures
+    report-present H (take n H) c.index.result.now c.self.inside.inbox.runs c.told-told.result l b.reports
+    c.told-told.ensures
 
 pub take_key-requires : goal.take_key-requires
 take_key-requires c =
@@ -72,10 +71,10 @@ invariant_of-self c =
     ∙ ap (λ (keys : Places). without_key keys c.key-key.result) c.take_report.ensures.keys
     ∙ ap (λ (part : Option Key). without_key s.inbox.keys part) c.key-key.ensures)
     (c.take_key.ensures.runs ∙ c.take_report.ensures.runs
-    ∙ ap (λ (part : Option ReportedRun). without_report s.inbox.runs part) c.report-report.ensures)
+    ∙ ap (λ (part : Option ℕ). without_report s.inbox.runs part) c.told-told.ensures)
     (c.take_lease.ensures
     ∙ ap (λ (hs : List Held). without_lease hs c.lease-lease.result) c.take_mark.ensures
-    ∙ ap (λ (part : Option LeasedRun). without_lease (with_mark false s.leases.leases c.report-report.result) part)
+    ∙ ap (λ (part : Option LeasedRun). without_lease (with_mark false s.leases.leases c.told-told.result) part)
     c.lease-lease.ensures
-    ∙ ap (λ (part : Option ReportedRun). without_lease (with_mark false s.leases.leases part) (lease_in e.what))
-    c.report-report.ensures)
+    ∙ ap (λ (part : Option ℕ). without_lease (with_mark false s.leases.leases part) (lease_in e.what))
+    c.told-told.ensures)

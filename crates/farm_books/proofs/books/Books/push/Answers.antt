@@ -5,7 +5,6 @@ use Rattle.farm_entry.specs.History.{lease_in}
 use Rattle.farm_entry.specs.Legal.{IsLegal}
 use Rattle.farm_entry.specs.declared.entry.Entry.{Entry}
 use Rattle.farm_entry.specs.declared.lease.LeasedRun.{LeasedRun}
-use Rattle.farm_entry.specs.declared.lease.ReportedRun.{ReportedRun}
 use Rattle.farm_laws.proofs.Bounds.{entries-bounded}
 use Rattle.farm_books.specs.Kept.{AreKeys, AreLeases, AreReports, Places, with_key, with_lease, with_mark, with_report}
 use Rattle.farm_books.proofs.Entries.{entry-steps, key-absent, lease-next, pushed-books, report-absent, report-known, with_lease-long}
@@ -27,9 +26,9 @@ put_report-requires-clause-absent c =
     let H : List Entry = c.self.inside.entries.items in
     let b = c.self.invariant in
     let step = entry-steps H c.args.self.now c.args.entry b.legal c.self.view_is c.requires in
-    report-absent H c.args.entry c.put_key.new.inbox.runs c.report-report.result
+    report-absent H c.args.entry c.put_key.new.inbox.runs c.told-told.result
     (subst (AreReports H) (sym (c.put_key.ensures.runs ∙ c.in_ok-reserve_places.ensures.runs)) b.reports) step
-    c.report-report.ensures
+    c.told-told.ensures
 
 pub put_lease-requires-clause-number : goal.put_lease-requires-clause-number
 put_lease-requires-clause-number c =
@@ -48,8 +47,8 @@ put_mark-requires c =
     let now : c.put_lease.new.leases.leases ≡ with_lease helds c.lease-lease.result =
     c.put_lease.ensures
     ∙ ap (λ (hs : List Held). with_lease hs c.lease-lease.result) c.in_ok-reserve_lease.ensures.leases in
-    report-known H c.args.entry helds c.report-report.result (length c.put_lease.new.leases.leases) b.legal b.leases step
-    c.report-report.ensures (omega (arith, ap length now, with_lease-long helds c.lease-lease.result))
+    report-known H c.args.entry helds c.told-told.result (length c.put_lease.new.leases.leases) b.legal b.leases step
+    c.told-told.ensures (omega (arith, ap length now, with_lease-long helds c.lease-lease.result))
 
 pub invariant_of-self-2 : goal.invariant_of-self-2
 invariant_of-self-2 c =
@@ -67,13 +66,13 @@ invariant_of-self-2 c =
     ∙ ap (λ (keys : Places). with_key keys c.key-key.result place) c.in_ok-reserve_places.ensures.keys
     ∙ ap (λ (part : Option Key). with_key s.inbox.keys part place) c.key-key.ensures)
     (c.put_report.ensures.runs
-    ∙ ap (λ (runs : Places). with_report runs c.report-report.result place)
+    ∙ ap (λ (runs : Places). with_report runs c.told-told.result place)
     (c.put_key.ensures.runs ∙ c.in_ok-reserve_places.ensures.runs)
-    ∙ ap (λ (part : Option ReportedRun). with_report s.inbox.runs part place) c.report-report.ensures)
+    ∙ ap (λ (part : Option ℕ). with_report s.inbox.runs part place) c.told-told.ensures)
     (c.put_mark.ensures
-    ∙ ap (λ (hs : List Held). with_mark true hs c.report-report.result)
+    ∙ ap (λ (hs : List Held). with_mark true hs c.told-told.result)
     (c.put_lease.ensures
     ∙ ap (λ (hs : List Held). with_lease hs c.lease-lease.result) c.in_ok-reserve_lease.ensures.leases
     ∙ ap (λ (part : Option LeasedRun). with_lease s.leases.leases part) c.lease-lease.ensures)
-    ∙ ap (λ (part : Option ReportedRun). with_mark true (with_lease s.leases.leases (lease_in e.what)) part)
-    c.report-report.ensures)
+    ∙ ap (λ (part : Option ℕ). with_mark true (with_lease s.leases.leases (lease_in e.what)) part)
+    c.told-told.ensures)

@@ -1,10 +1,9 @@
 use Rattle.std.proofs.Common.{◌≡◌, ℕ, List, [], ◌∷◌, ◌++◌, length, Option, sym, ap, subst, ◌∙◌, arith}
 use Rattle.std.specs.Option.{is_some}
-use Rattle.farm_entry.specs.History.{lease_in, report_in}
+use Rattle.farm_entry.specs.History.{lease_in, told_in}
 use Rattle.farm_entry.specs.Legal.{IsLegal}
 use Rattle.farm_entry.specs.declared.entry.Entry.{Entry}
 use Rattle.farm_entry.specs.declared.lease.LeasedRun.{LeasedRun}
-use Rattle.farm_entry.specs.declared.lease.ReportedRun.{ReportedRun}
 use Rattle.farm_books.proofs.Entries.{entry-steps}
 use Rattle.farm_ledger.specs.Waiting.{IsLowest, IsServed, low_after}
 use Rattle.farm_ledger.proofs.Lows.{lows-last, lows-pushed}
@@ -25,9 +24,9 @@ low_with-low-requires-clause-served c =
     let longer : IsLegal (H ++ e ∷ []) =
     subst (λ (X : List Entry). IsLegal (X ++ e ∷ [])) (sym c.self.view_is) c.requires in
     let is = sym c.in_ok-push.ensures.pushed in
-    subst (λ (x : Option ReportedRun). IsServed c.push.new.self (low_after c.push.new.self low x))
-    (sym c.report-report.ensures)
-    (subst (λ (X : List Entry). IsServed X (low_after X low (report_in e.what))) is
+    subst (λ (x : Option ℕ). IsServed c.push.new.self (low_after c.push.new.self low x))
+    (sym c.told-told.ensures)
+    (subst (λ (X : List Entry). IsServed X (low_after X low (told_in e.what))) is
     (pushed-served H e low h.legal longer step lowest.served))
 
 pub low_with-low-requires-clause-same : goal.low_with-low-requires-clause-same

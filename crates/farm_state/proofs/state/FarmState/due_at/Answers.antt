@@ -8,8 +8,8 @@ use Rattle.state_laws.specs.Seen.{seen}
 use Rattle.farm_state.proofs.DueRuns.{few-out}
 use Rattle.farm_state.proofs.state.FarmState.due_at.Goals as goal
 
-pub open_positions-count-requires : goal.open_positions-count-requires
-open_positions-count-requires c =
+pub outstanding_positions-count-requires : goal.outstanding_positions-count-requires
+outstanding_positions-count-requires c =
     let H : List Entry = c.self.inside.books in
     few-out H c.args.number c.args.search.now c.args.stage (moment_ms c.args.moment) c.self.invariant.legal
     (subst (λ (X : List Entry). IsNotBefore X (moment_ms c.args.moment)) (sym c.self.view_is) c.requires.before)

@@ -1,6 +1,6 @@
 use Rattle.std.proofs.Common.{◌-◌, List, length, refl, sym, ap, subst, ◌∙◌}
 use Rattle.std.specs.Option.{is_some}
-use Rattle.farm_entry.specs.History.{cancelled_in, opening_in, report_in}
+use Rattle.farm_entry.specs.History.{cancelled_in, opening_in, told_in}
 use Rattle.farm_entry.specs.Legal.{IsLegal}
 use Rattle.farm_entry.specs.declared.entry.Entry.{Entry}
 use Rattle.farm_state.proofs.Popping.{end-at, end-cancels}
@@ -27,10 +27,8 @@ pop_report-requires-clause-reports c =
     let l = end-at H L e (length L - 1) (subst IsLegal c.self.view_is c.self.invariant.legal) c.requires
     (c.history-history.ensures.history ∙ c.self.view_is) refl c.index-history-history.is in (
       e,
-      c.in-Some.report,
       l.split,
-      ap (λ (x : Entry). report_in x.what) c.index-history-history.is ∙ sym c.report.ensures ∙ c.in-Some.is,
-      refl,
+      ap (λ (x : Entry). told_in x.what) c.index-history-history.is ∙ sym c.told.ensures ∙ c.in-Some.is,
     )
 
 pub pop_about-requires-clause-about : goal.pop_about-requires-clause-about
@@ -54,6 +52,6 @@ pop_quiet-requires-clause-quiet c =
       l.split,
       opened-none (opening_in e.what)
           (ap (λ (x : Entry). is_some (opening_in x.what)) c.index-history-history.is ∙ sym c.is_opening.ensures ∙ c.if-is_opening.false),
-      ap (λ (x : Entry). report_in x.what) c.index-history-history.is ∙ sym c.report.ensures ∙ c.in_default.is,
+      ap (λ (x : Entry). told_in x.what) c.index-history-history.is ∙ sym c.told.ensures ∙ c.in_default.is,
       ap (λ (x : Entry). cancelled_in x.what) c.index-history-history.is ∙ sym c.cancelled.ensures ∙ c.in_default-cancelled.is,
     )

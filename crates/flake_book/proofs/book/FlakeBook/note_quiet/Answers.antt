@@ -14,4 +14,4 @@ invariant_of-self c =
     let s = c.self.inside in
     told-kept c.tell.new.self s.noted e s.leases.items s.searches.items (keys s.tests) c.tell.ensures
     (kept-quiet H s.leases.items s.searches.items (keys s.tests) e c.self.invariant longer c.requires.opens_none
-    c.requires.leases_none c.requires.reports_none c.requires.cancels_none)
+    c.requires.leases_none c.requires.tells_none c.requires.cancels_none)

@@ -7,13 +7,13 @@ use Rattle.flake_book.specs.BookInside.{AreKept}
 use Rattle.flake_book.specs.Listed.{IsListed}
 use Rattle.flake_book.specs.Noted.{Noted}
 use Rattle.flake_book.specs.Tally.{StandsAfter}
-use Rattle.flake_book.proofs.Books.{kept-uncounted, report-low, report-search, told-kept}
+use Rattle.flake_book.proofs.Books.{kept-uncounted, told-low, told-search, told-kept}
 use Rattle.flake_book.proofs.Sets.{get_or-any}
 use Rattle.flake_book.proofs.book.FlakeBook.note_uncounted.Goals as goal
 
 pub overflow_sub-index : goal.overflow_sub-index
 overflow_sub-index c =
-    report-low c.args.self.now c.args.entry.now c.args.report c.args.lease c.requires.legal c.requires.reports c.requires.leased
+    told-low c.args.self.now c.args.entry.now c.args.lease.run c.args.lease c.requires.legal c.requires.tells c.requires.leased
 
 pub index-requires : goal.index-requires
 index-requires c =
@@ -21,11 +21,11 @@ index-requires c =
     let e : Entry = c.args.entry.now in
     let longer : IsLegal (H ++ e ∷ []) =
     subst (λ (X : List Entry). IsLegal (X ++ e ∷ [])) (sym c.self.view_is) c.requires.legal in
-    let known : lease_of H c.args.report.run ≡ Some c.args.lease =
-    ap (λ (X : List Entry). lease_of X c.args.report.run) c.self.view_is ∙ c.requires.leased in
+    let known : lease_of H c.args.lease.run ≡ Some c.args.lease =
+    ap (λ (X : List Entry). lease_of X c.args.lease.run) c.self.view_is ∙ c.requires.leased in
     let has =
-    report-search H c.self.inside.leases.items c.self.inside.searches.items (keys c.self.inside.tests) e c.args.report c.args.lease
-    c.self.invariant longer c.requires.reports known in
+    told-search H c.self.inside.leases.items c.self.inside.searches.items (keys c.self.inside.tests) e c.args.lease.run c.args.lease
+    c.self.invariant longer c.requires.tells known in
     omega (arith, has.high)
 
 pub index_mut-requires : goal.index_mut-requires
@@ -34,11 +34,11 @@ index_mut-requires c =
     let e : Entry = c.args.entry.now in
     let longer : IsLegal (H ++ e ∷ []) =
     subst (λ (X : List Entry). IsLegal (X ++ e ∷ [])) (sym c.self.view_is) c.requires.legal in
-    let known : lease_of H c.args.report.run ≡ Some c.args.lease =
-    ap (λ (X : List Entry). lease_of X c.args.report.run) c.self.view_is ∙ c.requires.leased in
+    let known : lease_of H c.args.lease.run ≡ Some c.args.lease =
+    ap (λ (X : List Entry). lease_of X c.args.lease.run) c.self.view_is ∙ c.requires.leased in
     let has =
-    report-search H c.self.inside.leases.items c.self.inside.searches.items (keys c.self.inside.tests) e c.args.report c.args.lease
-    c.self.invariant longer c.requires.reports known in
+    told-search H c.self.inside.leases.items c.self.inside.searches.items (keys c.self.inside.tests) e c.args.lease.run c.args.lease
+    c.self.invariant longer c.requires.tells known in
     omega (arith, has.high)
 
 pub invariant_of-self-2 : goal.invariant_of-self-2
@@ -47,15 +47,15 @@ invariant_of-self-2 c =
     let e : Entry = c.args.entry.now in
     let longer : IsLegal (H ++ e ∷ []) =
     subst (λ (X : List Entry). IsLegal (X ++ e ∷ [])) (sym c.self.view_is) c.requires.legal in
-    let known : lease_of H c.args.report.run ≡ Some c.args.lease =
-    ap (λ (X : List Entry). lease_of X c.args.report.run) c.self.view_is ∙ c.requires.leased in
+    let known : lease_of H c.args.lease.run ≡ Some c.args.lease =
+    ap (λ (X : List Entry). lease_of X c.args.lease.run) c.self.view_is ∙ c.requires.leased in
     let stands : StandsAfter H e c.args.standing =
     subst (λ (X : List Entry). StandsAfter X e c.args.standing) (sym c.self.view_is) c.requires.stands in
     let s = c.self.inside in
     let k : ℕ = c.args.lease.search - 1 in
     let has =
-    report-search H s.leases.items s.searches.items (keys s.tests) e c.args.report c.args.lease c.self.invariant longer
-    c.requires.reports known in
+    told-search H s.leases.items s.searches.items (keys s.tests) e c.args.lease.run c.args.lease c.self.invariant longer
+    c.requires.tells known in
     let x : Noted = c.index_mut.result.now in
     let same : c.index.result.now ≡ x =
     c.index.ensures ∙ get_or-any s.searches.items k c.index.result.now x has.high ∙ sym c.index_mut.ensures.value in
@@ -66,6 +66,6 @@ invariant_of-self-2 c =
     c.tell.ensures
     (subst (λ (n : Noted). AreKept (H ++ e ∷ []) s.leases.items (set s.searches.items k n) (keys c.list.new.tests))
     (sym c.stand.ensures)
-    (kept-uncounted H s.leases.items s.searches.items (keys s.tests) (keys c.list.new.tests) e c.args.report c.args.lease
-    c.args.standing x c.self.invariant longer c.requires.reports known stands c.requires.counts_not c.index_mut.ensures.value
+    (kept-uncounted H s.leases.items s.searches.items (keys s.tests) (keys c.list.new.tests) e c.args.lease.run c.args.lease
+    c.args.standing x c.self.invariant longer c.requires.tells known stands c.requires.counts_not c.index_mut.ensures.value
     listed))

@@ -1,20 +1,20 @@
 use Rattle.std.proofs.Common.{◌≡◌, ℕ, List, reverse, sym, ap, subst, ◌∙◌}
+use Rattle.open_positions.specs.Open.{open_pick}
 use Rattle.threshold_pick.specs.CanPick.{CanPick}
-use Rattle.threshold_pick.specs.Picks.{IsPick}
-use Rattle.weight_exact.specs.Plan.{pick}
+use Rattle.threshold_pick.specs.Picks.{open_pick_in}
 use Rattle.farm_entry.specs.Setup.{setup_of}
 use Rattle.farm_entry.specs.declared.standing.Standing.TheVariants.{Searching}
+use Rattle.belief_laws.proofs.Beliefs.{belief-can_pick, belief-picks}
 use Rattle.search_state.specs.SearchInside.{search_view}
 use Rattle.search_state.specs.SearchView.{SearchView, standing_in}
-use Rattle.search_state.proofs.Picks.{undecided-can_pick, undecided-pick}
-use Rattle.search_state.proofs.Reclosed.{kept-searching, undecided}
+use Rattle.search_state.proofs.Reclosed.{kept-belief, kept-searching}
 use Rattle.search_state.proofs.state.SearchState.pick.Goals as goal
 
-pub pick_uncounted-requires-clause-sums : goal.pick_uncounted-requires-clause-sums
-pick_uncounted-requires-clause-sums c =
+pub open_pick_uncounted-requires-clause-sums : goal.open_pick_uncounted-requires-clause-sums
+open_pick_uncounted-requires-clause-sums c =
     let s = c.self.inside in
     let none = (kept-searching s c.args.self.now c.self.view_is c.requires.searching).none in
-    let can = undecided-can_pick s.opening.value (reverse s.runs) s.belief (undecided s c.self.invariant none) in
+    let can = belief-can_pick s.opening.value (reverse s.runs) s.belief (kept-belief s c.self.invariant) none in
     subst (λ (floor : ℕ). CanPick floor c.sums.result.now) (sym c.floor.ensures)
     (subst (λ (sums : List ℕ). CanPick s.belief.floor sums) (sym c.sums.ensures) can)
 
@@ -26,24 +26,20 @@ returns-then-j-eq1 c =
     let h = c.self.invariant in
     let searching : standing_in (search_view s) ≡ Searching =
     subst (λ (v : SearchView). standing_in v ≡ Searching) (sym c.self.view_is) c.requires.searching in
-    let none = (kept-searching s c.args.self.now c.self.view_is c.requires.searching).none in
-    let first : IsPick s.belief.sums s.belief.floor 1 s.width s.first = h.planned (h.standing_is ∙ searching) in
-    let here : IsPick s.belief.sums s.belief.floor c.args.j o.width s.first =
-    subst (λ (j : ℕ). IsPick s.belief.sums s.belief.floor j o.width s.first) (sym c.if-j-eq1.true)
-    (subst (λ (width : ℕ). IsPick s.belief.sums s.belief.floor 1 width s.first) h.set_up.width_is first) in
-    undecided-pick o (reverse s.runs) s.belief c.args.j s.first (undecided s h none) here
-    ∙ ap (λ (v : SearchView). pick (setup_of v.opening) v.runs v.opening.width c.args.j) c.self.view_is
+    h.planned (h.standing_is ∙ searching)
+    ∙ ap (λ (j : ℕ). open_pick_in s.belief.sums s.belief.floor s.skips j o.width) (sym c.if-j-eq1.true)
+    ∙ belief-picks o (reverse s.runs) s.belief s.skips c.args.j (kept-belief s h)
+    ∙ ap (λ (v : SearchView). open_pick (setup_of v.opening) v.runs v.skipped v.opening.width c.args.j) c.self.view_is
 
 pub returns : goal.returns
 returns c =
     let s = c.self.inside in
     let o = s.opening.value in
-    let none = (kept-searching s c.args.self.now c.self.view_is c.requires.searching).none in
-    let position = c.pick_uncounted.result in
-    let picks : IsPick c.sums.result.now c.floor.result c.args.j s.width position = c.pick_uncounted.ensures in
-    let here : IsPick s.belief.sums s.belief.floor c.args.j o.width position =
-    subst (λ (width : ℕ). IsPick s.belief.sums s.belief.floor c.args.j width position) c.self.invariant.set_up.width_is
-    (subst (λ (floor : ℕ). IsPick s.belief.sums floor c.args.j s.width position) c.floor.ensures
-    (subst (λ (sums : List ℕ). IsPick sums c.floor.result c.args.j s.width position) c.sums.ensures picks)) in
-    undecided-pick o (reverse s.runs) s.belief c.args.j position (undecided s c.self.invariant none) here
-    ∙ ap (λ (v : SearchView). pick (setup_of v.opening) v.runs v.opening.width c.args.j) c.self.view_is
+    let h = c.self.invariant in
+    let j = c.args.j in
+    c.open_pick_uncounted.ensures
+    ∙ ap (λ (sums : List ℕ). open_pick_in sums c.floor.result s.skips j s.width) c.sums.ensures
+    ∙ ap (λ (floor : ℕ). open_pick_in s.belief.sums floor s.skips j s.width) c.floor.ensures
+    ∙ ap (λ (width : ℕ). open_pick_in s.belief.sums s.belief.floor s.skips j width) h.set_up.width_is
+    ∙ belief-picks o (reverse s.runs) s.belief s.skips j (kept-belief s h)
+    ∙ ap (λ (v : SearchView). open_pick (setup_of v.opening) v.runs v.skipped v.opening.width j) c.self.view_is

@@ -18,9 +18,9 @@ pub returns-in_err-sent-clause-says : goal.returns-in_err-sent-clause-says
 returns-in_err-sent-clause-says g c = λ worker runner keys.
     let p = err_from_is_err_and c.from_residual-in_err-sent.result c.from_residual-in_err-sent.ensures.1 in
     rw (p.1, p.2)
-    (asked-short (Unit {0}) worker c.args.self.now c.args.self.now (report_request c.args.run c.args.verdict) report_event
+    (asked-short (Unit {0}) worker c.args.self.now c.args.self.now (report_request c.args.run c.args.tested) report_event
     as_held (g.N.Network.told c.args.network.now) (g.N.Network.told c.send_once.new.network) runner keys
-    c.in_err-sent.field-0.0 (asks-report worker c.args.self.now.core.last c.args.run c.args.verdict c.requires)
+    c.in_err-sent.field-0.0 (asks-report worker c.args.self.now.core.last c.args.run c.args.tested c.requires)
     (subst (λ (r : List ℕ). SendsOnce r (g.N.Network.told c.args.network.now) (g.N.Network.told c.send_once.new.network)
     (Err c.in_err-sent.field-0.0)) (c.deref.ensures.value ∙ c.in_ok-request.ensures) c.in_err-sent.ensures.sends))
 
@@ -28,24 +28,24 @@ pub returns-in_err-event-clause-says : goal.returns-in_err-event-clause-says
 returns-in_err-event-clause-says g c = λ worker runner keys.
     let p = err_from_is_err_and c.from_residual-in_err-event.result c.from_residual-in_err-event.ensures.1 in
     rw (p.1, p.2)
-    (asked-err (Unit {0}) worker c.args.self.now c.args.self.now (report_request c.args.run c.args.verdict) report_event
+    (asked-err (Unit {0}) worker c.args.self.now c.args.self.now (report_request c.args.run c.args.tested) report_event
     as_held (g.N.Network.told c.args.network.now) (g.N.Network.told c.send_once.new.network) runner keys
     c.in_ok-sent.sent c.in_err-event.field-0.0
-    (asks-report worker c.args.self.now.core.last c.args.run c.args.verdict c.requires)
+    (asks-report worker c.args.self.now.core.last c.args.run c.args.tested c.requires)
     (subst (λ (r : List ℕ). SendsOnce r (g.N.Network.told c.args.network.now) (g.N.Network.told c.send_once.new.network)
     (Ok c.in_ok-sent.sent)) (c.deref.ensures.value ∙ c.in_ok-request.ensures) c.in_ok-sent.ensures.sends)
     (λ _. sym c.in_err-event.ensures))
 
 pub note-requires : goal.note-requires
 note-requires g c =
-    (report-is c.args.run c.args.verdict c.in_ok-sent.sent c.in_ok-event.event (sym c.in_ok-event.ensures)).other
+    (report-is c.args.run c.args.tested c.in_ok-sent.sent c.in_ok-event.event (sym c.in_ok-event.ensures)).other
 
 pub returns-clause-says : goal.returns-clause-says
 returns-clause-says g c = λ worker runner keys.
-    asked-ok {A = Unit {0}} worker c.args.self.now c.note.new.self (report_request c.args.run c.args.verdict) report_event
+    asked-ok {A = Unit {0}} worker c.args.self.now c.note.new.self (report_request c.args.run c.args.tested) report_event
     as_held (g.N.Network.told c.args.network.now) (g.N.Network.told c.send_once.new.network) runner keys tt
     c.in_ok-sent.sent c.in_ok-event.event
-    (asks-report worker c.args.self.now.core.last c.args.run c.args.verdict c.requires)
+    (asks-report worker c.args.self.now.core.last c.args.run c.args.tested c.requires)
     (subst (λ (r : List ℕ). SendsOnce r (g.N.Network.told c.args.network.now) (g.N.Network.told c.send_once.new.network)
     (Ok c.in_ok-sent.sent)) (c.deref.ensures.value ∙ c.in_ok-request.ensures) c.in_ok-sent.ensures.sends)
     (sym c.in_ok-event.ensures)

@@ -1,0 +1,5 @@
+pub mod Nearest
+pub mod Plans
+pub mod Firsts
+pub mod Blocks
+pub mod Listed

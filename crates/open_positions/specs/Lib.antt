@@ -1,0 +1,4 @@
+pub mod Open
+pub mod Nearest
+pub mod Blocks
+pub mod SkipsInside
