@@ -4,12 +4,12 @@ doesn't, and status 1 where there is any.
 
     bench/documents.py
 
-It takes a second and needs nothing built. Looked at are
+It takes a few seconds and needs nothing built. Looked at are
 
-- docs/ARCHITECTURE.md: each crate of crates.txt has a row, and what its row says it stands on is in its line there;
-- docs/DEFINITIONS.md, PROMISES.md, DECISIONS.md and ARCHITECTURE.md: each name between backticks is a word of the code,
-  a module or a crate, and each path from a crate on is a file;
-- docs/TRUST.md: the number of lines of each file that it lists;
+- docs/ARCHITECTURE.md: each crate of crates.txt has a line, and a group stands on what its crates' lines there say;
+- docs/DEFINITIONS.md, PROMISES.md, DECISIONS.md, ARCHITECTURE.md and CHANGES.md: each name between backticks is a word
+  of the code, a module or a crate, and each path from a crate on is a file;
+- docs/TRUST.md: its numbers, which bench/trust.py makes;
 - must-fail and bench/edits: each `old:` text stands in its file exactly once, when its turn comes;
 - docs/EDITS.md: it has a row for each edit of bench/edits, and for no other.
 """
@@ -17,10 +17,12 @@ import pathlib
 import re
 import sys
 
+import trust
+
 ROOT = pathlib.Path(__file__).resolve().parent.parent
 CRATES = ROOT / "crates"
 EDITS = ROOT / "bench" / "edits"
-NAMED = ("DEFINITIONS", "PROMISES", "DECISIONS", "ARCHITECTURE")
+NAMED = ("DEFINITIONS", "PROMISES", "DECISIONS", "ARCHITECTURE", "CHANGES")
 # Names of other things: what a form is filled in with, files beside crates, types of the system and of libraries.
 OTHERS = {"NAME", "curl", "bench", "stdin", "stdout", "serde_json", "main", "old", "BAD", "EDIT"}
 found = []
@@ -35,30 +37,24 @@ def document(name):
     return (ROOT / "docs" / f"{name}.md").read_text()
 
 
-def lines_of(path):
-    files = sorted(path.glob("*.rt")) if path.is_dir() else [path]
-    return sum(len(file.read_text().splitlines()) for file in files)
-
-
 def check_layers():
-    below = {}
+    group, groups, below = None, {}, {}
     for line in (ROOT / "crates.txt").read_text().splitlines():
+        if heading := re.fullmatch(r"# (\w+)", line):
+            group = heading[1]
         name, colon, names = line.partition("#")[0].partition(":")
         if colon:
-            below[name.split()[0]] = names.split()
-    layers = document("ARCHITECTURE").partition("## What a change touches")[0]
-    rows = set()
-    for line in layers.splitlines():
-        cells = [cell.strip() for cell in line.split("|")[1:-1]]
-        if len(cells) < 2 or not re.fullmatch(r"`\w+`", cells[0]):
-            continue
-        name = cells[0].strip("`")
-        rows.add(name)
-        for lower in re.findall(r"`(\w+)`", cells[2]) if len(cells) == 3 else []:
-            if lower not in below.get(name, ()):
-                say("ARCHITECTURE", f"{name} stands on {lower}, which its line of crates.txt doesn't name")
+            groups[name], below[name] = group, names.split()
+    text = document("ARCHITECTURE")
+    rows = {name for line in text.splitlines() if line.startswith("- `")
+            for name in re.findall(r"`(\w+)`", line.partition(": ")[0])}
     for name in sorted(rows ^ below.keys()):
-        say("ARCHITECTURE", f"{name} has a row and no crate, or a crate and no row")
+        say("ARCHITECTURE", f"{name} has a line and no crate, or a crate and no line")
+    for name, stands_on in re.findall(r"^- (\w+): ([\w, ]+)$", text, re.MULTILINE):
+        crates = [crate for crate, own in groups.items() if own == name]
+        wanted = {groups[lower] for crate in crates for lower in below[crate] if lower in groups} - {name}
+        if set(stands_on.split(", ")) != wanted:
+            say("ARCHITECTURE", f"{name} stands on {', '.join(sorted(wanted))} by crates.txt, and not on {stands_on}")
 
 
 def check_names():
@@ -76,17 +72,12 @@ def check_names():
                         say(f"{name} {number}", f"no name {part}")
 
 
-def check_counts():
-    for line in document("TRUST").splitlines():
-        cells = [cell.strip() for cell in line.split("|")[1:-1]]
-        if len(cells) < 2 or not re.fullmatch(r"\d+", cells[1]):
-            continue
-        names = re.findall(r"`([^`]+)`", cells[0])
-        files = [CRATES / (name if "/src" in name else f"{name}.antt".replace("/", "/specs/")) for name in names]
-        missing = [str(file) for file in files if not file.exists()]
-        counted = 0 if missing else sum(map(lines_of, files))
-        if missing or counted != int(cells[1]):
-            say("TRUST", f"{cells[0]} has {counted} lines, not {cells[1]}" if not missing else f"no file {missing[0]}")
+def check_numbers():
+    page = document("TRUST")
+    made = trust.tables(trust.Tree(), page)
+    for old, new in zip(page.splitlines(), made.splitlines()):
+        if old != new:
+            say("TRUST", f"{old} should be {new} (bench/trust.py --write puts it there)")
 
 
 def check_edits():
@@ -119,7 +110,7 @@ def check_edit(edit, crate):
 
 check_layers()
 check_names()
-check_counts()
+check_numbers()
 check_edits()
 print("all as it should" if not found else f"{len(found)} places")
 sys.exit(bool(found))
