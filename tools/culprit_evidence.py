@@ -7,7 +7,7 @@ tell. So whoever has it can judge the search again, by the program or by another
 from __future__ import annotations
 
 import subprocess
-from typing import NamedTuple, Sequence
+from typing import Any, NamedTuple, Sequence
 
 from culprit_history import Run, Search
 from culprit_lib import NoAnswer, ending
@@ -62,6 +62,13 @@ class Evidence:
             raise NoAnswer(f"what became of the runs of search {search.number} isn't what {program} says of them")
         self.program, self.search, self.runs, self.judged = program, search, runs, judged
         self.text = text_of(search, runs)
+
+    def agreed(self, page: dict[str, Any]) -> "Evidence":
+        """This evidence, where `judge` finds in it what the program's page of the search says."""
+        if (self.judged.shares, self.judged.budget) != (page["shares"], page["budget"]):
+            raise NoAnswer(f"judge gives other shares for the runs of search {self.search.number} than the program's "
+                           "page of it")
+        return self
 
     def shares_after(self) -> tuple[list[int], dict[int, list[int]]]:
         """The shares before the first run, and those after each counted run, by its number: `judge` over the prefixes

@@ -124,18 +124,23 @@ class Service:
         self.last = b""  # the bytes of the last entry that was read
         self.unread: list[Told] = []  # entries that were read, and not handed on yet, as the service went away
 
-    def get(self, path: str) -> Optional[Page]:
-        """The reply at a path; None where there is none of what it names."""
+    def ask(self, path: str, seconds: float = TIMEOUT) -> tuple[int, bytes]:
+        """The status and the body at a path; each step of the answer may take so many seconds."""
         try:
             request = urllib.request.Request(self.url + path, headers=self.fields)
-            with urllib.request.urlopen(request, timeout=TIMEOUT) as answer:
-                body, status = answer.read(MOST_BYTES), answer.status
-        except urllib.error.HTTPError as fault:
-            with fault:
-                body, status = fault.read(MOST_BYTES), fault.code
+            try:
+                answer = urllib.request.urlopen(request, timeout=seconds)
+            except urllib.error.HTTPError as refusal:
+                answer = refusal
+            with answer:
+                return answer.status, answer.read(MOST_BYTES)
         except (OSError, ValueError, http.client.HTTPException) as fault:
             reason = getattr(fault, "reason", fault)
             raise Away(f"{self.url} doesn't answer: {plain(str(reason)) or type(fault).__name__}") from fault
+
+    def get(self, path: str) -> Optional[Page]:
+        """The reply at a path; None where there is none of what it names."""
+        status, body = self.ask(path)
         if status in (502, 503, 504, 507):
             raise Away(f"{self.url} answers with status {status}")
         try:

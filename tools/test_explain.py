@@ -34,6 +34,26 @@ def hidden(farm: Farm, bar: tuple[int, int] = (9, 10)) -> int:
     return number
 
 
+def at_random(farm: Farm, chance: random.Random) -> None:
+    """24 searches with runs in any order: late ones, lost ones, skips; some are cancelled."""
+    verdicts = ("pass", "fail", "fail", "skip")
+    for turn in range(1, 25):
+        number = farm.open(chance.randint(1, 9), 20 * turn, calm=chance.randint(1, 5), width=chance.randint(1, 4),
+                           miss=chance.choice(([0, 1], [1, 5])), rate=[1, chance.choice((3, 10, 50))])
+        out: list[int] = []
+        for _ in range(chance.randint(0, 40)):
+            lease = farm.lease()
+            out += [lease["run"]] if "run" in lease else []
+            if out and chance.random() < 0.8:
+                farm.report(out.pop(chance.randrange(len(out))), chance.choice(verdicts))
+            elif "run" not in lease:
+                farm.at += 60_000
+        if chance.random() < 0.6:
+            farm.ask("cancel", search=number)
+        for run in out:
+            farm.report(run, chance.choice(verdicts))
+
+
 def over(farm: Farm) -> int:
     """A search whose ninth run is one more than its numbers have room for."""
     number = farm.open(calm=1_000_000, rate=[1, 1000], bar=[9999, 10_000],
@@ -107,25 +127,8 @@ class Evident(Case):
         self.assertEqual(self.explain(1, "--evidence"), FOUR + "run 1 4 pass\nrun 2 1 fail\n")
 
     def test_judge_gives_the_pages_of_random_farms(self) -> None:
-        chance = random.Random(1)
-        verdicts = ("pass", "fail", "fail", "skip")
         farm = self.found()
-        for number in range(1, 25):
-            count = chance.randint(1, 9)
-            farm.open(count, 20 * number, calm=chance.randint(1, 5), width=chance.randint(1, 4),
-                      miss=chance.choice(([0, 1], [1, 5])), rate=[1, chance.choice((3, 10, 50))])
-            out: list[int] = []
-            for _ in range(chance.randint(0, 40)):
-                lease = farm.lease()
-                out += [lease["run"]] if "run" in lease else []
-                if out and chance.random() < 0.8:
-                    farm.report(out.pop(chance.randrange(len(out))), chance.choice(verdicts))
-                elif "run" not in lease:
-                    farm.at += 60_000
-            if chance.random() < 0.6:
-                farm.ask("cancel", search=number)
-            for run in out:
-                farm.report(run, chance.choice(verdicts))
+        at_random(farm, random.Random(1))
         program, seen = program_of(PROGRAM), set()
         for page in map(farm.page, range(1, 25)):
             found = found_in_journal(program, self.journal, page["search"])
@@ -137,6 +140,24 @@ class Evident(Case):
             self.assertEqual(judged.standing, "inconclusive" if over_it else ended)
             seen.add(page["standing"])
         self.assertGreaterEqual(seen, {"cancelled", "inconclusive", "no culprit", "vindicated"})
+
+    def test_the_program_writes_the_same_evidence(self) -> None:
+        program = program_of(PROGRAM)
+        if subprocess.run([program, "evidence", "/none", "1"], capture_output=True, check=False).returncode == 2:
+            self.skipTest("the program has no word evidence")
+        farm = self.found()
+        farm.open(calm=7, miss=[2, 10], rate=[4, 10], bar=[18, 20])
+        farm.play(culprit(2))
+        hidden(farm)
+        farm.at += 60_000
+        over(farm)
+        at_random(farm, random.Random(2))
+        farm.close()
+        for number in range(1, 28):
+            told = subprocess.run([program, "evidence", self.journal, str(number)], capture_output=True, check=True)
+            self.assertEqual(told.stdout.decode(), self.explain(number, "--evidence"))
+        told = subprocess.run([program, "evidence", self.journal, "28"], capture_output=True, check=False)
+        self.assertEqual((told.returncode, told.stdout), (16, b""))
 
 
 class Told(Case):

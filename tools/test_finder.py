@@ -365,13 +365,15 @@ class Built(Tree):
 
 class Words(Tree):
     FITS = """judge|audit|run|run J|found J 1000 0 east:840|found J 86400000 1000 west:720|show J|rates J|drill 1 1
+evidence J 1|evidence J 4294967295
 serve J A 16 1000000000|follow J A 1000000|work A 1000000 1 table:P|work A b 1000000 host:A"""
     MISFITS = """judgee|judge J|audit J|run J K|found J 999 0 east:0|found J 86400001 0 east:0|found J 1000 1001 east:0
 found J 01000 0 east:0|found J 1000 0 east:841|found J 1000 0 west:721|found J 1000 0 west:07|found J 1000 0 north:1
 found J 1000 0|found J 1000 0 east:0 x|show|show J K|show -J|rates|serve J A 0 1|serve J A 17 1|serve J A 4 0
 serve J A 4 1000000001|serve J A 4 99999999999999999999|serve J A 4|follow J A 0|follow J A 1000001|follow J A
 work A b 0 host:A|work A b 1000001 host:A|work A b 1 host:|work A b 1 file:P|work A b 1|drill 0 1|drill 2001 1
-drill 1 0|drill 1 5|drill 1|drill 1 1 1|--judge|judge --x|help-me"""
+drill 1 0|drill 1 5|drill 1|drill 1 1 1|evidence J|evidence J 0|evidence J 4294967296|evidence J 01
+--judge|judge --x|help-me"""
 
     def test_the_launcher_says_why_exactly_where_the_program_answers_usage(self):
         """Of the words that fit those are tried that end at once: for want of a journal, of a table or of input."""
@@ -392,9 +394,9 @@ drill 1 0|drill 1 5|drill 1|drill 1 1 1|--judge|judge --x|help-me"""
         self.assertIn("rt isn't on PATH", self.finder("explain", "J", "1").stderr)
         self.release()
         shown = "import os, sys\nprint(os.environ['CULPRIT_FINDER'], sys.argv[1:])\n"
-        for tool in ("explain", "watch"):
+        for tool in ("explain", "watch", "board"):
             (self.top / "tools" / tool).write_text(shown)
-            program = f"{self.top}/release/out/culprit_finder" if tool == "explain" else ""
+            program = "" if tool == "watch" else f"{self.top}/release/out/culprit_finder"
             ran = self.finder(tool, "a b", "--from")
             self.assertEqual((ran.returncode, ran.stdout), (0, f"{program} ['a b', '--from']\n"), ran.stderr)
         (self.bin / "python3").unlink()
@@ -422,8 +424,8 @@ class Installed(Tree):
         files = {str(it.relative_to(to)) for it in to.rglob("*") if it.is_file()}
         self.assertEqual({f"{to}/{it}" for it in files}, set(ran.stdout.splitlines()))
         for name in ("bin/finder", "bin/culprit_finder", "bin/git-culprit", "share/man/man1/finder.1",
-                     "share/man/man1/git-culprit.1", "share/man/man1/finder-explain.1",
-                     "lib/culprit_finder/explain", "lib/systemd/system/culprits.service"):
+                     "share/man/man1/git-culprit.1", "share/man/man1/finder-explain.1", "lib/culprit_finder/explain",
+                     "lib/culprit_finder/board_page.html", "lib/systemd/system/culprits.service"):
             self.assertIn(name, files)
         shutil.rmtree(self.top)
         here = {"env": {"PATH": f"{to}/bin:{self.bin}", "HOME": str(self.folder)}, "capture_output": True, "text": True}
@@ -441,6 +443,9 @@ class Installed(Tree):
         self.assertEqual((ran.returncode, ran.stdout, ran.stderr), (3, "", said))
         ran = subprocess.run(["finder", "watch", "127.0.0.1:1", "--from", "0"], **here)
         self.assertEqual((ran.returncode, ran.stderr), (2, "finder watch: 0 is no number of an entry, from 1 on\n"))
+        ran = subprocess.run(["finder", "board", "x", "127.0.0.1"], **here)
+        said = "finder board: 127.0.0.1 is no address, as 127.0.0.1:8090\n"
+        self.assertEqual((ran.returncode, ran.stderr), (2, said))
         (self.folder / "finder").symlink_to(to / "bin/finder")
         ran = subprocess.run([self.folder / "finder", "--path"], **here)
         self.assertEqual(ran.stdout, f"{to}/bin/culprit_finder\n")
@@ -522,7 +527,8 @@ class Here(unittest.TestCase):
         for word in re.findall(r"^  ./finder (\w+)", said, re.M):
             self.assertRegex(manual["finder"], rf"finder {word}\b")
         option = re.compile(r"(?<![\w-])--[a-z][a-z-]+")
-        for tool, page in (("git-culprit", "git-culprit"), ("explain", "finder-explain"), ("watch", "finder-watch")):
+        tools = {"git-culprit": "git-culprit", **{it: f"finder-{it}" for it in ("explain", "watch", "board")}}
+        for tool, page in tools.items():
             ran = subprocess.run([sys.executable, ROOT / "tools" / tool, "-h"], capture_output=True, text=True)
             self.assertLessEqual({*option.findall(ran.stdout)}, {*option.findall(manual[page])})
             self.assertGreaterEqual(len(option.findall(ran.stdout)), 2)

@@ -2,10 +2,11 @@
 use Rattle.std.proofs.Common.{ℕ, ◌≡◌, ◌+◌, Bool, true, false, if◌then◌else◌, List, [], length, drop, take, refl, sym, ap, subst, ◌∙◌, Option, Some, None, Result, Ok, Err, nat_lt, nat_le, ⊎_elim}
 use Rattle.std.specs.Prelude.{◌&&◌, ⊤}
 use Rattle.std.proofs.lemmas.Bool.{cases_Bool, false≢true}
-use Rattle.farm_entry.specs.Decision.{decide, is_show, or_else, page_decision}
+use Rattle.farm_entry.specs.Decision.{decide, is_show, or_else, page_decision, runs_decision}
 use Rattle.farm_entry.specs.History.{opening_numbered, order_lines}
 use Rattle.farm_entry.specs.Pages.{totals}
 use Rattle.farm_entry.specs.Playing.{after}
+use Rattle.farm_entry.specs.SearchLines.{search_list}
 use Rattle.farm_entry.specs.declared.command.Command.{Command}
 use Rattle.farm_entry.specs.declared.command.Command.TheVariants as command
 use Rattle.farm_entry.specs.declared.decision.Decision.{Decision}
@@ -25,14 +26,12 @@ use Rattle.http_requests.specs.Fields.{fields_of}
 use Rattle.http_requests.specs.Framing.{closes_after, has_host, has_origin, is_foreign, is_head_method, is_post, wants_interim}
 use Rattle.http_requests.specs.Items.{Item, IsRequest, body_of, head_size, item_by, item_of, refused}
 use Rattle.http_requests.proofs.Foreign.{item-foreign, item-hostless}
-use Rattle.http_routes.specs.Paths.{path_of}
-use Rattle.http_routes.specs.Routes.{allow_of, allows, endpoint_at, endpoint_by, endpoint_of, number_in, numbered, page_of, path_number}
-use Rattle.http_routes.specs.declared.page.Page.{Page}
-use Rattle.http_routes.specs.declared.page.Page.TheVariants as page
-use Rattle.http_words.specs.declared.endpoint.Endpoint.TheVariants as endpoint
+use Rattle.http_routes.proofs.Rows.{endpoint_of-holds, route_allow}
+use Rattle.http_routes.specs.Routes.{allows, endpoint_of}
+use Rattle.http_words.specs.declared.endpoint.Endpoint.{Endpoint}
 use Rattle.http_words.specs.declared.fault.Fault.{Fault}
 use Rattle.http_words.specs.declared.fault.Fault.TheVariants as fault
-use Rattle.http_words.specs.declared.fault.PathField.TheVariants as field
+use Rattle.http_words.specs.declared.route.Route.{Route}
 use Rattle.http_words.specs.declared.route.Route.TheVariants as route
 use Rattle.httparse.specs.Grammar.{RequestHead}
 use Rattle.connection_laws.specs.Kinds.{Kind, commands, faulty, kind_by, kind_of, log}
@@ -46,6 +45,11 @@ use Rattle.connection_laws.specs.Steps.{MayComeTo}
 page-adds_none : (H : List Entry) (search : ℕ) (o : Option Opening) → new_place H (page_decision H search o) ≡ []
 page-adds_none H search None = refl
 page-adds_none H search (Some o) = refl
+
+runs-adds_none : (H : List Entry) (search from : ℕ) (o : Option Opening)
+    → new_place H (runs_decision H search from o) ≡ []
+runs-adds_none H search from None = refl
+runs-adds_none H search from (Some o) = refl
 
 -- a full history still shows
 shown-full : (H : List Entry) (full : Bool) (d : Decision) → new_place H d ≡ []
@@ -67,6 +71,11 @@ show-adds_none H command.ShowFarm m shows =
     shown-full H (nat_le MAX_ENTRIES (length H)) (Show (reply.Farm (totals H))) refl
 show-adds_none H command.ShowOrders m shows =
     shown-full H (nat_le MAX_ENTRIES (length H)) (Show (reply.Orders (order_lines H))) refl
+show-adds_none H (command.ShowRuns search from) m shows =
+    shown-full H (nat_le MAX_ENTRIES (length H)) (runs_decision H search from (opening_numbered H search))
+    (runs-adds_none H search from (opening_numbered H search))
+show-adds_none H (command.ShowSearches from) m shows =
+    shown-full H (nat_le MAX_ENTRIES (length H)) (Show (reply.Searches (search_list H from))) refl
 
 -- a decision that adds nothing leaves the history as it is
 after-adds_none : (H : List Entry) (d : Decision) → new_place H d ≡ [] → after H d ≡ H
@@ -89,48 +98,32 @@ Shows (commands r) = ShowsIn r
 Shows kinds.totals = ⊤
 Shows (log from) = ⊤
 
-search-shows : (o : Option ℕ) (body : List ℕ)
-    → Shows (kind_by (numbered field.Search (λ search. endpoint.Command (route.Search search)) o) body)
+-- a route that POST alone doesn't ask for
+route-shows : (r : Route) (method body : List ℕ) → is_post method ≡ false → allows (route_allow r) method ≡ true
+    → Shows (commands (body_reading r body))
 unfolding body_reading
-search-shows None body = tt
-search-shows (Some n) body = refl
-
-log-shows : (o : Option ℕ) (body : List ℕ) → Shows (kind_by (numbered field.From endpoint.Log o) body)
-log-shows None body = tt
-log-shows (Some n) body = tt
-
--- a row in which the method stands, which isn't POST
-row-shows : (row : Page) (text method body : List ℕ) → is_post method ≡ false → allows (allow_of row) method ≡ true
-    → Shows (kind_by (endpoint_at row text) body)
-unfolding body_reading
-row-shows page.Searches text method body other allowed = absurd (false≢true (sym other ∙ allowed))
-row-shows page.Leases text method body other allowed = absurd (false≢true (sym other ∙ allowed))
-row-shows page.Report text method body other allowed = absurd (false≢true (sym other ∙ allowed))
-row-shows page.Cancel text method body other allowed = absurd (false≢true (sym other ∙ allowed))
-row-shows page.Reverts text method body other allowed = absurd (false≢true (sym other ∙ allowed))
-row-shows page.Search text method body other allowed = search-shows (path_number text) body
-row-shows page.Farm text method body other allowed = refl
-row-shows page.Orders text method body other allowed = refl
-row-shows page.Totals text method body other allowed = tt
-row-shows page.Log text method body other allowed = log-shows (path_number text) body
-
-allowed-shows : (b : Bool) (row : Page) (text method body : List ℕ) → is_post method ≡ false
-    → allows (allow_of row) method ≡ b
-    → Shows (kind_by (if b then endpoint_at row text else Err (fault.MethodNotAllowed (allow_of row))) body)
-allowed-shows true row text method body other allowed = row-shows row text method body other allowed
-allowed-shows false row text method body other allowed = tt
-
-path-shows : (o : Option Page) (text method body : List ℕ) → is_post method ≡ false
-    → Shows (kind_by (endpoint_by o text method) body)
-path-shows None text method body other = tt
-path-shows (Some row) text method body other =
-    allowed-shows (allows (allow_of row) method) row text method body other refl
+route-shows route.Open method body other allowed = absurd (false≢true (sym other ∙ allowed))
+route-shows route.Lease method body other allowed = absurd (false≢true (sym other ∙ allowed))
+route-shows (route.Report run) method body other allowed = absurd (false≢true (sym other ∙ allowed))
+route-shows (route.Cancel search) method body other allowed = absurd (false≢true (sym other ∙ allowed))
+route-shows route.Revert method body other allowed = absurd (false≢true (sym other ∙ allowed))
+route-shows (route.Search search) method body other allowed = refl
+route-shows (route.Runs search from) method body other allowed = refl
+route-shows (route.List from) method body other allowed = refl
+route-shows route.Farm method body other allowed = refl
+route-shows route.Orders method body other allowed = refl
 
 endpoint-shows : (method target body : List ℕ) → is_post method ≡ false
     → Shows (kind_by (endpoint_of method target) body)
-unfolding endpoint_of
 endpoint-shows method target body other =
-    path-shows (page_of (path_of target)) (number_in (path_of target)) method body other
+    endpoint_of-holds (λ (r : Result Endpoint Fault). Shows (kind_by r body)) method target (record {
+      command = λ r allowed. route-shows r method body other allowed;
+      totals = tt;
+      log = λ from one. tt;
+      not_found = tt;
+      not_allowed = λ methods. tt;
+      bad_field = λ name. tt;
+    })
 
 either-shows : (b : Bool) (x y : Item) → Shows (kind_of x) → Shows (kind_of y) → Shows (kind_of (if b then x else y))
 either-shows true x y p q = p

@@ -197,6 +197,8 @@ body-said (route.Report run) body short = and_then-said _ _ (object-said body sh
 body-said (route.Cancel search) body short = and_then-said _ _ (object-said body short) (cancel-said search)
 body-said route.Revert body short = and_then-said _ _ (object-said body short) revert-said
 body-said (route.Search search) body short = ok-said _
+body-said (route.Runs search from) body short = ok-said _
+body-said (route.List from) body short = ok-said _
 body-said route.Farm body short = ok-said _
 body-said route.Orders body short = ok-said _
 

@@ -38,19 +38,26 @@ fn step(
     }
 }
 
-// Shows each search. Answers whether all came as the plain program says.
+// Shows each search and its runs, the runs of one that isn't there, and the list of searches from the first one and
+// from the second one. Answers whether all came as the plain program says.
 fn show_all(table: &mut Table, tally: &mut Tally, at: Moment) -> bool {
-    for number in 0..count_of(openings_count(table.twin.history())) {
+    let count = count_of(openings_count(table.twin.history()));
+    for number in 0..count {
         let search = number.saturating_add(1);
-        if !table.ask(tally, &Command::ShowSearch { search }, at, true) {
+        if !table.ask(tally, &Command::ShowSearch { search }, at, true)
+            || !table.ask(tally, &Command::ShowRuns { search, from: 1 }, at, true)
+        {
             return false;
         }
     }
-    true
+    let search = count.saturating_add(1);
+    table.ask(tally, &Command::ShowRuns { search, from: 1 }, at, true)
+        && table.ask(tally, &Command::ShowSearches { from: 1 }, at, true)
+        && table.ask(tally, &Command::ShowSearches { from: 2 }, at, true)
 }
 
-/// Plays a farm by so many steps, and then shows each search. Answers the number of the first step at which the farm
-/// and the plain program weren't alike, if there is one.
+/// Plays a farm by so many steps, and then shows each search and its runs. Answers the number of the first step at which
+/// the farm and the plain program weren't alike, if there is one.
 pub(crate) fn play(
     alloc: Global,
     table: &mut Table,

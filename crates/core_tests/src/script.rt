@@ -1,16 +1,18 @@
 //! Scripts of words, whose answers are printed. `open:KEY` opens a search for one of two suspects and `lease:KEY` asks
 //! for a run, each so many minutes after the founding as its key says; `opens:COUNT` and `leases:COUNT` do so under
 //! each key from 1 on, and print the last answer; `pass:RUN`, `fail:RUN` and `skip:RUN` report a run, `farm` shows the
-//! totals and `page:SEARCH` the page of a search, `entry:PLACE` prints an entry, `retract:COUNT` takes the last entries
-//! back, and `admit:PLACE` admits the entry that was first made at a place.
+//! totals and `page:SEARCH` the page of a search, `shown:SEARCH` says whether the list of searches and the runs of one,
+//! from several on, are what the plain program says, `entry:PLACE` prints an entry, `retract:COUNT` takes the last
+//! entries back, and `admit:PLACE` admits the entry that was first made at a place.
 
 use crate::asks::{PLAIN, lease, open};
 use crate::moments::moment_or;
 use crate::table::{Table, admit_copy, take_back};
 use crate::words::number_of;
 use farm_core::{CoreFault, Farm, Prepared};
-use farm_entry::{Command, Reply};
+use farm_entry::{Command, Decision, PAGE_LINES, Reply};
 use farm_types::{Memory, Moment};
+use plain_farm::decide;
 use std::alloc::Global;
 use std::io;
 use weight_exact::Verdict;
@@ -94,6 +96,35 @@ fn print_call(
     println!(rt; "{called:?}")
 }
 
+// Whether a command that shows something comes to what the plain program says.
+fn is_shown(alloc: Global, farm: &mut Farm, command: &Command, at: Moment) -> bool {
+    let wanted = decide(alloc, farm.history(), command, at);
+    match (farm.prepare(command, at), wanted) {
+        (Ok(Prepared::Shown(shown)), Ok(Decision::Show(wanted))) => shown == wanted,
+        _ => false,
+    }
+}
+
+// Whether the runs of a search and the list of searches are shown as the plain program says, from several numbers on.
+fn are_shown(alloc: Global, farm: &mut Farm, search: u32, at: Moment) -> bool {
+    let page = PAGE_LINES;
+    for from in [
+        1,
+        2,
+        page,
+        page.saturating_add(1),
+        page.saturating_mul(2),
+        u32::MAX,
+    ] {
+        if !is_shown(alloc, farm, &Command::ShowRuns { search, from }, at)
+            || !is_shown(alloc, farm, &Command::ShowSearches { from }, at)
+        {
+            return false;
+        }
+    }
+    true
+}
+
 // Prints the entry at a place of the farm.
 fn print_entry(rt: &impl Print, farm: &Farm, place: usize) -> io::Result<()> {
     let entry = farm.history().get(place);
@@ -125,6 +156,10 @@ fn play_word(
     match name {
         "entry" => print_entry(rt, &table.farm, number as usize),
         "admit" => print_admitted(rt, table, number as usize),
+        "shown" => {
+            let alike = are_shown(alloc, &mut table.farm, number, start);
+            println!(rt; "{alike}")
+        }
         "retract" => {
             let done = take_back(&mut table.farm, number as usize);
             println!(rt; "{done}")

@@ -6,7 +6,7 @@ use std::io;
 use suspect_range::RangeFault;
 
 /// How many kinds of things are counted.
-const KINDS: usize = 45;
+const KINDS: usize = 47;
 
 /// The kinds, in the order in which they are told.
 const NAMES: [&str; KINDS] = [
@@ -19,6 +19,8 @@ const NAMES: [&str; KINDS] = [
     "search shown",
     "farm shown",
     "orders shown",
+    "runs shown",
+    "searches shown",
     "repeated",
     "left uncommitted",
     "counted",
@@ -128,6 +130,8 @@ fn kind_of_reply(reply: &Reply) -> &'static str {
         Reply::Search(_) => "search shown",
         Reply::Farm(_) => "farm shown",
         Reply::Orders(_) => "orders shown",
+        Reply::Runs(_) => "runs shown",
+        Reply::Searches(_) => "searches shown",
     }
 }
 

@@ -11,7 +11,7 @@ use Rattle.farm_rules.specs.declared.orders.Draft.{Draft}
 use Rattle.farm_rules.specs.declared.orders.NoOrder.{NoOrder}
 use Rattle.farm_rules.specs.declared.orders.NoOrder.TheVariants as none
 use Rattle.farm_types.specs.Moment.{moment_ms}
-use Rattle.farm_entry.specs.Decision.{add_opening, asked_before, asks_for, decide, key_of, cancel_decision, keyed_decision, known_decision, lease_decision, moment_used, own_decision, page_decision, refuse_opening, repeat_or_clash, report_decision, revert_decision, shape_decision, skip_decision}
+use Rattle.farm_entry.specs.Decision.{add_opening, asked_before, asks_for, decide, key_of, cancel_decision, keyed_decision, known_decision, lease_decision, moment_used, own_decision, page_decision, refuse_opening, repeat_or_clash, report_decision, revert_decision, runs_decision, shape_decision, skip_decision}
 use Rattle.farm_entry.specs.Due.{next_run}
 use Rattle.farm_entry.specs.History.{key_in, lease_of, opening_numbered, openings, place_of_key, place_of_report, told_in}
 use Rattle.farm_entry.specs.Legal.{IsLegal, ask_of, command_of}
@@ -110,6 +110,8 @@ known-keyed H (command.TakeRevert k agent) key h = ap (keyed_decision H (command
 known-keyed H (command.ShowSearch search) key h = absurd (none-some key h)
 known-keyed H command.ShowFarm key h = absurd (none-some key h)
 known-keyed H command.ShowOrders key h = absurd (none-some key h)
+known-keyed H (command.ShowRuns search from) key h = absurd (none-some key h)
+known-keyed H (command.ShowSearches from) key h = absurd (none-some key h)
 
 -- a command whose key stands at a place, by whether the entry there is what it asks for
 pub keyed-at : (H : List Entry) (q : Command) (key : Key) (place : ℕ) (e : Entry) (b : Bool) → key_of q ≡ Some key →
@@ -225,6 +227,11 @@ page-new : (H : List Entry) (search : ℕ) (o : Option Opening) → is_repeat (p
 page-new H search None = refl
 page-new H search (Some o) = refl
 
+runs-new : (H : List Entry) (search from : ℕ) (o : Option Opening) →
+    is_repeat (runs_decision H search from o) ≡ false
+runs-new H search from None = refl
+runs-new H search from (Some o) = refl
+
 own-new : (H : List Entry) (q : Command) (M : Moment) → is_repeat (own_decision H q M) ≡ false
 own-new H (command.Open ask) M =
     open-new M (opening_of ask (length (openings H) + 1)) (nat_le MAX_SEARCHES (length (openings H)))
@@ -236,6 +243,8 @@ own-new H (command.TakeRevert key agent) M = revert-new key agent M (next_order_
 own-new H (command.ShowSearch search) M = page-new H search (opening_numbered H search)
 own-new H command.ShowFarm M = refl
 own-new H command.ShowOrders M = refl
+own-new H (command.ShowRuns search from) M = runs-new H search from (opening_numbered H search)
+own-new H (command.ShowSearches from) M = refl
 
 speaks-held : (H : List Entry) (q : Command) (m : Moment) (place : ℕ) → IsLegal H → Speaks H q m (Repeat place) →
     HoldsWhat H q place
@@ -310,6 +319,12 @@ open-formed command.ShowFarm q same ask is =
 open-formed command.ShowOrders q same ask is =
     let both : command.ShowOrders ≡ command.Open ask = same ∙ is in
     let b : true ≡ false = cc in absurd (true≢false b)
+open-formed (command.ShowRuns search from) q same ask is =
+    let both : command.ShowRuns search from ≡ command.Open ask = same ∙ is in
+    let b : true ≡ false = cc in absurd (true≢false b)
+open-formed (command.ShowSearches from) q same ask is =
+    let both : command.ShowSearches from ≡ command.Open ask = same ∙ is in
+    let b : true ≡ false = cc in absurd (true≢false b)
 
 -- a command that reports a run is known by the place of the run's report
 known-told : (H : List Entry) (q : Command) (run place : ℕ) → run_told q ≡ Some run → place_of_report H run ≡ Some place →
@@ -325,6 +340,8 @@ known-told H (command.TakeRevert k agent) run place e found = absurd (none-some 
 known-told H (command.ShowSearch search) run place e found = absurd (none-some run e)
 known-told H command.ShowFarm run place e found = absurd (none-some run e)
 known-told H command.ShowOrders run place e found = absurd (none-some run e)
+known-told H (command.ShowRuns search from) run place e found = absurd (none-some run e)
+known-told H (command.ShowSearches from) run place e found = absurd (none-some run e)
 
 found-repeated : (H : List Entry) (q : Command) (m : Moment) (place : ℕ) (e : Entry) → IsLegal H →
     slice_get H place ≡ Some e → IsWhat e q →

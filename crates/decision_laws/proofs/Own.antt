@@ -17,7 +17,7 @@ use Rattle.farm_types.specs.declared.key.Key.{Key}
 use Rattle.farm_types.specs.declared.moment.Moment.{Moment}
 use Rattle.farm_rules.proofs.Earliest.{earliest-contained, earliest-none}
 use Rattle.farm_entry.specs.Ask.{asked_bar, asked_miss, asked_range, asked_rate, asked_reruns, asked_width, opening_of}
-use Rattle.farm_entry.specs.Decision.{add_opening, cancel_decision, lease_decision, moment_used, own_decision, page_decision, report_decision, revert_decision, skip_decision}
+use Rattle.farm_entry.specs.Decision.{add_opening, cancel_decision, lease_decision, moment_used, own_decision, page_decision, report_decision, revert_decision, runs_decision, skip_decision}
 use Rattle.farm_entry.specs.Due.{due, due_runs, next_run, soonest}
 use Rattle.farm_entry.specs.History.{daily_limit, lease_of, opening_numbered, openings, order_lines}
 use Rattle.farm_entry.specs.Orders.{confirmed_at, confirmed_searches, day_in, next_order_at, ordered, orders}
@@ -176,11 +176,20 @@ page-refused : (H : List Entry) (search : ℕ) (m : Moment) (r : Refusal) (o : O
 page-refused H search m r None t e h =
     caused H (command.ShowSearch search) m (UnknownSearch search) r (record {
       taken = t;
-      names = inr refl;
+      names = inr (inl refl);
       unknown =
           e;
     }) h
 page-refused H search m r (Some o) t e h = let b : true ≡ false = cc in absurd (true≢false b)
+
+runs-refused : (H : List Entry) (search from : ℕ) (m : Moment) (r : Refusal) (o : Option Opening) →
+    IsTaken H (command.ShowRuns search from) →
+    opening_numbered H search ≡ o → runs_decision H search from o ≡ Refuse r →
+    CauseOf r H (command.ShowRuns search from) m
+runs-refused H search from m r None t e h =
+    caused H (command.ShowRuns search from) m (UnknownSearch search) r
+    (record { taken = t; names = inr (inr (from, refl)); unknown = e }) h
+runs-refused H search from m r (Some o) t e h = let b : true ≡ false = cc in absurd (true≢false b)
 
 -- Orders.
 
@@ -393,6 +402,9 @@ own-refused H (command.TakeRevert key agent) m r t h =
 own-refused H (command.ShowSearch search) m r t h = page-refused H search m r (opening_numbered H search) t refl h
 own-refused H command.ShowFarm m r t h = let b : true ≡ false = cc in absurd (true≢false b)
 own-refused H command.ShowOrders m r t h = let b : true ≡ false = cc in absurd (true≢false b)
+own-refused H (command.ShowRuns search from) m r t h =
+    runs-refused H search from m r (opening_numbered H search) t refl h
+own-refused H (command.ShowSearches from) m r t h = let b : true ≡ false = cc in absurd (true≢false b)
 
 -- And back: where a cause holds, its refusal is the command's own decision.
 
@@ -425,6 +437,8 @@ unknown-refused H (command.TakeRevert k agent) run M e none = absurd (none-some 
 unknown-refused H (command.ShowSearch search) run M e none = absurd (none-some run e)
 unknown-refused H command.ShowFarm run M e none = absurd (none-some run e)
 unknown-refused H command.ShowOrders run M e none = absurd (none-some run e)
+unknown-refused H (command.ShowRuns search from) run M e none = absurd (none-some run e)
+unknown-refused H (command.ShowSearches from) run M e none = absurd (none-some run e)
 
 pub no_lease-refused : (H : List Entry) (q : Command) (run : ℕ) (M : Moment) → IsOfNoLease H q run →
     own_decision H q M ≡ Refuse (UnknownRun run)
@@ -436,8 +450,11 @@ no_search-refused H q search M c =
     ⊎_elim
     (λ (cancels : (key : Key) × (q ≡ command.Cancel key search)).
     ap (λ (x : Command). own_decision H x M) cancels.1 ∙ ap (cancel_decision H cancels.0 search M) c.unknown)
+    (⊎_elim
     (λ (shows : q ≡ command.ShowSearch search).
     ap (λ (x : Command). own_decision H x M) shows ∙ ap (page_decision H search) c.unknown)
+    (λ (shows : (from : ℕ) × (q ≡ command.ShowRuns search from)).
+    ap (λ (x : Command). own_decision H x M) shows.1 ∙ ap (runs_decision H search shows.0) c.unknown))
     c.names
 
 pub ended-refuses : (H : List Entry) (q : Command) (s : Standing) (M : Moment) → HasEnded H q s →

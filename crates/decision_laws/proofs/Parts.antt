@@ -108,6 +108,8 @@ formed (command.TakeRevert key agent) h other e = absurd (let b : true ≡ false
 formed (command.ShowSearch search) h other e = absurd (let b : true ≡ false = cc in true≢false b)
 formed command.ShowFarm h other e = absurd (let b : true ≡ false = cc in true≢false b)
 formed command.ShowOrders h other e = absurd (let b : true ≡ false = cc in true≢false b)
+formed (command.ShowRuns search from) h other e = absurd (let b : true ≡ false = cc in true≢false b)
+formed (command.ShowSearches from) h other e = absurd (let b : true ≡ false = cc in true≢false b)
 
 pub shape-none : (q : Command) → IsWellFormed q → shape_decision q ≡ None
 shape-none (command.Open ask) h = ap refuse_opening (h ask refl).1
@@ -119,6 +121,8 @@ shape-none (command.TakeRevert key agent) h = refl
 shape-none (command.ShowSearch search) h = refl
 shape-none command.ShowFarm h = refl
 shape-none command.ShowOrders h = refl
+shape-none (command.ShowRuns search from) h = refl
+shape-none (command.ShowSearches from) h = refl
 
 -- what the shape says is that an open is outside
 pub record ShapeSays (q : Command) (d : Decision) : Type 0 where
@@ -143,6 +147,8 @@ shape-says (command.TakeRevert key agent) d h = absurd (none-some _ h)
 shape-says (command.ShowSearch search) d h = absurd (none-some _ h)
 shape-says command.ShowFarm d h = absurd (none-some _ h)
 shape-says command.ShowOrders d h = absurd (none-some _ h)
+shape-says (command.ShowRuns search from) d h = absurd (none-some _ h)
+shape-says (command.ShowSearches from) d h = absurd (none-some _ h)
 
 -- The key and the run.
 
@@ -168,6 +174,8 @@ new-key H (command.TakeRevert k agent) h key e = keyed-new H (command.TakeRevert
 new-key H (command.ShowSearch search) h key e = no_key key H e
 new-key H command.ShowFarm h key e = no_key key H e
 new-key H command.ShowOrders h key e = no_key key H e
+new-key H (command.ShowRuns search from) h key e = no_key key H e
+new-key H (command.ShowSearches from) h key e = no_key key H e
 
 report-new : (H : List Entry) (r : ℕ) → option_map Repeat (place_of_report H r) ≡ None → (run : ℕ) → Some r ≡ Some run →
     place_of_report H run ≡ None
@@ -186,6 +194,8 @@ new-run H (command.TakeRevert k agent) h run e = absurd (none-some run e)
 new-run H (command.ShowSearch search) h run e = absurd (none-some run e)
 new-run H command.ShowFarm h run e = absurd (none-some run e)
 new-run H command.ShowOrders h run e = absurd (none-some run e)
+new-run H (command.ShowRuns search from) h run e = absurd (none-some run e)
+new-run H (command.ShowSearches from) h run e = absurd (none-some run e)
 
 pub is_new : (H : List Entry) (q : Command) → shape_decision q ≡ None → known_decision H q ≡ None → IsNew H q
 is_new H q s k = record { formed = formed q s; key = new-key H q k; run = new-run H q k }
@@ -202,6 +212,8 @@ known-none H (command.TakeRevert k agent) n =
 known-none H (command.ShowSearch search) n = refl
 known-none H command.ShowFarm n = refl
 known-none H command.ShowOrders n = refl
+known-none H (command.ShowRuns search from) n = refl
+known-none H (command.ShowSearches from) n = refl
 
 -- what the key or the run says: a repeat, by the key or by the run, or a clash
 pub data KnownSays (H : List Entry) (q : Command) (d : Decision) : Type 0 where
@@ -245,6 +257,8 @@ known-says H (command.TakeRevert k agent) d h =
 known-says H (command.ShowSearch search) d h = absurd (none-some d h)
 known-says H command.ShowFarm d h = absurd (none-some d h)
 known-says H command.ShowOrders d h = absurd (none-some d h)
+known-says H (command.ShowRuns search from) d h = absurd (none-some d h)
+known-says H (command.ShowSearches from) d h = absurd (none-some d h)
 
 -- The room.
 

@@ -35,6 +35,8 @@ told-through (command.TakeRevert key agent) c run first second = absurd (none-so
 told-through (command.ShowSearch search) c run first second = absurd (none-some run first)
 told-through command.ShowFarm c run first second = absurd (none-some run first)
 told-through command.ShowOrders c run first second = absurd (none-some run first)
+told-through (command.ShowRuns search from) c run first second = absurd (none-some run first)
+told-through (command.ShowSearches from) c run first second = absurd (none-some run first)
 
 -- and back: two reports of a run ask for the same
 pub both-told : (q p : Command) (run : ℕ) → run_told q ≡ Some run → run_told p ≡ Some run → AsksTheSame q p
@@ -47,6 +49,8 @@ both-told (command.TakeRevert key agent) p run first second = absurd (none-some 
 both-told (command.ShowSearch search) p run first second = absurd (none-some run first)
 both-told command.ShowFarm p run first second = absurd (none-some run first)
 both-told command.ShowOrders p run first second = absurd (none-some run first)
+both-told (command.ShowRuns search from) p run first second = absurd (none-some run first)
+both-told (command.ShowSearches from) p run first second = absurd (none-some run first)
 
 -- what asks for the same as a command that asks for the same asks for the same
 asks-through : (a b c : Command) → AsksTheSame a b → AsksTheSame b c → AsksTheSame a c
@@ -63,6 +67,9 @@ asks-through (command.TakeRevert key agent) b c first second =
 asks-through (command.ShowSearch search) b c first second = subst (λ (x : Command). AsksTheSame x c) (sym first) second
 asks-through command.ShowFarm b c first second = subst (λ (x : Command). AsksTheSame x c) (sym first) second
 asks-through command.ShowOrders b c first second = subst (λ (x : Command). AsksTheSame x c) (sym first) second
+asks-through (command.ShowRuns search from) b c first second =
+    subst (λ (x : Command). AsksTheSame x c) (sym first) second
+asks-through (command.ShowSearches from) b c first second = subst (λ (x : Command). AsksTheSame x c) (sym first) second
 
 pub same-repeated : (H : List Entry) (q p : Command) (m n : Moment) (place : ℕ) → IsLegal H → AsksTheSame q p →
     decide H q m ≡ Repeat place → decide H p n ≡ Repeat place

@@ -12,7 +12,7 @@ use Rattle.farm_rules.specs.declared.orders.NoOrder.TheVariants as none
 use Rattle.farm_types.specs.declared.key.Key.{Key}
 use Rattle.weight_exact.specs.declared.run.Verdict.{Verdict}
 use Rattle.farm_entry.specs.Ask.{opening_of}
-use Rattle.farm_entry.specs.Decision.{add_opening, cancel_decision, decide, lease_decision, moment_used, own_decision, page_decision, report_decision, revert_decision, skip_decision}
+use Rattle.farm_entry.specs.Decision.{add_opening, cancel_decision, decide, lease_decision, moment_used, own_decision, page_decision, report_decision, revert_decision, runs_decision, skip_decision}
 use Rattle.farm_entry.specs.Due.{due, due_runs, next_run, sooner, soonest}
 use Rattle.farm_entry.specs.History.{last_lease, lease_in, lease_of, opening_numbered, openings}
 use Rattle.farm_entry.specs.Legal.{IsLegal}
@@ -215,6 +215,11 @@ page-timed : (H : List Entry) (search : ℕ) (M : Moment) (o : Option Opening) �
 page-timed H search M None = inl refl
 page-timed H search M (Some o) = inl refl
 
+runs-timed : (H : List Entry) (search from : ℕ) (M : Moment) (o : Option Opening) →
+    IsTimed (runs_decision H search from o) M
+runs-timed H search from M None = inl refl
+runs-timed H search from M (Some o) = inl refl
+
 own-timed : (H : List Entry) (q : Command) (M : Moment) → IsTimed (own_decision H q M) M
 own-timed H (command.Open ask) M =
     open-timed M (opening_of ask (length (openings H) + 1)) (nat_le MAX_SEARCHES (length (openings H)))
@@ -226,6 +231,8 @@ own-timed H (command.TakeRevert key agent) M = revert-timed key agent M (next_or
 own-timed H (command.ShowSearch search) M = page-timed H search M (opening_numbered H search)
 own-timed H command.ShowFarm M = inl refl
 own-timed H command.ShowOrders M = inl refl
+own-timed H (command.ShowRuns search from) M = runs-timed H search from M (opening_numbered H search)
+own-timed H (command.ShowSearches from) M = inl refl
 
 timed-at : (d : Decision) (M : Moment) (e : Entry) → d ≡ New e → IsTimed d M → M ≡ e.at
 timed-at d M e is timed =

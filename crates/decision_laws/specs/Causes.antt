@@ -15,7 +15,7 @@ use Rattle.farm_entry.specs.Orders.{day_in, orders}
 use Rattle.farm_entry.specs.Setup.{commit_of}
 use Rattle.farm_entry.specs.Standing.{is_active, standing}
 use Rattle.farm_entry.specs.declared.command.Command.{Command}
-use Rattle.farm_entry.specs.declared.command.Command.TheVariants.{Open, Lease, Report, Skip, Cancel, TakeRevert, ShowSearch}
+use Rattle.farm_entry.specs.declared.command.Command.TheVariants.{Open, Lease, Report, Skip, Cancel, TakeRevert, ShowSearch, ShowRuns}
 use Rattle.farm_entry.specs.declared.command.OpenAsk.{OpenAsk}
 use Rattle.farm_entry.specs.declared.entry.Entry.{Entry}
 use Rattle.farm_entry.specs.declared.limits.TheConstants.{MAX_ENTRIES, MAX_SEARCHES}
@@ -110,10 +110,11 @@ pub record IsOfNoLease (H : List Entry) (q : Command) (run : ℕ) : Type 0 where
   pub reports : run_told q ≡ Some run
   pub unknown : lease_of H run ≡ None
 
--- a search is to be cancelled or shown that was never opened
+-- a search that was never opened is to be cancelled, or it or its runs are to be shown
 pub record IsOfNoSearch (H : List Entry) (q : Command) (search : ℕ) : Type 0 where
   pub taken : IsTaken H q
-  pub names : ((key : Key) × (q ≡ Cancel key search)) ⊎ (q ≡ ShowSearch search)
+  pub names : ((key : Key) × (q ≡ Cancel key search))
+      ⊎ ((q ≡ ShowSearch search) ⊎ ((from : ℕ) × (q ≡ ShowRuns search from)))
   pub unknown : opening_numbered H search ≡ None
 
 -- a search is to be cancelled that has ended

@@ -18,12 +18,14 @@ use Rattle.farm_entry.specs.Due.{next_run}
 use Rattle.farm_entry.specs.History.{all_leases, lease_ms, lease_of, opening_numbered, openings, order_lines, place_of_key, place_of_report, reruns, runs, same_stage}
 use Rattle.farm_entry.specs.Orders.{next_order_at}
 use Rattle.farm_entry.specs.Pages.{page_of, totals}
+use Rattle.farm_entry.specs.RunPages.{runs_page}
+use Rattle.farm_entry.specs.SearchLines.{search_list}
 use Rattle.farm_entry.specs.Setup.{budget_of_search, setup_of}
 use Rattle.farm_entry.specs.Standing.{is_active, standing}
 use Rattle.farm_entry.specs.declared.decision.Decision.{Decision}
 use Rattle.farm_entry.specs.declared.decision.Decision.TheVariants.{New, Refuse, Repeat, Show}
 use Rattle.farm_entry.specs.declared.command.Command.{Command}
-use Rattle.farm_entry.specs.declared.command.Command.TheVariants.{Open, Lease as LeaseRun, Report as ReportRun, Skip as SkipRun, Cancel, TakeRevert, ShowSearch, ShowFarm, ShowOrders}
+use Rattle.farm_entry.specs.declared.command.Command.TheVariants.{Open, Lease as LeaseRun, Report as ReportRun, Skip as SkipRun, Cancel, TakeRevert, ShowSearch, ShowFarm, ShowOrders, ShowRuns, ShowSearches}
 use Rattle.farm_entry.specs.declared.command.OpenAsk.{OpenAsk}
 use Rattle.farm_entry.specs.declared.entry.Entry.{Entry}
 use Rattle.farm_entry.specs.declared.entry.Fate.{Fate}
@@ -77,6 +79,8 @@ key_of (SkipRun run) = None
 key_of (Cancel key search) = Some key
 key_of (TakeRevert key agent) = Some key
 key_of (ShowSearch search) = None
+key_of (ShowRuns search from) = None
+key_of (ShowSearches from) = None
 key_of ShowFarm = None
 key_of ShowOrders = None
 
@@ -117,6 +121,8 @@ abbrev pub is_show : Command → Bool
 is_show (ShowSearch search) = true
 is_show ShowFarm = true
 is_show ShowOrders = true
+is_show (ShowRuns search from) = true
+is_show (ShowSearches from) = true
 is_show q = false
 
 abbrev pub full_decision : List Entry → Command → Option Decision
@@ -197,6 +203,10 @@ abbrev pub page_decision : List Entry → (search : ℕ) → Option Opening → 
 page_decision H search None = Refuse (UnknownSearch search)
 page_decision H search (Some o) = Show (reply.Search (page_of H o))
 
+abbrev pub runs_decision : List Entry → (search from : ℕ) → Option Opening → Decision
+runs_decision H search from None = Refuse (UnknownSearch search)
+runs_decision H search from (Some o) = Show (reply.Runs (runs_page H from o))
+
 abbrev pub own_decision : List Entry → Command → Moment → Decision
 own_decision H (Open ask) m = open_decision H ask m
 own_decision H (LeaseRun key worker) m = lease_decision H key worker m (next_run H (moment_ms m))
@@ -207,6 +217,8 @@ own_decision H (TakeRevert key agent) m = revert_decision key agent m (next_orde
 own_decision H (ShowSearch search) m = page_decision H search (opening_numbered H search)
 own_decision H ShowFarm m = Show (reply.Farm (totals H))
 own_decision H ShowOrders m = Show (reply.Orders (order_lines H))
+own_decision H (ShowRuns search from) m = runs_decision H search from (opening_numbered H search)
+own_decision H (ShowSearches from) m = Show (reply.Searches (search_list H from))
 
 -- the decision that is there, or else another
 abbrev pub or_else : Option Decision → Decision → Decision

@@ -6,6 +6,8 @@ pub mod History
 pub mod Standing
 pub mod Due
 pub mod Orders
+pub mod RunPages
+pub mod SearchLines
 pub mod Pages
 pub mod Reply
 pub mod Decision

@@ -52,6 +52,18 @@ pub enum Command {
     ShowFarm,
     /// To show all orders.
     ShowOrders,
+    /// To show the runs of a search, a page of them.
+    ShowRuns {
+        /// The number of the search, from 1.
+        search: u32,
+        /// The first run of the page: the `from`-th of the search, from 1.
+        from: u32,
+    },
+    /// To show the searches of the farm, a page of them.
+    ShowSearches {
+        /// The number of the first search of the page, from 1.
+        from: u32,
+    },
 }
 
 /// Suspects as a request lists them, in commit order, and not tested yet: any number of them, with any weights.

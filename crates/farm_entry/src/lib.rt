@@ -10,12 +10,12 @@
 //! by `settings_fault` why numbers are no settings.
 //!
 //! The definitions stand in `specs/`, to be read in this order: `Ask` (the search that a request asks for), `Setup`
-//! (from an opening to its weights), `History` (what a list of entries holds), `Standing`, `Due`, `Orders`, `Pages`,
-//! `Reply`, `Decision`, `Answer`, `Legal` and `Playing` (what becomes of a history as commands are decided). They
-//! compute. Their laws stand in a crate above this one, `farm_laws`, and farms that are played by evaluating them in
-//! `farm_worked`. The layers above may cite the lemmas of `proofs/Growing` (what a history holds after appending an
-//! entry, and its last moment), `proofs/Asked` (what is made of the numbers of an ask) and `proofs/SameSettings`. Its
-//! tests stand in `entry_tests`.
+//! (from an opening to its weights), `History` (what a list of entries holds), `Standing`, `Due`, `Orders`, `RunPages`,
+//! `SearchLines`, `Pages`, `Reply`, `Decision`, `Answer`, `Legal` and `Playing` (what becomes of a history as commands
+//! are decided). They compute. Their laws stand in a crate above this one, `farm_laws`, and farms that are played by
+//! evaluating them in `farm_worked`. The layers above may cite the lemmas of `proofs/Growing` (what a history holds
+//! after appending an entry, and its last moment), `proofs/Asked` (what is made of the numbers of an ask) and
+//! `proofs/SameSettings`. Its tests stand in `entry_tests`.
 #![tactic(auto)]
 
 mod answer;
@@ -33,6 +33,8 @@ mod opening;
 mod order_page;
 mod refusal;
 mod reply;
+mod run_page;
+mod search_list;
 mod settings;
 mod standing;
 mod states;
@@ -42,11 +44,13 @@ pub use command::{Command, OpenAsk, Suspects};
 pub use decision::Decision;
 pub use entry::{Entry, Fate, SkipFate, What};
 pub use lease::{DueRun, LeasedRun, ReportedRun, SkippedRun};
-pub use limits::{MAX_ENTRIES, MAX_RERUNS, MAX_SEARCHES};
+pub use limits::{MAX_ENTRIES, MAX_RERUNS, MAX_SEARCHES, PAGE_LINES};
 pub use moments::{last_moment, later, moment_used};
 pub use opening::{BoxedOpening, Opening};
 pub use order_page::{OrderLine, OrderPage};
 pub use refusal::{OpenFault, Refusal};
 pub use reply::{Positions, Reply, SearchPage, Shares, Totals};
+pub use run_page::{RunLine, RunOutcome, RunPage, RunReport};
+pub use search_list::{SearchLine, SearchList};
 pub use settings::{LEASE_MAX_MS, LEASE_MIN_MS, MAX_DAILY, Settings, SettingsFault};
 pub use standing::Standing;

@@ -6,3 +6,6 @@ pub const MAX_SEARCHES: u32 = 2_000;
 
 /// The greatest number of reruns with which a search is verified; the least is 1.
 pub const MAX_RERUNS: u32 = 8;
+
+/// The most lines of a page of runs, and of the list of searches.
+pub const PAGE_LINES: u32 = 100;

@@ -103,7 +103,9 @@ impl Command {
             | Command::Skip { .. }
             | Command::ShowSearch { .. }
             | Command::ShowFarm
-            | Command::ShowOrders => None,
+            | Command::ShowOrders
+            | Command::ShowRuns { .. }
+            | Command::ShowSearches { .. } => None,
         }
     }
 
@@ -112,7 +114,11 @@ impl Command {
         ensures { result ≡ is_show self.now }
     {
         match self {
-            Command::ShowSearch { .. } | Command::ShowFarm | Command::ShowOrders => true,
+            Command::ShowSearch { .. }
+            | Command::ShowFarm
+            | Command::ShowOrders
+            | Command::ShowRuns { .. }
+            | Command::ShowSearches { .. } => true,
             _ => false,
         }
     }

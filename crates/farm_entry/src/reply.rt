@@ -1,4 +1,4 @@
-use crate::{Fate, OrderPage, SkipFate, Standing};
+use crate::{Fate, OrderPage, RunPage, SearchList, SkipFate, Standing};
 use farm_types::{CommitId, Name, Stage};
 use item_list::ItemList;
 use weight_exact::Verdict;
@@ -79,6 +79,10 @@ pub enum Reply {
     Farm(Totals),
     /// All orders are shown.
     Orders(OrderPage),
+    /// Runs of a search are shown.
+    Runs(RunPage),
+    /// Searches of the farm are shown.
+    Searches(SearchList),
 }
 
 /// How the belief of a search is shared out, in basis points, each rounded down: one number for each suspect, in commit

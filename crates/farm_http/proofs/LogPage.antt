@@ -1,26 +1,20 @@
 -- A request for a log page, answered by itself.
-use Rattle.std.proofs.Common.{ℕ, ◌≡◌, ◌≤◌, ◌<◌, inl, inr, ◌&&◌, Bool, true, false, if◌then◌else◌, nat_lt, nat_le, List, drop, length, Option, Some, None, Result, Ok, Err, refl, sym, ap, ◌∙◌, subst, arith, append-nil}
+use Rattle.std.proofs.Common.{ℕ, ◌≡◌, ◌≤◌, inl, inr, Bool, true, false, if◌then◌else◌, nat_lt, List, drop, length, Option, Result, Ok, Err, refl, sym, ap, ◌∙◌, subst, arith, append-nil}
 use Rattle.std.specs.Prelude.{⊤}
-use Rattle.std.proofs.lemmas.Bool.Decides.{nat_tests}
 use Rattle.connection_laws.specs.Answers.{response_of}
 use Rattle.connection_laws.specs.Kinds.{kind_by}
 use Rattle.connection_laws.specs.Outcomes.{Step, copied}
 use Rattle.connection_laws.specs.Progress.{Progress, IsWithin}
 use Rattle.connection_laws.specs.declared.served.ServeFault.{ServeFault}
-use Rattle.decimal_text.specs.Decimals.{number}
 use Rattle.connection_laws.specs.Moments.{Given}
 use Rattle.http_requests.specs.Items.{Item, IsNext, body_of, head_size, item_by, item_of}
 use Rattle.http_requests.specs.Next.{IsNextFor, item_in}
 use Rattle.http_requests.specs.declared.request.Request.{Request}
-use Rattle.http_routes.specs.Routes.{allow_of, allows, endpoint_at, endpoint_by, endpoint_of, from_one, last_number, number_in, numbered, page_of, path_number}
-use Rattle.http_routes.specs.Paths.{path_of}
-use Rattle.http_routes.specs.declared.page.Page.{Page}
-use Rattle.http_routes.specs.declared.page.Page.TheVariants as page
+use Rattle.http_routes.proofs.Rows.{endpoint_of-holds}
+use Rattle.http_routes.specs.Routes.{endpoint_of}
 use Rattle.http_words.specs.declared.endpoint.Endpoint.{Endpoint}
 use Rattle.http_words.specs.declared.endpoint.Endpoint.TheVariants as endpoint
 use Rattle.http_words.specs.declared.fault.Fault.{Fault}
-use Rattle.http_words.specs.declared.fault.Fault.TheVariants as fault
-use Rattle.http_words.specs.declared.fault.PathField.{PathField}
 use Rattle.httparse.specs.Grammar.{RequestHead}
 use Rattle.list_prefix.specs.Prefix.{IsPrefix}
 use Rattle.list_prefix.proofs.Prefixes.{IsPrefix-refl, IsPrefix-trans}
@@ -40,53 +34,16 @@ IsFromOne (Ok (endpoint.Log from)) = 1 ≤ from
 IsFromOne (Ok _) = ⊤
 IsFromOne (Err f) = ⊤
 
-some-number : (n : ℕ) (b c : Bool) → nat_lt 0 n ≡ b → (m : ℕ) → (if b && c then Some n else None) ≡ Some m → 1 ≤ m
-some-number n true true is m e = let same : n ≡ m = cc in let low : 0 < n = grind (arith, nat_tests) in omega arith
-some-number n true false is m e = let bad : ⊥ = cc in absurd bad
-some-number n false c is m e = let bad : ⊥ = cc in absurd bad
-
-one-number : (o : Option ℕ) (m : ℕ) → from_one o ≡ Some m → 1 ≤ m
-one-number None m e = let bad : ⊥ = cc in absurd bad
-one-number (Some n) m e = some-number n (nat_lt 0 n) (nat_le n last_number) refl m e
-
-path-number : (text : List ℕ) (m : ℕ) → path_number text ≡ Some m → 1 ≤ m
-unfolding path_number
-path-number text m e = one-number (number text) m e
-
-log-numbered : (name : PathField) (o : Option ℕ) → ((m : ℕ) → o ≡ Some m → 1 ≤ m)
-    → IsFromOne (numbered name endpoint.Log o)
-log-numbered name None some = tt
-log-numbered name (Some n) some = some n refl
-
-command-numbered : (name : PathField) (make : ℕ → Endpoint) (o : Option ℕ) → ((m : ℕ) → IsFromOne (Ok (make m)))
-    → IsFromOne (numbered name make o)
-command-numbered name make None other = tt
-command-numbered name make (Some n) other = other n
-
-page-from : (row : Page) (text : List ℕ) → IsFromOne (endpoint_at row text)
-page-from page.Searches text = tt
-page-from page.Leases text = tt
-page-from page.Report text = command-numbered _ _ (path_number text) (λ m. tt)
-page-from page.Cancel text = command-numbered _ _ (path_number text) (λ m. tt)
-page-from page.Reverts text = tt
-page-from page.Search text = command-numbered _ _ (path_number text) (λ m. tt)
-page-from page.Farm text = tt
-page-from page.Orders text = tt
-page-from page.Totals text = tt
-page-from page.Log text = log-numbered _ (path_number text) (path-number text)
-
-row-from : (b : Bool) (row : Page) (text : List ℕ) (f : Fault) → IsFromOne (if b then endpoint_at row text else Err f)
-row-from true row text f = page-from row text
-row-from false row text f = tt
-
-by-from : (o : Option Page) (text method : List ℕ) → IsFromOne (endpoint_by o text method)
-by-from None text method = tt
-by-from (Some row) text method = row-from (allows (allow_of row) method) row text
-    (fault.MethodNotAllowed (allow_of row))
-
 endpoint-from : (method target : List ℕ) → IsFromOne (endpoint_of method target)
-unfolding endpoint_of
-endpoint-from method target = by-from (page_of (path_of target)) (number_in (path_of target)) method
+endpoint-from method target =
+    endpoint_of-holds IsFromOne method target (record {
+      command = λ r allowed. tt;
+      totals = tt;
+      log = λ from one. one;
+      not_found = tt;
+      not_allowed = λ methods. tt;
+      bad_field = λ name. tt;
+    })
 
 either-from : (b : Bool) (x y : Item) → IsFromOne x.asks → IsFromOne y.asks → IsFromOne (if b then x else y).asks
 either-from true x y p q = p

@@ -8,7 +8,7 @@ use Rattle.farm_rules.specs.declared.orders.NoOrder.TheVariants as none
 use Rattle.farm_types.specs.Moment.{moment_ms}
 use Rattle.farm_types.specs.declared.key.Key.{Key}
 use Rattle.farm_types.specs.declared.moment.Moment.{Moment}
-use Rattle.farm_entry.specs.Decision.{add_at, add_opening, decide, cancel_decision, full_decision, known_decision, last_moment, later, lease_decision, moment_used, or_else, own_decision, page_decision, refuse_opening, repeat_or_clash, report_decision, revert_decision, shape_decision, skip_decision}
+use Rattle.farm_entry.specs.Decision.{add_at, add_opening, decide, cancel_decision, full_decision, known_decision, last_moment, later, lease_decision, moment_used, or_else, own_decision, page_decision, refuse_opening, repeat_or_clash, report_decision, revert_decision, runs_decision, shape_decision, skip_decision}
 use Rattle.farm_entry.specs.Ask.{opening_of}
 use Rattle.farm_entry.specs.History.{openings, place_of_key}
 use Rattle.farm_entry.specs.Legal.{IsAddedBy, IsNext, ask_of, command_of}
@@ -111,6 +111,11 @@ page-adds : (H : List Entry) (search : ℕ) (o : Option Opening) (e : Entry) →
 page-adds H s None e h = refused-adds _ e h
 page-adds H s (Some o) e h = shown-adds _ e h
 
+runs-adds : (H : List Entry) (search from : ℕ) (o : Option Opening) (e : Entry) →
+    runs_decision H search from o ≡ New e → ⊥
+runs-adds H s from None e h = refused-adds _ e h
+runs-adds H s from (Some o) e h = shown-adds _ e h
+
 -- an entry that names a command is the one that the command adds at the entry's moment
 next-as : (H : List Entry) (q : Command) (m : Moment) (e : Entry) → Says q m e → decide H q m ≡ New e → IsNext H e
 next-as H q m e s h =
@@ -189,3 +194,7 @@ recorded H (command.TakeRevert key agent) m e h =
 recorded H (command.ShowSearch search) m e h = absurd (page-adds H search _ e (passed H (command.ShowSearch search) m e h).own)
 recorded H command.ShowFarm m e h = absurd (shown-adds _ e (passed H command.ShowFarm m e h).own)
 recorded H command.ShowOrders m e h = absurd (shown-adds _ e (passed H command.ShowOrders m e h).own)
+recorded H (command.ShowRuns search from) m e h =
+    absurd (runs-adds H search from _ e (passed H (command.ShowRuns search from) m e h).own)
+recorded H (command.ShowSearches from) m e h =
+    absurd (shown-adds _ e (passed H (command.ShowSearches from) m e h).own)

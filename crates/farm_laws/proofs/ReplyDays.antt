@@ -10,7 +10,7 @@ use Rattle.farm_types.specs.declared.key.Key.{Key}
 use Rattle.farm_types.specs.declared.moment.Moment.{Moment}
 use Rattle.farm_types.specs.declared.moment.TheConstants.{LAST_DAY}
 use Rattle.weight_exact.specs.declared.run.Verdict.{Verdict}
-use Rattle.farm_entry.specs.Decision.{add_at, add_opening, asked_before, cancel_decision, decide, full_decision, keyed_decision, known_decision, lease_decision, moment_used, or_else, own_decision, page_decision, refuse_opening, repeat_or_clash, report_decision, revert_decision, shape_decision, skip_decision}
+use Rattle.farm_entry.specs.Decision.{add_at, add_opening, asked_before, cancel_decision, decide, full_decision, keyed_decision, known_decision, lease_decision, moment_used, or_else, own_decision, page_decision, refuse_opening, repeat_or_clash, report_decision, revert_decision, runs_decision, shape_decision, skip_decision}
 use Rattle.farm_entry.specs.History.{lease_of, opening_numbered, order_in, order_lines, place_of_key, place_of_report}
 use Rattle.farm_entry.specs.Legal.{IsLegal}
 use Rattle.farm_entry.specs.Reply.{reply_at, reply_to, reply_to_report, reply_to_skip}
@@ -130,6 +130,10 @@ page-days : (H : List Entry) (search : ℕ) (o : Option Opening) → ShowsDays (
 page-days H search None = tt
 page-days H search (Some o) = tt
 
+runs-days : (H : List Entry) (search from : ℕ) (o : Option Opening) → ShowsDays (runs_decision H search from o)
+runs-days H search from None = tt
+runs-days H search from (Some o) = tt
+
 own-days : (H : List Entry) (q : Command) (m : Moment) → IsLegal H → ShowsDays (own_decision H q m)
 own-days H (command.Open ask) m legal = either-days _ (Refuse TooManySearches) (add_opening m _) tt (opening-days m _)
 own-days H (command.Lease key worker) m legal = lease-days H key worker m _
@@ -141,6 +145,8 @@ own-days H (command.ShowSearch search) m legal = page-days H search _
 own-days H command.ShowFarm m legal = tt
 own-days H command.ShowOrders m legal = λ k d below.
     order-day H (slice_index_or (order_lines H) k d) legal (All-contains_itself (order_lines H) k d below)
+own-days H (command.ShowRuns search from) m legal = runs-days H search from _
+own-days H (command.ShowSearches from) m legal = tt
 
 refused-days : (made : Result Opening OpenFault) → ShowsDaysIn (refuse_opening made)
 refused-days (Ok o) = tt
@@ -156,6 +162,8 @@ shape-days (command.TakeRevert key agent) = tt
 shape-days (command.ShowSearch search) = tt
 shape-days command.ShowFarm = tt
 shape-days command.ShowOrders = tt
+shape-days (command.ShowRuns search from) = tt
+shape-days (command.ShowSearches from) = tt
 
 placed-days : (f : ℕ → Decision) → ((place : ℕ) → ShowsDays (f place)) → (o : Option ℕ) → ShowsDaysIn (option_map f o)
 placed-days f dates None = tt
@@ -178,6 +186,8 @@ known-days H (command.TakeRevert key agent) = keyed-days H (command.TakeRevert k
 known-days H (command.ShowSearch search) = keyed-days H (command.ShowSearch search) None
 known-days H command.ShowFarm = keyed-days H command.ShowFarm None
 known-days H command.ShowOrders = keyed-days H command.ShowOrders None
+known-days H (command.ShowRuns search from) = keyed-days H (command.ShowRuns search from) None
+known-days H (command.ShowSearches from) = keyed-days H (command.ShowSearches from) None
 
 maybe-days : (b : Bool) (d : Decision) → ShowsDays d → ShowsDaysIn (if b then Some d else None)
 maybe-days true d dates = dates

@@ -147,6 +147,8 @@ known-adds H (command.TakeRevert key agent) = keyed-adds H (command.TakeRevert k
 known-adds H (command.ShowSearch s) = refl
 known-adds H command.ShowFarm = refl
 known-adds H command.ShowOrders = refl
+known-adds H (command.ShowRuns search from) = refl
+known-adds H (command.ShowSearches from) = refl
 
 full-adds : (H : List Entry) (q : Command) → adds (full_decision H q) ≡ false
 full-adds H q =

@@ -16,3 +16,5 @@ HasDays (reply.Ordered order commit search day) = day ≤ LAST_DAY
 HasDays (reply.Search page) = ⊤
 HasDays (reply.Farm totals) = ⊤
 HasDays (reply.Orders lines) = All (λ line. line.day ≤ LAST_DAY) lines
+HasDays (reply.Runs page) = ⊤
+HasDays (reply.Searches list) = ⊤

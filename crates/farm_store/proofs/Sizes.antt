@@ -21,7 +21,7 @@ use Rattle.farm_rules.specs.declared.orders.NoOrder.TheVariants as none
 use Rattle.farm_types.specs.declared.key.Key.{Key}
 use Rattle.weight_exact.specs.declared.run.Verdict.{Verdict}
 use Rattle.farm_entry.specs.Ask.{opening_of}
-use Rattle.farm_entry.specs.Decision.{add_at, add_opening, asked_before, cancel_decision, decide, full_decision, is_show, known_decision, lease_decision, moment_used, or_else, own_decision, page_decision, refuse_opening, repeat_or_clash, report_decision, revert_decision, shape_decision, skip_decision}
+use Rattle.farm_entry.specs.Decision.{add_at, add_opening, asked_before, cancel_decision, decide, full_decision, is_show, known_decision, lease_decision, moment_used, or_else, own_decision, page_decision, refuse_opening, repeat_or_clash, report_decision, revert_decision, runs_decision, shape_decision, skip_decision}
 use Rattle.farm_entry.specs.Due.{next_run}
 use Rattle.farm_entry.specs.History.{lease_of, opening_numbered, openings, place_of_key, place_of_report}
 use Rattle.farm_entry.specs.Orders.{next_order_at}
@@ -124,6 +124,8 @@ first-takes most (command.TakeRevert key agent) = tt
 first-takes most (command.ShowSearch search) = tt
 first-takes most command.ShowFarm = tt
 first-takes most command.ShowOrders = tt
+first-takes most (command.ShowRuns search from) = tt
+first-takes most (command.ShowSearches from) = tt
 
 place-takes : (most : ℕ) (H : List Entry) (q : Command) (place : Option ℕ)
     → TakesIf most (option_map (repeat_or_clash H q) place)
@@ -146,6 +148,8 @@ known-takes most H (command.TakeRevert key agent) =
 known-takes most H (command.ShowSearch search) = tt
 known-takes most H command.ShowFarm = tt
 known-takes most H command.ShowOrders = tt
+known-takes most H (command.ShowRuns search from) = tt
+known-takes most H (command.ShowSearches from) = tt
 
 full-takes : (most : ℕ) (b : Bool) → TakesIf most (if b then Some (decision.Refuse Full) else None)
 full-takes most true = tt
@@ -188,6 +192,11 @@ page-takes : (H : List Entry) (search : ℕ) (opening : Option Opening)
 page-takes H search None = tt
 page-takes H search (Some o) = tt
 
+runs-takes : (H : List Entry) (search from : ℕ) (opening : Option Opening)
+    → Takes MAX_SHORT_ENTRY_BYTES (runs_decision H search from opening)
+runs-takes H search from None = tt
+runs-takes H search from (Some o) = tt
+
 own-takes : (H : List Entry) (q : Command) (m : Moment) → Takes (command_size q) (own_decision H q m)
 own-takes H (command.Open ask) m =
     if-takes MAX_ENTRY_BYTES (nat_le MAX_SEARCHES (length (openings H))) (decision.Refuse TooManySearches)
@@ -201,6 +210,8 @@ own-takes H (command.TakeRevert key agent) m = revert-takes key agent m (next_or
 own-takes H (command.ShowSearch search) m = page-takes H search (opening_numbered H search)
 own-takes H command.ShowFarm m = tt
 own-takes H command.ShowOrders m = tt
+own-takes H (command.ShowRuns search from) m = runs-takes H search from (opening_numbered H search)
+own-takes H (command.ShowSearches from) m = tt
 
 decide-takes : (H : List Entry) (q : Command) (m : Moment) → Takes (command_size q) (decide H q m)
 decide-takes H q m =
@@ -247,6 +258,8 @@ command_size-most (command.TakeRevert key agent) = omega arith
 command_size-most (command.ShowSearch search) = omega arith
 command_size-most command.ShowFarm = omega arith
 command_size-most command.ShowOrders = omega arith
+command_size-most (command.ShowRuns search from) = omega arith
+command_size-most (command.ShowSearches from) = omega arith
 
 -- each ask takes as much as the longest entry at most
 pub asks_size-most : (asks : List Ask) → asks_size asks ≤ length asks * MAX_ENTRY_BYTES

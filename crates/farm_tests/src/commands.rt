@@ -76,6 +76,14 @@ fn report(text: &str) -> Command {
     }
 }
 
+fn show_runs(text: &str) -> Command {
+    let (search, from) = word(text);
+    Command::ShowRuns {
+        search: number_of(search),
+        from: number_of(from),
+    }
+}
+
 /// The command of a line, with this key where it has one.
 pub(crate) fn command_of(
     alloc: Global,
@@ -92,6 +100,10 @@ pub(crate) fn command_of(
         "report" => Ok(report(rest)),
         "skip" => Ok(Command::Skip {
             run: number_of(rest),
+        }),
+        "show_runs" => Ok(show_runs(rest)),
+        "show_searches" => Ok(Command::ShowSearches {
+            from: number_of(rest),
         }),
         _ => Ok(Command::TakeRevert {
             key,

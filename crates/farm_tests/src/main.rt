@@ -1,9 +1,10 @@
 //! Plays farms by the plain program, and prints what its calls tell of them. The cases of standard input are separated
 //! by an empty line. A case begins with the farm, as `found DAILY ZONE`: with so many orders a day, in a zone so many
 //! minutes east of UTC. Each line behind it is a command (`open FIRST COUNT WEIGHT`, with a width and a bar where they
-//! are named, `lease MOMENT`, `report RUN VERDICT`, `skip RUN`, `revert MOMENT`) or a question about the farm as it stands, and is printed with what it comes to. Where no moment
-//! is asked for, it is that at which the farm was founded. A line that begins with `#` is printed as it is. The file
-//! `stdout` has what is wanted; it was worked out by hand.
+//! are named, `lease MOMENT`, `report RUN VERDICT`, `skip RUN`, `revert MOMENT`, `show_runs SEARCH FROM`,
+//! `show_searches FROM`) or a question about the farm as it stands, and is printed with what it comes to. Where no
+//! moment is asked for, it is that at which the farm was founded. A line that begins with `#` is printed as it is. The
+//! file `stdout` has what is wanted; it was worked out by hand.
 //!
 //! The cases are what no other test shows: each call that takes memory with ample memory, a daily limit in a zone of
 //! its own, and lists that are no histories. Whole farms are played through the program in `finder_tests`, and by
@@ -52,9 +53,9 @@ fn play_line(rt: &impl Print, alloc: Global, game: &mut Game, line: &str) -> io:
     print!(rt; "{line}: ")?;
     let (name, rest) = word(line);
     match name {
-        "open" | "lease" | "report" | "skip" | "revert" => play_command(
-            rt, alloc, game, name, rest,
-        ),
+        "open" | "lease" | "report" | "skip" | "revert" | "show_runs" | "show_searches" => {
+            play_command(rt, alloc, game, name, rest)
+        }
         _ => print_told(rt, alloc, game.history(), name, rest),
     }
 }

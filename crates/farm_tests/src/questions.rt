@@ -6,13 +6,15 @@ use crate::answers::print_found;
 use crate::changes::print_change;
 use crate::orders::print_orders;
 use crate::searches::print_search;
-use crate::texts::moment_of;
+use crate::texts::{moment_of, number_of, word};
 use farm_entry::{Entry, LeasedRun, What};
 use farm_types::{Key, Memory, Stage};
 use plain_farm::{
-    due_runs, is_open, next_run, open_leases, outstanding_positions, reply_to, totals,
+    due_runs, is_open, next_run, open_leases, outstanding_positions, reply_to, search_list, totals,
 };
-use plain_history::{counted, leases, opening_numbered, push_some, reruns, runs, skipped};
+use plain_history::{
+    counted, leases, lines_from, opening_numbered, push_some, report_of, reruns, runs, skipped,
+};
 use std::alloc::Global;
 use std::io;
 
@@ -31,6 +33,17 @@ fn pushed(alloc: Global) -> Result<Vec<u32>, Memory> {
     push_some(&mut list, Some(7))?;
     push_some(&mut list, None)?;
     Ok(list)
+}
+
+// A page of the numbers from 1 to one, from one on: its first and its last number, and how many it has.
+fn paged(alloc: Global, text: &str) -> Result<(Option<u32>, Option<u32>, usize), Memory> {
+    let (count, from) = word(text);
+    let mut list = Vec::new(alloc);
+    for number in 0..number_of(count) {
+        list.push(number + 1)?;
+    }
+    let page = lines_from(list, number_of(from))?;
+    Ok((page.first().copied(), page.last().copied(), page.len()))
 }
 
 // Prints the reply to a cancellation of search 1.
@@ -75,6 +88,7 @@ fn print_history(
         "reruns" => print_found(rt, reruns(alloc, history, 1)),
         "skipped" => print_found(rt, skipped(alloc, history, 1)),
         "leases" => print_found(rt, leases(alloc, history, 1)),
+        "report_of" => println!(rt; "{:?}", report_of(history, number_of(rest))),
         "first_illegal" | "changed" | "without_first" | "no_entries" | "is_next" => {
             print_change(rt, alloc, history, name, rest)
         }
@@ -108,6 +122,8 @@ pub(crate) fn print_told(
         "totals" => print_found(rt, totals(alloc, history)),
         "reply_to_cancelled" => print_cancelled(rt, alloc, history),
         "pushed" => print_found(rt, pushed(alloc)),
+        "paged" => print_found(rt, paged(alloc, rest)),
+        "search_list" => print_found(rt, search_list(alloc, history, number_of(rest))),
         _ => print_history(rt, alloc, history, name, rest),
     }
 }

@@ -5,10 +5,12 @@ ghost use Rattle.farm_entry.specs.History.{openings};
 ghost use Rattle.farm_entry.specs.Legal.{IsLegal};
 
 use crate::answers::print_found;
-use crate::texts::moment_of;
+use crate::texts::{moment_of, number_of};
 use farm_entry::{Entry, Opening, Standing};
 use farm_types::Memory;
-use plain_farm::{belief, due, first_belief, page_of, plan, shares_of, standing, untestable_of};
+use plain_farm::{
+    belief, due, first_belief, page_of, plan, runs_page, shares_of, standing, untestable_of,
+};
 use posterior::Belief;
 use std::alloc::Global;
 use std::io;
@@ -72,6 +74,7 @@ pub(crate) fn print_search(
         "shares" => print_found(rt, shares_of(alloc, history, opening)),
         "untestable" => print_found(rt, untestable_of(alloc, history, opening)),
         "page" => print_found(rt, page_of(alloc, history, opening)),
+        "runs_page" => print_found(rt, runs_page(alloc, history, number_of(rest), opening)),
         _ => println!(rt; "unknown"),
     }
 }

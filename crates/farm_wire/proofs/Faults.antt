@@ -1,11 +1,14 @@
 -- Which faults a reading gives.
-use Rattle.std.proofs.Common.{◌≡◌, ◌≢◌, ◌<◌, List, ℕ, length, nat_lt, Bool, true, false, Option, Some, None, Result, Ok, Err, refl, sym, ap, subst}
+use Rattle.std.proofs.Common.{◌≡◌, ◌≢◌, ◌<◌, List, ℕ, length, nat_lt, Bool, true, false, Option, Some, None, Result, Ok}
+use Rattle.std.proofs.Common.{Err, refl, sym, ap, subst}
 use Rattle.std.specs.Option.{ok_or, option_and_then}
 use Rattle.std.proofs.lemmas.Bool.{lt-ltb}
 use Rattle.serde_json.specs.Data.{Data}
 use Rattle.serde_json.specs.Find.{get}
 use Rattle.farm_wire.specs.Fields.{field_name}
-use Rattle.farm_wire.specs.Reading.{and_then, body_reading, cancel_in, cancel_line_in, command_in, field_in, lease_in, line_reading, miss_in, miss_of, object_in, object_of, open_in, report_in, report_line_in, revert_in, search_in}
+use Rattle.farm_wire.specs.Reading.{and_then, body_reading, cancel_in, cancel_line_in, command_in, field_in, lease_in}
+use Rattle.farm_wire.specs.Reading.{line_reading, list_in, miss_in, miss_of, object_in, object_of, open_in, report_in}
+use Rattle.farm_wire.specs.Reading.{report_line_in, revert_in, runs_in, search_in}
 use Rattle.farm_wire.specs.declared.fault.WireFault.{WireFault}
 use Rattle.farm_wire.specs.declared.fault.WireFault.TheVariants.{BadField, BadJson, Memory, TooLong}
 use Rattle.farm_wire.specs.declared.field.Field.{Field}
@@ -106,6 +109,15 @@ search-said : (json : Data) → IsSaid (search_in json)
 unfolding search_in
 search-said json = and_then-said _ _ (field-said _ _ json) (λ search. ok-said _)
 
+runs-said : (json : Data) → IsSaid (runs_in json)
+unfolding runs_in
+runs-said json =
+    and_then-said _ _ (field-said _ _ json) (λ search. and_then-said _ _ (field-said _ _ json) (λ from. ok-said _))
+
+list-said : (json : Data) → IsSaid (list_in json)
+unfolding list_in
+list-said json = and_then-said _ _ (field-said _ _ json) (λ from. ok-said _)
+
 command-said : (asked : Verb) (json : Data) → IsSaid (command_in asked json)
 command-said verb.Open json = open-said json
 command-said verb.Lease json = lease-said json
@@ -115,6 +127,8 @@ command-said verb.Revert json = revert-said json
 command-said verb.Search json = search-said json
 command-said verb.Farm json = ok-said _
 command-said verb.Orders json = ok-said _
+command-said verb.Runs json = runs-said json
+command-said verb.List json = list-said json
 
 pub line_reading-said : (line : List ℕ) → line_reading line ≢ Err Memory
 unfolding line_reading
@@ -135,6 +149,8 @@ body-said route.Revert body = and_then-said _ _ (object-said body) revert-said
 body-said (route.Search search) body = ok-said _
 body-said route.Farm body = ok-said _
 body-said route.Orders body = ok-said _
+body-said (route.Runs search from) body = ok-said _
+body-said (route.List from) body = ok-said _
 
 pub body_reading-said : (r : Route) (body : List ℕ) → body_reading r body ≢ Err Memory
 body_reading-said r body = (body-said r body).said

@@ -7,4 +7,7 @@ pub mod MadeValues
 pub mod Objects
 pub mod Quoted
 pub mod Written
+mod WrittenItems
 pub mod WrittenOrders
+mod WrittenRuns
+mod WrittenSearches

@@ -1,5 +1,6 @@
 -- Values that the calls make are those that the definitions make.
-use Rattle.std.proofs.Common.{◌≡◌, ◌↔◌, ℕ, zero, suc, ◌<◌, nat_lt, List, [], ◌∷◌, slice_index, true, IsOk, OnOk, IfOk, IfErr, Some, None, Result, Ok, Err, refl, sym, subst, eq-eqb}
+use Rattle.std.proofs.Common.{◌≡◌, ◌↔◌, ℕ, zero, suc, ◌<◌, nat_lt, List, [], ◌∷◌, slice_index, true, IsOk, OnOk, IfOk}
+use Rattle.std.proofs.Common.{IfErr, Some, None, Result, Ok, Err, refl, sym, subst, eq-eqb}
 use Rattle.std.specs.List.{list_all}
 use Rattle.std.specs.Result.{result_ok}
 use Rattle.std.proofs.lemmas.Bool.{and_from, false≢true, lt-ltb}

@@ -1,5 +1,6 @@
 -- Texts that are written piece by piece are those of the replies.
-use Rattle.std.proofs.Common.{◌≡◌, ℕ, ◌+◌, List, [], ◌∷◌, ◌++◌, map, codes, decimal, true, Option, Some, None, refl, sym, ap, ◌∙◌, append_assoc, append-nil}
+use Rattle.std.proofs.Common.{◌≡◌, ℕ, ◌+◌, List, [], ◌∷◌, ◌++◌, map, codes, decimal, true, Option, Some, None, refl}
+use Rattle.std.proofs.Common.{sym, ap, ◌∙◌, append_assoc, append-nil}
 use Rattle.json.specs.Print.{escape_byte, quoted}
 use Rattle.serde_json.specs.Data.{string}
 use Rattle.serde_json.specs.View.{items_of}
@@ -12,7 +13,8 @@ use Rattle.farm_entry.specs.declared.reply.SearchPage.{SearchPage}
 use Rattle.farm_entry.specs.declared.reply.Totals.{Totals}
 use Rattle.farm_entry.specs.declared.standing.Standing.{Standing}
 use Rattle.farm_wire.specs.Dates.{day_text}
-use Rattle.farm_wire.specs.Members.{Named, commit_value, culprit_in, standing_word, where_any, where_some, whole, wholes, with_member}
+use Rattle.farm_wire.specs.Members.{Named, commit_value, culprit_in, standing_word, where_any, where_some, whole}
+use Rattle.farm_wire.specs.Members.{wholes, with_member}
 use Rattle.farm_wire.specs.Pieces.{commit_piece, fate_name, number_piece, numbers_piece}
 use Rattle.farm_wire.specs.Replies.{page_data, reply_data, reply_of, report_data, stage_word, totals_data}
 

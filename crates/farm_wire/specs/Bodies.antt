@@ -8,4 +8,6 @@ abbrev pub IsByBody : Route → Type 0
 IsByBody (route.Search search) = ⊥
 IsByBody route.Farm = ⊥
 IsByBody route.Orders = ⊥
+IsByBody (route.Runs search from) = ⊥
+IsByBody (route.List from) = ⊥
 IsByBody _ = ⊤

@@ -1,5 +1,6 @@
 -- The forms that the values of a command's members have in JSON, with what each value is read as.
-use Rattle.std.specs.Prelude.{ℕ, ◌^◌, nat_le, nat_lt, Bool, if◌then◌else◌, List, [], ◌∷◌, is_none, Option, Some, None, option_and_then, option_map, codes}
+use Rattle.std.specs.Prelude.{ℕ, ◌^◌, nat_le, nat_lt, Bool, if◌then◌else◌, List, [], ◌∷◌, is_none, Option, Some, None}
+use Rattle.std.specs.Prelude.{option_and_then, option_map, codes}
 use Rattle.std.specs.Int.{from_be_bytes, w128}
 use Rattle.std.specs.Str.{bytes_eq}
 use Rattle.serde_json.specs.Data.{Data, Items, no_items, item}
@@ -80,6 +81,8 @@ verb_named text =
     else if bytes_eq text (codes "search") then Some asks.Search
     else if bytes_eq text (codes "farm") then Some asks.Farm
     else if bytes_eq text (codes "orders") then Some asks.Orders
+    else if bytes_eq text (codes "runs") then Some asks.Runs
+    else if bytes_eq text (codes "list") then Some asks.List
     else None
 
 unfoldable pub verb : Data → Option Verb

@@ -1,5 +1,6 @@
 -- Values that are made of plain numbers and bytes, where these keep the limits.
-use Rattle.std.specs.Prelude.{◌≡◌, ℕ, zero, suc, List, [], ◌∷◌, length, slice_index, ◌==◌, ◌&&◌, ◌<◌, nat_lt, Bool, true, if◌then◌else◌, is_none, Option, None}
+use Rattle.std.specs.Prelude.{◌≡◌, ℕ, zero, suc, List, [], ◌∷◌, length, slice_index, ◌==◌, ◌&&◌, ◌<◌, nat_lt, Bool}
+use Rattle.std.specs.Prelude.{true, if◌then◌else◌, is_none, Option, None}
 use Rattle.std.specs.List.{list_all}
 use Rattle.std.specs.Option.{option_and_then}
 use Rattle.std.specs.Result.{result_ok}

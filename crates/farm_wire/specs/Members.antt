@@ -5,7 +5,8 @@ use Rattle.serde_json.specs.View.{items_of}
 use Rattle.farm_types.specs.CommitId.{id_digits}
 use Rattle.farm_types.specs.declared.commit_id.CommitId.{CommitId}
 use Rattle.farm_entry.specs.declared.standing.Standing.{Standing}
-use Rattle.farm_entry.specs.declared.standing.Standing.TheVariants.{Searching, Verifying, Confirmed, Vindicated, NoCulprit, Inconclusive, Cancelled}
+use Rattle.farm_entry.specs.declared.standing.Standing.TheVariants.{Searching, Verifying, Confirmed, Vindicated}
+use Rattle.farm_entry.specs.declared.standing.Standing.TheVariants.{NoCulprit, Inconclusive, Cancelled}
 
 -- a member, as its name and its value
 abbrev pub Named : Type 0

@@ -1,5 +1,6 @@
 -- What a script line and the body of a request ask for: the command, or the first fault.
-use Rattle.std.specs.Prelude.{ℕ, List, length, nat_lt, if◌then◌else◌, is_some, Option, Some, None, option_and_then, Result, Ok, Err}
+use Rattle.std.specs.Prelude.{ℕ, List, length, nat_lt, if◌then◌else◌, is_some, Option, Some, None, option_and_then}
+use Rattle.std.specs.Prelude.{Result, Ok, Err}
 use Rattle.std.specs.Option.{ok_or}
 use Rattle.std.specs.Str.{is_utf8}
 use Rattle.serde_json.specs.Data.{Data}
@@ -111,6 +112,15 @@ revert_in json =
 unfoldable pub search_in : Data → Result Command WireFault
 search_in json = and_then (field_in field.Search form.ordinal json) (λ search. Ok (command.ShowSearch search))
 
+unfoldable pub runs_in : Data → Result Command WireFault
+runs_in json =
+    and_then (field_in field.Search form.ordinal json) (λ search.
+    and_then (field_in field.From form.ordinal json) (λ from.
+    Ok (command.ShowRuns search from)))
+
+unfoldable pub list_in : Data → Result Command WireFault
+list_in json = and_then (field_in field.From form.ordinal json) (λ from. Ok (command.ShowSearches from))
+
 -- the command that a line's object asks for
 abbrev pub command_in : Verb → Data → Result Command WireFault
 command_in verb.Open json = open_in json
@@ -121,6 +131,8 @@ command_in verb.Revert json = revert_in json
 command_in verb.Search json = search_in json
 command_in verb.Farm json = Ok command.ShowFarm
 command_in verb.Orders json = Ok command.ShowOrders
+command_in verb.Runs json = runs_in json
+command_in verb.List json = list_in json
 
 -- A script line: its moment, then what it asks for, then the fields of that.
 unfoldable pub line_reading : List ℕ → Result (Moment × Command) WireFault
@@ -141,3 +153,5 @@ body_reading route.Revert body = and_then (object_of body) revert_in
 body_reading (route.Search search) body = Ok (command.ShowSearch search)
 body_reading route.Farm body = Ok command.ShowFarm
 body_reading route.Orders body = Ok command.ShowOrders
+body_reading (route.Runs search from) body = Ok (command.ShowRuns search from)
+body_reading (route.List from) body = Ok (command.ShowSearches from)

@@ -4,8 +4,8 @@ ghost use Rattle.std.specs.Prelude.{◌≡◌, ◌≢◌, Err, IfErr, IfOk, Ok};
 ghost use Rattle.json_tape.specs.Views.{document_data};
 ghost use Rattle.farm_wire.specs.Bodies.{IsByBody};
 ghost use Rattle.farm_wire.specs.Reading.{body_reading, object_of};
-ghost use Rattle.farm_wire.specs.Reading.{cancel_in, cancel_line_in, command_in, lease_in, open_in, report_in, report_line_in};
-ghost use Rattle.farm_wire.specs.Reading.{revert_in, search_in};
+ghost use Rattle.farm_wire.specs.Reading.{cancel_in, cancel_line_in, command_in, lease_in, list_in, open_in, report_in};
+ghost use Rattle.farm_wire.specs.Reading.{report_line_in, revert_in, runs_in, search_in};
 
 use crate::fields::{
     base_in, fraction_in, key_in, miss_in, name_in, ordinal_in, reported_in, small_in, suspects_in,
@@ -30,6 +30,11 @@ pub fn command_of(alloc: Global, route: &Route, body: &[u8]) -> Result<Command, 
         Route::Search(search) => Ok(Command::ShowSearch { search: *search }),
         Route::Farm => Ok(Command::ShowFarm),
         Route::Orders => Ok(Command::ShowOrders),
+        Route::Runs { search, from } => Ok(Command::ShowRuns {
+            search: *search,
+            from: *from,
+        }),
+        Route::List(from) => Ok(Command::ShowSearches { from: *from }),
         _ => asked_by(alloc, route, body),
     }
 }
@@ -52,6 +57,8 @@ fn asked_by(alloc: Global, route: &Route, body: &[u8]) -> Result<Command, WireFa
         Route::Search(_) => unreachable!(),
         Route::Farm => unreachable!(),
         Route::Orders => unreachable!(),
+        Route::Runs { .. } => unreachable!(),
+        Route::List(_) => unreachable!(),
     }
 }
 
@@ -152,6 +159,8 @@ pub(crate) fn command_in(
         Verb::Search => search_in(object),
         Verb::Farm => Ok(Command::ShowFarm),
         Verb::Orders => Ok(Command::ShowOrders),
+        Verb::Runs => runs_in(object),
+        Verb::List => list_in(object),
     }
 }
 
@@ -245,4 +254,22 @@ fn search_in(object: &Document<'_>) -> Result<Command, WireFault>
 {
     let search = ordinal_in(object, Field::Search)?;
     Ok(Command::ShowSearch { search })
+}
+
+#[tactic(auto, unfolding(crate::specs::Reading::runs_in))]
+fn runs_in(object: &Document<'_>) -> Result<Command, WireFault>
+    ensures { result ≡ runs_in (document_data object.now) }
+{
+    let search = ordinal_in(object, Field::Search)?;
+    let from = ordinal_in(object, Field::From)?;
+    Ok(Command::ShowRuns { search, from })
+}
+
+#[tactic(auto, unfolding(crate::specs::Reading::list_in))]
+fn list_in(object: &Document<'_>) -> Result<Command, WireFault>
+    ensures { result ≡ list_in (document_data object.now) }
+{
+    Ok(Command::ShowSearches {
+        from: ordinal_in(object, Field::From)?,
+    })
 }

@@ -3,12 +3,13 @@ ghost use Rattle.farm_wire.specs.Fields.{field_name};
 
 use std::fmt;
 
-/// The members of a JSON object that a command is read from, and the number in the path of a log page.
+/// The members of a JSON object that a command is read from, and the numbers in the path of a page.
 #[derive(Clone, Copy, Debug, PartialEq, Eq, Hash)]
 pub enum Field {
     /// When a script line is asked: a moment.
     At,
-    /// What a script line asks for: `open`, `lease`, `report`, `cancel`, `revert`, `search`, `farm` or `orders`.
+    /// What a script line asks for: `open`, `lease`, `report`, `cancel`, `revert`, `search`, `farm`, `orders`, `runs`
+    /// or `list`.
     Do,
     /// The key of a request: a UUID.
     Key,
@@ -38,9 +39,9 @@ pub enum Field {
     Run,
     /// The number of a search, from 1.
     Search,
-    /// What a test said: `pass` or `fail`.
+    /// What came of a test: `pass`, `fail` or `skip`.
     Verdict,
-    /// The number of the first entry of a log page, from 1.
+    /// The first entry of a log page, or the first run or search of a page of these, from 1.
     From,
 }
 

@@ -81,7 +81,7 @@ pub(crate) fn small_in(object: &Document<'_>, field: Field) -> Result<u32, WireF
         .ok_or(WireFault::BadField(field))
 }
 
-/// The number of a run or a search.
+/// The number of a run or a search, or the first of a page.
 #[tactic(auto, unfolding(crate::specs::Reading::field_in))]
 pub(crate) fn ordinal_in(object: &Document<'_>, field: Field) -> Result<u32, WireFault>
     ensures { result ≡ field_in field form.ordinal (document_data object.now) }

@@ -120,6 +120,8 @@ fn verb_named(text: &str) -> Option<Verb>
         "search" => Some(Verb::Search),
         "farm" => Some(Verb::Farm),
         "orders" => Some(Verb::Orders),
+        "runs" => Some(Verb::Runs),
+        "list" => Some(Verb::List),
         _ => None,
     }
 }

@@ -32,10 +32,13 @@ mod orders;
 mod page;
 mod refusal;
 mod reply;
+mod runs;
+mod searches;
 mod standing;
 mod text;
 mod texts;
 mod verb;
+mod words;
 
 pub use answer::{answer_text, answer_text_in};
 pub use command::command_of;

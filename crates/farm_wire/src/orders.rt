@@ -3,7 +3,7 @@
 ghost use Rattle.std.specs.Prelude.{◌≡◌, ◌≤◌, ◌++◌, All, IfOk, OnOk, string_bytes};
 ghost use Rattle.farm_types.specs.declared.moment.TheConstants.{LAST_DAY};
 ghost use Rattle.serde_json.specs.Written.{compact_text};
-ghost use Rattle.farm_wire.specs.Pieces.{orders_on};
+ghost use Rattle.farm_wire.specs.Pieces.{array_on, array_text};
 ghost use Rattle.farm_wire.specs.Replies.{order_data, reply_data};
 
 use crate::date::day_text;
@@ -18,33 +18,35 @@ pub(crate) fn orders_text(alloc: Global, room: String, page: &OrderPage) -> Resu
     ensures { IfOk result (λ text. string_bytes text ≡ compact_text (reply_data (Reply.Orders page.now))) }
 {
     let mut out = JsonText::within(alloc, room)?;
+    out.put("{\"orders\":")?;
     put_orders(alloc, &mut out, page.as_slice())?;
+    out.put(",\"reply\":\"orders\"}")?;
     Ok(out.into_text())
 }
 
-/// Puts the reply that shows orders.
+/// Puts orders as an array.
 fn put_orders(alloc: Global, out: &mut JsonText, lines: &[OrderLine]) -> Result<(), Memory>
     requires { All (λ line. line.day ≤ LAST_DAY) lines.now }
-    ensures { OnOk result (out.new ≡ out.old ++ compact_text (reply_data (Reply.Orders lines.now))) }
+    ensures { OnOk result (out.new ≡ out.old ++ array_text order_data lines.now) }
 {
     match lines.split_first() {
         Some((first, more)) => {
-            put_order(alloc, out, "{\"orders\":[", first)?;
+            put_order(alloc, out, "[", first)?;
             put_more(alloc, out, more)
         }
-        None => out.put("{\"orders\":[],\"reply\":\"orders\"}"),
+        None => out.put("[]"),
     }
 }
 
-/// Puts what that reply goes on with, behind its first order.
+/// Puts what that array goes on with, behind its first order.
 fn put_more(alloc: Global, out: &mut JsonText, lines: &[OrderLine]) -> Result<(), Memory>
     requires { All (λ line. line.day ≤ LAST_DAY) lines.now }
-    ensures { OnOk result (out.new ≡ out.old ++ orders_on lines.now) }
+    ensures { OnOk result (out.new ≡ out.old ++ array_on order_data lines.now) }
 {
     for line in lines {
         put_order(alloc, out, ",", line)?;
     }
-    out.put("],\"reply\":\"orders\"}")
+    out.put("]")
 }
 
 /// Puts an order behind a piece.

@@ -4,19 +4,20 @@ ghost use Rattle.std.specs.Prelude.{◌≡◌, ◌≤◌, IfOk, codes, string_by
 ghost use Rattle.farm_types.specs.declared.moment.TheConstants.{LAST_DAY};
 ghost use Rattle.farm_laws.specs.Days.{HasDays};
 ghost use Rattle.serde_json.specs.Written.{compact_text};
-ghost use Rattle.farm_wire.specs.Forms.{skip_word};
 ghost use Rattle.farm_wire.specs.Members.{culprit_in};
 ghost use Rattle.farm_wire.specs.Pieces.{fate_name};
-ghost use Rattle.farm_wire.specs.Replies.{fate_word, log_data, reply_data, report_data, skip_fate_word, stage_word};
-ghost use Rattle.farm_wire.specs.Replies.{totals_data, verdict_word};
+ghost use Rattle.farm_wire.specs.Replies.{log_data, reply_data, report_data, totals_data};
 
 use crate::date::day_text;
 use crate::orders::orders_text;
 use crate::page::{log_object, page_text, totals_reply};
+use crate::runs::runs_text;
+use crate::searches::searches_text;
 use crate::standing::{culprit_in, standing_word};
 use crate::text::JsonText;
+use crate::words::{fate_word, skip_fate_word, skip_word, stage_word, verdict_word};
 use farm_entry::{DueRun, Fate, Reply, SkipFate, Standing, Totals};
-use farm_types::{CommitId, Memory, Name, Stage};
+use farm_types::{CommitId, Memory, Name};
 use std::alloc::Global;
 use weight_exact::Verdict;
 
@@ -78,6 +79,8 @@ pub fn reply_text_in(alloc: Global, room: String, reply: &Reply) -> Result<Strin
         Reply::Search(page) => page_text(alloc, room, page),
         Reply::Farm(totals) => totals_reply(alloc, room, "farm", totals),
         Reply::Orders(page) => orders_text(alloc, room, page),
+        Reply::Runs(page) => runs_text(alloc, room, page),
+        Reply::Searches(page) => searches_text(alloc, room, page),
     }
 }
 
@@ -241,48 +244,4 @@ fn ordered(
     out.put_number(",\"reply\":\"revert\",\"search\":", search as u64)?;
     out.put("}")?;
     Ok(out.into_text())
-}
-
-fn stage_word(stage: Stage) -> &'static str
-    ensures { result.now ≡ stage_word stage }
-{
-    match stage {
-        Stage::Search => "search",
-        Stage::Verify => "verify",
-    }
-}
-
-fn verdict_word(verdict: Verdict) -> &'static str
-    ensures { result.now ≡ verdict_word verdict }
-{
-    match verdict {
-        Verdict::Pass => "pass",
-        Verdict::Fail => "fail",
-    }
-}
-
-fn fate_word(fate: Fate) -> &'static str
-    ensures { result.now ≡ fate_word fate }
-{
-    match fate {
-        Fate::Counted => "counted",
-        Fate::Late => "late",
-        Fate::Over => "over",
-    }
-}
-
-/// What stands for a verdict where a tree can't be tested.
-fn skip_word<'w>() -> &'w str
-    ensures { result.now ≡ skip_word }
-{
-    "skip"
-}
-
-fn skip_fate_word(fate: SkipFate) -> &'static str
-    ensures { result.now ≡ skip_fate_word fate }
-{
-    match fate {
-        SkipFate::Taken => "skipped",
-        SkipFate::Late => "late",
-    }
 }

@@ -134,6 +134,16 @@ impl JsonText {
         }
     }
 
+    /// Puts a whole number behind a piece, where there is one.
+    pub(crate) fn put_number_if(&mut self, piece: &str, number: Option<u32>) -> Result<(), Memory>
+        ensures { OnOk result (self.new ≡ self.old ++ number_piece piece.now number) }
+    {
+        match number {
+            Some(number) => self.put_number(piece, number as u64),
+            None => Ok(()),
+        }
+    }
+
     /// Puts an array of whole numbers.
     pub(crate) fn put_numbers(&mut self, numbers: &[u32]) -> Result<(), Memory>
         ensures { OnOk result (self.new ≡ self.old ++ compact_text (wholes numbers.now)) }

@@ -9,4 +9,6 @@ pub(crate) enum Verb {
     Search,
     Farm,
     Orders,
+    Runs,
+    List,
 }

@@ -53,7 +53,8 @@ each_is_byte (suc count) b below zero = below
 each_is_byte (suc count) b below (suc i) = each_is_byte count b below i
 
 -- two bytes, the second of them over and over
-pub each_of_two : (count first b : ℕ) → first < 256 → b < 256 → (i : ℕ) → slice_index (first ∷ replicate count b) i < 256
+pub each_of_two : (count first b : ℕ) → first < 256 → b < 256 → (i : ℕ) →
+    slice_index (first ∷ replicate count b) i < 256
 each_of_two count first b at_first below zero = at_first
 each_of_two count first b at_first below (suc i) = each_is_byte count b below i
 

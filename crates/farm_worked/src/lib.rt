@@ -1,10 +1,12 @@
 //! Farms that are played by evaluating the definitions of `farm_entry`: numbers that were worked out by hand, and that
 //! the definitions compute. Each law is the contract of a call that does nothing.
 //!
-//! `specs/Example` has the farms, `specs/Untestable` those on which trees can't be tested, `proofs/LargeFarm` and `proofs/Thousand` what is shown of the one with a thousand
-//! suspects, which is too large to be played whole. Nothing stands on this crate.
+//! `specs/Example` has the farms, `specs/Untestable` those on which trees can't be tested, `proofs/LargeFarm` and
+//! `proofs/Thousand` what is proved of the one with a thousand suspects, which is too large to be played whole. Nothing
+//! stands on this crate.
 #![tactic(auto)]
 
+pub mod shown;
 pub mod skips;
 
 ghost use Rattle.std.specs.Prelude.{◌≡◌, true, false, List, ◌∷◌, [], ◌++◌, map, take, replicate, Ok, Some, None};
@@ -44,7 +46,8 @@ pub fn worked_first_run()
     ensures run_reply { reply_at confirmed_farm 2 ≡ Some (reply.Leased 1 1 Search 2 (the_commit 2) the_test 100060000) }
     ensures reported { decide (take 3 confirmed_farm) (ReportRun 1 Fail) at_first ≡ New (counted_report 1 Fail) }
     ensures goes_on { reply_at confirmed_farm 3 ≡ Some (reply.Reported 1 1 Fail Counted Searching) }
-    ensures weights { map (weight (setup_of (opening_for 4 1 1)) (runs (take 4 confirmed_farm) 1)) (1 ∷ 2 ∷ 3 ∷ 4 ∷ 5 ∷ [])
+    ensures weights { map (weight (setup_of (opening_for 4 1 1)) (runs (take 4 confirmed_farm) 1))
+        (1 ∷ 2 ∷ 3 ∷ 4 ∷ 5 ∷ [])
         ≡ 10 ∷ 10 ∷ 1 ∷ 1 ∷ 1 ∷ [] }
 {}
 
@@ -157,7 +160,8 @@ pub fn worked_width()
 /// One suspect of weight 1000 beside a calm weight of 1 is named by the prior alone, so that its reruns begin at once,
 /// at the suspect and then at the base.
 pub fn worked_prior()
-    ensures made { play at_first founded (Open (ask_for 1 1000 1) ∷ lease_with 2 ∷ lease_with 3 ∷ lease_with 4 ∷ []) ≡ sure_farm }
+    ensures made { play at_first founded
+        (Open (ask_for 1 1000 1) ∷ lease_with 2 ∷ lease_with 3 ∷ lease_with 4 ∷ []) ≡ sure_farm }
     ensures is_legal { IsLegal sure_farm }
     ensures all_replies { replies sure_farm ≡
         None
@@ -197,7 +201,8 @@ pub fn worked_repeats()
     ensures reported_later { decide confirmed_farm (ReportRun 1 Pass) at_end ≡ Repeat 3 }
     ensures first_verdict { reply_at confirmed_farm 3 ≡ Some (reply.Reported 1 1 Fail Counted Searching) }
     ensures leased_again { decide (take 3 confirmed_farm) (lease_with 2) at_end ≡ Repeat 2 }
-    ensures other_worker { decide (take 3 confirmed_farm) (LeaseRun (the_key 2) the_agent) at_end ≡ Refuse (KeyClash 2) }
+    ensures other_worker { decide (take 3 confirmed_farm) (LeaseRun (the_key 2) the_agent) at_end
+        ≡ Refuse (KeyClash 2) }
 {}
 
 /// A key stands for one command alone. A search that is asked for again is compared by its rates in lowest terms, and
@@ -206,14 +211,15 @@ pub fn worked_keys()
     ensures lease { decide (take 3 confirmed_farm) (lease_with 1) at_first ≡ Refuse (KeyClash 1) }
     ensures cancel { decide (take 3 confirmed_farm) (Cancel (the_key 2) 1) at_first ≡ Refuse (KeyClash 2) }
     ensures revert { decide (take 3 confirmed_farm) (revert_with 2) at_first ≡ Refuse (KeyClash 2) }
-    ensures open_with_key_of_lease { decide (take 3 confirmed_farm) (Open (record (ask_for 4 1 1) { key = the_key 2 })) at_first
-        ≡ Refuse (KeyClash 2) }
+    ensures open_with_key_of_lease { decide (take 3 confirmed_farm)
+        (Open (record (ask_for 4 1 1) { key = the_key 2 })) at_first ≡ Refuse (KeyClash 2) }
     ensures same_open { decide (take 3 confirmed_farm) (Open (ask_for 4 1 1)) at_first ≡ Repeat 1 }
     ensures other_width { decide (take 3 confirmed_farm) (Open (ask_for 4 1 2)) at_first ≡ Refuse (KeyClash 1) }
-    ensures same_rate { decide (take 3 confirmed_farm) (Open (record (ask_for 4 1 1) { rate = (2, 20) })) at_first ≡ Repeat 1 }
+    ensures same_rate { decide (take 3 confirmed_farm) (Open (record (ask_for 4 1 1) { rate = (2, 20) })) at_first
+        ≡ Repeat 1 }
     ensures other_bar { decide (take 3 confirmed_farm) (Open (record (ask_for 4 1 1) { bar = (18, 20) })) at_first
         ≡ Refuse (KeyClash 1) }
     ensures shape_first { decide (take 3 confirmed_farm) (Open (ask_for 4 1 0)) at_first ≡ Refuse (BadOpen (Width 0)) }
-    ensures shape_before_clash { decide (take 3 confirmed_farm) (Open (record (ask_for 4 1 0) { key = the_key 2 })) at_first
-        ≡ Refuse (BadOpen (Width 0)) }
+    ensures shape_before_clash { decide (take 3 confirmed_farm)
+        (Open (record (ask_for 4 1 0) { key = the_key 2 })) at_first ≡ Refuse (BadOpen (Width 0)) }
 {}

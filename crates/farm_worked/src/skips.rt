@@ -18,9 +18,9 @@ ghost use Rattle.farm_entry.specs.declared.standing.Standing.TheVariants.{Confir
 ghost use Rattle.farm_worked.specs.Example.{ask_for, at_end, at_first, confirmed_farm, founded, lease_with, leased, opening_for, play, the_commit, the_test};
 ghost use Rattle.farm_worked.specs.Untestable.{cleared_farm, hidden_farm, proved_farm, single_farm, surer_farm, surer_opening, unprovable_base_farm, unprovable_farm, untestable_farm, wide_untestable_farm};
 
-/// Among four suspects the first run is at position 2, whose tree can't be tested: the next one is at 3, as 2 isn't open
-/// any more. Where no tree of the search can be tested it ends with the last of them; and so it does where a pass at 3
-/// leaves position 4 alone, and its tree can't be tested.
+/// Among four suspects the first run is at position 2, whose tree can't be tested: the next one is at 3, as 2 isn't
+/// open any more. Where no tree of the search can be tested it ends with the last of them; and so it does where a pass
+/// at 3 leaves position 4 alone, and its tree can't be tested.
 pub fn worked_skips()
     ensures made { play at_first founded (Open (ask_for 4 1 1)
         ∷ lease_with 2 ∷ SkipRun 1
@@ -68,7 +68,8 @@ pub fn worked_skips()
     } }
     ensures cleared_is_legal { IsLegal cleared_farm }
     ensures pass_reply { reply_at cleared_farm 5 ≡ Some (reply.Reported 2 1 Pass Counted Searching) }
-    ensures shares_after_pass { (page_of (take 6 cleared_farm) (opening_for 4 1 1)).shares ≡ 0 ∷ 0 ∷ 0 ∷ 5000 ∷ 5000 ∷ [] }
+    ensures shares_after_pass { (page_of (take 6 cleared_farm) (opening_for 4 1 1)).shares
+        ≡ 0 ∷ 0 ∷ 0 ∷ 5000 ∷ 5000 ∷ [] }
     ensures last_open { reply_at cleared_farm 7 ≡ Some (reply.Skipped 3 1 skip.Taken Inconclusive) }
 {}
 
@@ -123,8 +124,8 @@ pub fn worked_unprovable()
 {}
 
 /// With three runs at once a skip frees room for one at the next open position, and no more; what is skipped after the
-/// end is late, and closes nothing. With two runs at one position a skip of the first ends the search, and the report of
-/// the second is late.
+/// end is late, and closes nothing. With two runs at one position a skip of the first ends the search, and the report
+/// of the second is late.
 pub fn worked_skips_at_once()
     ensures is_legal { IsLegal wide_untestable_farm }
     ensures no_fifth { decide (take 7 wide_untestable_farm) (lease_with 6) at_first ≡ Refuse NoRun }
@@ -138,8 +139,8 @@ pub fn worked_skips_at_once()
     ensures single_shares { (page_of single_farm (opening_for 1 1 2)).shares ≡ 5000 ∷ 5000 ∷ [] }
 {}
 
-/// A run has one report: what was reported with a verdict is answered so when it is skipped, and what was skipped when it
-/// is reported. A run that was never handed out can't be skipped.
+/// A run has one report: what was reported with a verdict is answered so when it is skipped, and what was skipped when
+/// it is reported. A run that was never handed out can't be skipped.
 pub fn worked_skip_repeats()
     ensures skipped_again { decide (take 4 confirmed_farm) (SkipRun 1) at_end ≡ Repeat 3 }
     ensures reported_again { decide (take 4 untestable_farm) (ReportRun 1 Fail) at_end ≡ Repeat 3 }

@@ -1,5 +1,5 @@
 -- What a status says of the disk's faults.
-use Rattle.std.proofs.Common.{◌≡◌, ◌∙◌, ℕ, List, subst}
+use Rattle.std.proofs.Common.{◌≡◌, ◌∙◌, ⊎_elim, ℕ, List, Option, Some, None, subst, sym}
 use Rattle.farm_journal.specs.Opened.{OpeningCause}
 use Rattle.farm_journal.specs.declared.fault.CreateFault.TheVariants as creating
 use Rattle.farm_journal.specs.declared.fault.OpeningFault.{OpeningFault}
@@ -8,10 +8,11 @@ use Rattle.farm_script.specs.declared.run_end.RunEnd.TheVariants as script
 use Rattle.fault_types.specs.Counts.{Rose}
 use Rattle.farm_serve.specs.Outside.{DiskSeen, OutputSeen}
 use Rattle.finder_program.specs.Disks.{HasStoreCause}
+use Rattle.finder_program.specs.EvidenceCommand.{EvidencePut}
 use Rattle.finder_program.specs.Opening.{status_of_opening}
 use Rattle.finder_program.specs.TextPut.{TextPut}
 use Rattle.finder_program.specs.declared.status.Status.{Status}
-use Rattle.finder_program.specs.declared.status.Status.TheVariants.{StoreFault}
+use Rattle.finder_program.specs.declared.status.Status.TheVariants.{Memory, StoreFault, UnknownSearch}
 
 -- of a journal that was not opened
 pub opening-cause : (fault : OpeningFault) (old new : DiskSeen) → OpeningCause fault old.faults new.faults
@@ -26,6 +27,16 @@ pub text-cause : (text : List ℕ) (status : Status) (before after : OutputSeen)
     → TextPut text status before after → HasStoreCause status old new
 text-cause text (StoreFault b a) before after old new put = absurd put
 text-cause text _ before after old new put = tt
+
+-- of the evidence of a search that was put
+pub evidence-cause : (search : ℕ) (text : Option (List ℕ)) (status : Status) (before after : OutputSeen)
+    (old new : DiskSeen) → EvidencePut search text status before after → HasStoreCause status old new
+evidence-cause search (Some text) status before after old new put = text-cause text status before after old new put
+evidence-cause search None status before after old new put = ⊎_elim
+    (λ (memory : status ≡ Memory). subst (λ (s : Status). HasStoreCause s old new) (sym memory) tt)
+    (λ (unknown : status ≡ UnknownSearch search).
+    subst (λ (s : Status). HasStoreCause s old new) (sym unknown) tt)
+    put.0
 
 -- the same, where the count at the start is known otherwise
 pub cause-same : (status : Status) (old other new : DiskSeen) → other.faults ≡ old.faults

@@ -1,5 +1,5 @@
 -- Where nothing fails and memory is there, a call over a journal does its work.
-use Rattle.std.proofs.Common.{◌≡◌, ◌∙◌, ◌⊎◌, ⊎_elim, inl, inr, ℕ, ◌<◌, ◌≤◌, true, false, List, [], length, Some, refl, sym, ap, subst, arith}
+use Rattle.std.proofs.Common.{◌≡◌, ◌∙◌, ◌⊎◌, ⊎_elim, inl, inr, ℕ, ◌<◌, ◌≤◌, true, false, List, [], length, Option, Some, None, refl, sym, ap, subst, arith}
 use Rattle.std.proofs.lemmas.Option.{none-some, same_Some}
 use Rattle.farm_entry.specs.declared.entry.Entry.{Entry}
 use Rattle.farm_entry.specs.declared.settings.Settings.{Settings}
@@ -13,15 +13,18 @@ use Rattle.farm_script.specs.RunEnds.{RunEnds}
 use Rattle.farm_script.specs.declared.run_end.RunEnd.{RunEnd}
 use Rattle.farm_script.specs.declared.run_end.RunEnd.TheVariants as script
 use Rattle.farm_store.proofs.Excluded.{stands-born, stands-not_damaged}
+use Rattle.farm_store.proofs.Standing.{stands-unique}
 use Rattle.farm_store.specs.Bytes.{StandsFor}
 use Rattle.farm_store.specs.Founded.{IsRefusedBy}
 use Rattle.farm_store.specs.Opened.{IsMissedBy}
 use Rattle.farm_types.specs.declared.moment.Moment.{Moment}
 use Rattle.fault_types.specs.Counts.{Rose}
+use Rattle.search_evidence.specs.Evidence.{evidence_text}
 use Rattle.link_io.specs.Streams.{Streams}
 use Rattle.link_io.specs.declared.source.TheConstants.{INPUT_LIMIT}
 use Rattle.farm_serve.specs.Outside.{DiskSeen, OutputSeen}
 use Rattle.finder_program.specs.Disks.{HasStoreCause}
+use Rattle.finder_program.specs.EvidenceCommand.{EvidenceCompletes, EvidenceEnds, EvidencePut, EvidenceShown, status_of_evidence}
 use Rattle.finder_program.specs.Found.{FoundCompletes, FoundEnds, JournalFounded, NotFounded, founded_text, status_of_creating}
 use Rattle.finder_program.specs.Opening.{IsNotOpened, status_of_opening}
 use Rattle.finder_program.specs.RunJournal.{JournalRan, JournalRunCompletes, JournalRunEnds, journal_end, over_journal}
@@ -88,6 +91,25 @@ shown-completes text_of status before after old new ends cause calm steady tell 
     (not_opened-completes missed.0 status old new history missed.1 (missed.2.cause tell) cause steady stands))
     (λ (shown : JournalShown text_of status before after old new).
     text-completes (text_of shown.history) status before after shown.text calm)
+    ends
+
+-- the evidence of a search that is there is put whole where the output doesn't fail
+evidence_put-completes : (search : ℕ) (text : Option (List ℕ)) (status : Status) (before after : OutputSeen)
+    → EvidencePut search text status before after → ¬ Rose before.faults after.faults
+    → (status ≡ Memory) ⊎ (status ≡ status_of_evidence search text)
+evidence_put-completes search (Some text) status before after put calm = text-completes text status before after put calm
+evidence_put-completes search None status before after put calm = put.0
+
+pub evidence-completes : (search : ℕ) (status : Status) (before after : OutputSeen) (old new : DiskSeen)
+    → EvidenceEnds search status before after old new → HasStoreCause status old new
+    → EvidenceCompletes search status before after old new
+evidence-completes search status before after old new ends cause calm steady tell history stands = ⊎_elim
+    (λ (missed : IsNotOpened status before after old new). inl
+    (not_opened-completes missed.0 status old new history missed.1 (missed.2.cause tell) cause steady stands))
+    (λ (shown : EvidenceShown search status before after old new).
+    let same : shown.history ≡ history = stands-unique shown.history history old.told.bytes (shown.held tell) stands in
+    subst (λ (h : List Entry). (status ≡ Memory) ⊎ (status ≡ status_of_evidence search (evidence_text h search))) same
+    (evidence_put-completes search (evidence_text shown.history search) status before after shown.put calm))
     ends
 
 -- what the end of a script's run says, in a status that stands for it

@@ -14,6 +14,8 @@ use Rattle.farm_store.specs.State.{StoreState}
 use Rattle.link_io.specs.Streams.{Streams}
 use Rattle.farm_serve.proofs.Openings.{WasOpened, any_moment-opened, since_sync-opened}
 use Rattle.farm_serve.specs.Outside.{OutputSeen, disk_seen}
+use Rattle.search_evidence.specs.Evidence.{evidence_text}
+use Rattle.finder_program.specs.EvidenceCommand.{EvidencePut, EvidenceShown}
 use Rattle.finder_program.specs.RunJournal.{JournalRan, StoreRan, over_journal}
 use Rattle.finder_program.specs.Show.{JournalShown}
 use Rattle.finder_program.specs.TextPut.{TextPut}
@@ -64,4 +66,21 @@ shown-opened {D} meant text_of status before after store old left is held legal 
       legal = legal;
       only = only;
       text = put;
+    })
+
+-- and what was put of a search of it is the evidence by that history
+pub evidence-opened : {D : Type 0} (meant : disk.Ghosts D) (search : ℕ) (status : Status)
+    (before after : OutputSeen) (store : StoreState D) (old left : D) → left ≡ store.disk
+    → (meant.tells old ≡ true → StandsFor store.history (meant.told old).bytes) → IsLegal store.history
+    → (meant.tells old ≡ true → ReadsOnly (meant.told old) (meant.told store.disk))
+    → EvidencePut search (evidence_text store.history search) status before after
+    → EvidenceShown search status before after (disk_seen meant old) (disk_seen meant left)
+evidence-opened {D} meant search status before after store old left is held legal only put =
+    subst (λ (d : D). EvidenceShown search status before after (disk_seen meant old) (disk_seen meant d)) (sym is)
+    (record {
+      history = store.history;
+      held = held;
+      legal = legal;
+      only = only;
+      put = put;
     })

@@ -2,7 +2,7 @@
 use Rattle.std.proofs.Common.{◌≡◌, ◌∙◌, inl, inr, Option, Some, None, ap, refl, sym}
 use Rattle.std.specs.Option.{option_map}
 use Rattle.farm_script.specs.declared.run_end.RunEnd.TheVariants as script
-use Rattle.finder_words.specs.Words.{Asked, asked_by, audit, drill, follow, found, judge, rates}
+use Rattle.finder_words.specs.Words.{Asked, asked_by, audit, drill, evidence, follow, found, judge, rates}
 use Rattle.finder_words.specs.Words.{run, run_journal, serve, show, work}
 use Rattle.finder_words.specs.declared.subcommand.Subcommand.{Subcommand}
 use Rattle.link_io.proofs.Told.{append_known-nil}
@@ -47,6 +47,10 @@ unread-says (Some show) seen = record {
   completes = λ calm steady tell history stands. inl refl;
 }
 unread-says (Some rates) seen = record {
+  ends = inl (unread-not_opened seen.output seen.disk);
+  completes = λ calm steady tell history stands. inl refl;
+}
+unread-says (Some (evidence search)) seen = record {
   ends = inl (unread-not_opened seen.output seen.disk);
   completes = λ calm steady tell history stands. inl refl;
 }

@@ -1,9 +1,10 @@
 -- What a call of the program says, by what its words ask for.
 use Rattle.std.specs.Prelude.{◌≡◌, ◌⊎◌, Option, Some, None}
-use Rattle.finder_words.specs.Words.{Asked, audit, drill, follow, found, judge, rates}
+use Rattle.finder_words.specs.Words.{Asked, audit, drill, evidence, follow, found, judge, rates}
 use Rattle.finder_words.specs.Words.{run, run_journal, serve, show, work}
 use Rattle.finder_program.specs.AuditCommand.{AuditSays}
 use Rattle.finder_program.specs.DrillCommand.{DrillSays}
+use Rattle.finder_program.specs.EvidenceCommand.{EvidenceSays}
 use Rattle.finder_program.specs.FollowCommand.{FollowSays}
 use Rattle.finder_program.specs.Found.{FoundSays}
 use Rattle.finder_program.specs.JudgeCommand.{JudgeSays}
@@ -28,6 +29,8 @@ FinderSays (Some (found lease_ms daily zone_minutes)) status before after =
     FoundSays lease_ms daily zone_minutes before.clock status before.output after.output before.disk after.disk
 FinderSays (Some show) status before after = ShowSays status before.output after.output before.disk after.disk
 FinderSays (Some rates) status before after = RatesSays status before.output after.output before.disk after.disk
+FinderSays (Some (evidence search)) status before after =
+    EvidenceSays search status before.output after.output before.disk after.disk
 FinderSays (Some run_journal) status before after =
     JournalRunSays status (streams_of before) (streams_of after) before.disk after.disk
 FinderSays (Some (serve handlers links)) status before after =

@@ -12,6 +12,7 @@ pub mod RunJournal
 pub mod ServeCommand
 pub mod Show
 pub mod RatesCommand
+pub mod EvidenceCommand
 pub mod Found
 pub mod RanOut
 pub mod WorkCommand

@@ -9,7 +9,7 @@ use Rattle.worker_agent.specs.declared.worked.WorkFault.TheVariants as work
 use Rattle.finder_program.specs.declared.read_input.InputFault.{InputFault}
 use Rattle.finder_program.specs.declared.read_input.InputFault.TheVariants as input
 use Rattle.finder_program.specs.declared.status.Status.{Status}
-use Rattle.finder_program.specs.declared.status.Status.TheVariants.{Done, Usage, ReadFault, WriteFault, StoreFault, Damaged, Unborn, AlreadyBorn, NetFault, RunnerFault, Memory, BadInput, InputLimit, Peer, Foreign}
+use Rattle.finder_program.specs.declared.status.Status.TheVariants.{Done, Usage, ReadFault, WriteFault, StoreFault, Damaged, Unborn, AlreadyBorn, NetFault, RunnerFault, Memory, BadInput, InputLimit, Peer, Foreign, UnknownSearch}
 
 abbrev pub exit_code_of : Status → ℕ
 exit_code_of Done = 0
@@ -27,6 +27,7 @@ exit_code_of (BadInput line) = 12
 exit_code_of InputLimit = 13
 exit_code_of (Peer answer) = 14
 exit_code_of (Foreign place) = 15
+exit_code_of (UnknownSearch search) = 16
 
 -- the text of each way to end
 abbrev pub status_text : Status → List ℕ
@@ -45,6 +46,7 @@ status_text (BadInput line) = codes "line " ++ decimal line ++ codes " is not in
 status_text InputLimit = codes "the input is too long"
 status_text (Peer answer) = codes "the service answered " ++ decimal answer
 status_text (Foreign place) = codes "the journal differs from the leader's at entry " ++ decimal place
+status_text (UnknownSearch search) = codes "the farm has no search " ++ decimal search
 
 -- the line on standard error, where the subcommand did not do its work
 abbrev pub error_line : Status → List ℕ

@@ -10,6 +10,7 @@ ghost use Rattle.finder_program.specs.World.{input_seen, runner_seen, world};
 
 use crate::audit_command::audit_command;
 use crate::drill_command::drill_command;
+use crate::evidence_command::evidence_command;
 use crate::follow_command::follow_command;
 use crate::found_command::found_command;
 use crate::judge_command::judge_command;
@@ -100,6 +101,10 @@ where
         }
         Ok(Some(Subcommand::Rates)) => {
             let (status, disk) = rates_command(alloc, output, disk);
+            (status, disk, network)
+        }
+        Ok(Some(Subcommand::Evidence { search })) => {
+            let (status, disk) = evidence_command(alloc, search, output, disk);
             (status, disk, network)
         }
         Ok(Some(Subcommand::RunJournal)) => {

@@ -51,6 +51,8 @@ pub enum Status {
     /// The journal differs from the leader's at this place, from 0: the entry there isn't the leader's, or can't come
     /// next, or the leader has no more.
     Foreign(u64),
+    /// The farm has no search with this number.
+    UnknownSearch(u32),
 }
 
 impl Status {
@@ -76,6 +78,7 @@ impl Status {
             Status::InputLimit => 13,
             Status::Peer(_) => 14,
             Status::Foreign(_) => 15,
+            Status::UnknownSearch(_) => 16,
         }
     }
 
@@ -122,6 +125,7 @@ impl fmt::Display for Status {
             Status::Foreign(place) => {
                 write!(f, "the journal differs from the leader's at entry {place}")
             }
+            Status::UnknownSearch(search) => write!(f, "the farm has no search {search}"),
         }
     }
 }

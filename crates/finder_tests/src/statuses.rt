@@ -5,7 +5,7 @@ use judge::JudgeFault;
 use std::alloc::Global;
 use std::io;
 
-const STATUSES: [Status; 16] = [
+const STATUSES: [Status; 17] = [
     Status::Done,
     Status::Usage,
     Status::ReadFault,
@@ -25,6 +25,7 @@ const STATUSES: [Status; 16] = [
     Status::InputLimit,
     Status::Peer(409),
     Status::Foreign(12),
+    Status::UnknownSearch(2_000),
 ];
 
 /// Prints each status with its number and the line that it writes, and the faults of the judge.

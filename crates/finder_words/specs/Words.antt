@@ -9,7 +9,7 @@ use Rattle.farm_types.specs.Name.{name_fault}
 use Rattle.drill_plan.specs.declared.limits.TheConstants.{MAX_WORKERS}
 use Rattle.decimal_text.specs.Decimals.{number}
 use Rattle.word_matches.specs.Forms.{fits}
-use Rattle.finder_words.specs.declared.counts.TheConstants.{MAX_HANDLERS, MAX_LINKS, MAX_ROUNDS, MAX_RUNS}
+use Rattle.finder_words.specs.declared.counts.TheConstants.{MAX_HANDLERS, MAX_LINKS, MAX_NUMBER, MAX_ROUNDS, MAX_RUNS}
 use Rattle.finder_words.specs.declared.subcommand.Subcommand.{Subcommand}
 use Rattle.finder_words.specs.declared.subcommand.Subcommand.TheVariants as sub
 
@@ -17,7 +17,7 @@ use Rattle.finder_words.specs.declared.subcommand.Subcommand.TheVariants as sub
 -- lasts in milliseconds, how many orders a day may have, and how far its zone lies east of UTC in minutes; a journal
 -- shown; a script run over a journal; the bytes of a journal audited; a journal served by so many handlers, until so
 -- many accepts were made; work done under a name, for so many runs; the rates that a journal tells of; a drill of so
--- many searches and workers; a service followed in so many rounds.
+-- many searches and workers; a service followed in so many rounds; the evidence of the search of a number.
 pub data Asked : Type 0 where
   judge : Asked
   run : Asked
@@ -30,6 +30,7 @@ pub data Asked : Type 0 where
   rates : Asked
   drill : (searches workers : ℕ) → Asked
   follow : (rounds : ℕ) → Asked
+  evidence : (search : ℕ) → Asked
 
 -- what a subcommand does
 abbrev pub asked_by : Subcommand → Asked
@@ -45,6 +46,7 @@ asked_by (sub.Work worker runs) = work worker runs
 asked_by sub.Rates = rates
 asked_by (sub.Drill searches workers) = drill searches workers
 asked_by (sub.Follow rounds) = follow rounds
+asked_by (sub.Evidence search) = evidence search
 
 -- how far a zone lies east of UTC, in minutes: `east:` or `west:` and a number
 abbrev pub zone_named : List ℕ → Option ℤ
@@ -87,6 +89,10 @@ drill_asked searches workers = option_and_then (λ s. option_map (λ w. drill s 
 abbrev pub follow_asked : Option ℕ → Option Asked
 follow_asked rounds = option_map (λ n. follow n) rounds
 
+-- the evidence of the search of this number
+abbrev pub evidence_asked : Option ℕ → Option Asked
+evidence_asked search = option_map (λ n. evidence n) search
+
 -- a word alone
 abbrev pub asked_alone : List ℕ → Option Asked
 asked_alone word =
@@ -101,6 +107,13 @@ asked_of_journal word =
     else if bytes_eq word (codes "run") then Some run_journal
     else if bytes_eq word (codes "rates") then Some rates else None
 
+-- a word before two others
+abbrev pub asked_of_two : (word first second : List ℕ) → Option Asked
+asked_of_two word first second =
+    if bytes_eq word (codes "drill")
+    then drill_asked (count_named MAX_SEARCHES first) (count_named MAX_WORKERS second)
+    else if bytes_eq word (codes "evidence") then evidence_asked (count_named MAX_NUMBER second) else None
+
 -- a word before four others
 abbrev pub asked_of_four : (word first second third fourth : List ℕ) → Option Asked
 asked_of_four word first second third fourth =
@@ -113,9 +126,7 @@ asked_of_four word first second third fourth =
 abbrev pub asked_of : List (List ℕ) → Option Asked
 asked_of (word ∷ []) = asked_alone word
 asked_of (word ∷ journal ∷ []) = asked_of_journal word
-asked_of (word ∷ searches ∷ workers ∷ []) =
-    if bytes_eq word (codes "drill")
-    then drill_asked (count_named MAX_SEARCHES searches) (count_named MAX_WORKERS workers) else None
+asked_of (word ∷ first ∷ second ∷ []) = asked_of_two word first second
 asked_of (word ∷ journal ∷ address ∷ rounds ∷ []) =
     if bytes_eq word (codes "follow") then follow_asked (count_named MAX_ROUNDS rounds) else None
 asked_of (word ∷ first ∷ second ∷ third ∷ fourth ∷ []) = asked_of_four word first second third fourth
@@ -144,7 +155,9 @@ nowhere = record { journal = []; address = []; runner = [] }
 -- what words that fit a command name
 abbrev pub places_in : List (List ℕ) → PlacesNamed
 places_in words = record {
-  journal = word_of 0 (codes "run" ∷ codes "found" ∷ codes "show" ∷ codes "serve" ∷ codes "rates" ∷ codes "follow" ∷ []) words;
+  journal = word_of 0
+      (codes "run" ∷ codes "found" ∷ codes "show" ∷ codes "serve" ∷ codes "rates" ∷ codes "follow" ∷ codes "evidence" ∷ [])
+      words;
   address = word_of 0 (codes "work" ∷ []) words ++ word_of 1 (codes "serve" ∷ codes "follow" ∷ []) words;
   runner = word_of 3 (codes "work" ∷ []) words;
 }
@@ -171,6 +184,7 @@ uses_input (Some (work worker runs)) = false
 uses_input (Some rates) = false
 uses_input (Some (drill searches workers)) = false
 uses_input (Some (follow rounds)) = false
+uses_input (Some (evidence search)) = false
 
 -- whether it uses a disk
 abbrev pub uses_disk : Option Asked → Bool
@@ -186,6 +200,7 @@ uses_disk (Some (work worker runs)) = false
 uses_disk (Some rates) = true
 uses_disk (Some (drill searches workers)) = false
 uses_disk (Some (follow rounds)) = true
+uses_disk (Some (evidence search)) = true
 
 -- whether it uses the network
 abbrev pub uses_network : Option Asked → Bool
@@ -201,6 +216,7 @@ uses_network (Some (work worker runs)) = true
 uses_network (Some rates) = false
 uses_network (Some (drill searches workers)) = false
 uses_network (Some (follow rounds)) = true
+uses_network (Some (evidence search)) = false
 
 -- whether it uses the runner and the keys
 abbrev pub uses_runner : Option Asked → Bool
@@ -216,6 +232,7 @@ uses_runner (Some (work worker runs)) = true
 uses_runner (Some rates) = false
 uses_runner (Some (drill searches workers)) = false
 uses_runner (Some (follow rounds)) = false
+uses_runner (Some (evidence search)) = false
 
 -- the numbers of a subcommand are within their limits
 abbrev pub HasRanges : Subcommand → Type 0
@@ -224,4 +241,5 @@ HasRanges (sub.Work worker runs) = (1 ≤ runs) × (runs ≤ MAX_RUNS)
 HasRanges (sub.Drill searches workers) =
     (1 ≤ searches) × (searches ≤ MAX_SEARCHES) × (1 ≤ workers) × (workers ≤ MAX_WORKERS)
 HasRanges (sub.Follow rounds) = (1 ≤ rounds) × (rounds ≤ MAX_ROUNDS)
+HasRanges (sub.Evidence search) = (1 ≤ search) × (search ≤ MAX_NUMBER)
 HasRanges _ = ⊤

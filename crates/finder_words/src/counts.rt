@@ -17,6 +17,9 @@ pub const MAX_RUNS: u32 = 1_000_000;
 /// The most rounds in which a follower asks.
 pub const MAX_ROUNDS: u32 = 1_000_000;
 
+/// The greatest number that is asked for.
+pub const MAX_NUMBER: u32 = u32::MAX;
+
 /// The number that a word writes, where it is from 1 to `most`.
 pub(crate) fn read_count(word: &str, most: u32) -> Option<u32>
     ensures count { result ≡ count_named most word.now }

@@ -14,6 +14,6 @@ mod counts;
 mod places;
 mod subcommand;
 
-pub use counts::{MAX_HANDLERS, MAX_LINKS, MAX_ROUNDS, MAX_RUNS};
+pub use counts::{MAX_HANDLERS, MAX_LINKS, MAX_NUMBER, MAX_ROUNDS, MAX_RUNS};
 pub use places::{Places, read_places};
 pub use subcommand::{Subcommand, read_subcommand};

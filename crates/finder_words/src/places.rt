@@ -89,7 +89,8 @@ fn places_in<'a>(matched: Matched<'a>) -> Named<'a>
         Matched::RunJournal { journal }
         | Matched::Found { journal, .. }
         | Matched::Show { journal }
-        | Matched::Rates { journal } => Named {
+        | Matched::Rates { journal }
+        | Matched::Evidence { journal, .. } => Named {
             journal,
             address: "",
             runner: "",

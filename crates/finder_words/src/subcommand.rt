@@ -11,6 +11,7 @@ ghost use Rattle.finder_words.specs.Words.{
   asked_of,
   count_named,
   drill_asked,
+  evidence_asked,
   follow_asked,
   founding_asked,
   names_runner,
@@ -20,7 +21,7 @@ ghost use Rattle.finder_words.specs.Words.{
 };
 ghost use Rattle.word_matches.specs.Forms.{words_of};
 
-use crate::counts::{MAX_HANDLERS, MAX_LINKS, MAX_ROUNDS, MAX_RUNS, read_count};
+use crate::counts::{MAX_HANDLERS, MAX_LINKS, MAX_NUMBER, MAX_ROUNDS, MAX_RUNS, read_count};
 use decimal_text::number;
 use drill_plan::MAX_WORKERS;
 use farm_entry::{MAX_SEARCHES, Settings};
@@ -71,6 +72,11 @@ pub enum Subcommand {
         /// How often it asks for entries at most, from 1 to [`MAX_ROUNDS`].
         rounds: u32,
     },
+    /// `evidence JOURNAL SEARCH`: writes the evidence of a search, as `judge` reads it.
+    Evidence {
+        /// The number of the search, from 1 to [`MAX_NUMBER`].
+        search: u32,
+    },
 }
 
 /// The subcommand that these words name, if they name one.
@@ -119,6 +125,7 @@ pub(crate) fn read_matched(alloc: Global, matched: Matched) -> Result<Option<Sub
         Matched::Rates { .. } => Ok(Some(Subcommand::Rates)),
         Matched::Drill { searches, workers } => Ok(read_drill(searches, workers)),
         Matched::Follow { rounds, .. } => Ok(read_follow(rounds)),
+        Matched::Evidence { search, .. } => Ok(read_evidence(search)),
     }
 }
 
@@ -179,6 +186,15 @@ fn read_follow(rounds: &str) -> Option<Subcommand>
 {
     let rounds = read_count(rounds, MAX_ROUNDS)?;
     Some(Subcommand::Follow { rounds })
+}
+
+/// `evidence` with the number that a word writes, where it is in range.
+fn read_evidence(search: &str) -> Option<Subcommand>
+    ensures asked { option_map asked_by result ≡ evidence_asked (count_named MAX_NUMBER search.now) }
+    ensures ranges { IfSome result HasRanges }
+{
+    let search = read_count(search, MAX_NUMBER)?;
+    Some(Subcommand::Evidence { search })
 }
 
 /// Whether a word names a runner: `table:` or `host:`, and what follows.

@@ -1,5 +1,6 @@
 -- What the follower holds is a beginning of the leader's history, whatever happens.
-use Rattle.std.proofs.Common.{◌≡◌, ◌≤◌, ◌+◌, ◌-◌, ◌⊎◌, inl, inr, ℕ, zero, suc, List, [], ◌∷◌, ◌++◌, length, take, drop, slice_get, Some, refl, sym, ap, subst, ◌∙◌, arith, append-nil, append_assoc}
+use Rattle.std.proofs.Common.{◌≡◌, ◌≤◌, ◌+◌, ◌-◌, ◌⊎◌, inl, inr, ℕ, zero, suc, List, [], ◌∷◌, ◌++◌, length, take, drop}
+use Rattle.std.proofs.Common.{slice_get, Some, refl, sym, ap, subst, ◌∙◌, arith, append-nil, append_assoc}
 use Rattle.std.proofs.lemmas.List.{drop-append-le, length-drop, take-append-drop}
 use Rattle.std.proofs.Math.Seq.{drop-append_seam}
 use Rattle.std.proofs.lemmas.Option.{none-some, same_Some}
@@ -8,9 +9,13 @@ use Rattle.farm_entry.specs.declared.entry.Entry.{Entry}
 use Rattle.farm_entry.specs.declared.settings.Settings.{Settings}
 use Rattle.list_prefix.specs.Prefix.{IsPrefix}
 use Rattle.list_prefix.proofs.Prefixes.{IsPrefix-append, IsPrefix-nil, IsPrefix-refl, IsPrefix-trans}
-use Rattle.follow_law.specs.Happenings.{AllHappen, Happening, Happens, leader_appends, leader_starts_anew, leader_answers, follower_asks, follower_takes, follower_loses, follower_begins_anew, follower_crashes, follower_crashes_taking, page_of, reopened}
+use Rattle.follow_law.specs.Happenings.{AllHappen, Happening, Happens, leader_appends, leader_starts_anew}
+use Rattle.follow_law.specs.Happenings.{leader_answers, follower_asks, follower_takes, follower_loses}
+use Rattle.follow_law.specs.Happenings.{follower_begins_anew, follower_crashes, follower_crashes_taking, page_of}
+use Rattle.follow_law.specs.Happenings.{reopened}
 use Rattle.follow_law.specs.Page.{entries_past}
-use Rattle.follow_law.specs.Taking.{Came, Held, IsDecided, IsLeft, Takes, foreign, gap, stored, undecided, unrepaired, unstored}
+use Rattle.follow_law.specs.Taking.{Came, Held, IsDecided, IsLeft, Takes, foreign, gap, stored, undecided, unrepaired}
+use Rattle.follow_law.specs.Taking.{unstored}
 use Rattle.follow_law.specs.World.{Page, World, founded}
 
 -- Lists.
@@ -61,10 +66,12 @@ pub page-goes-on : (leader H : List Entry) (place : ℕ) (page : List Entry) →
     IsPrefix page (drop place leader) → IsPrefix (H ++ entries_past H place page) leader
 page-goes-on leader H place page p le is =
     let k = length H - place in
-    let there : drop place leader ≡ drop place H ++ p.0 = ap (λ (l : List Entry). drop place l) p.1 ∙ drop-append-le place H p.0 le in
+    let there : drop place leader ≡ drop place H ++ p.0 = ap (λ (l : List Entry). drop place l) p.1
+    ∙ drop-append-le place H p.0 le in
     let size : length (drop place H) ≡ k = length-drop place H in
     let left : drop k (drop place leader) ≡ p.0 =
-    ap (λ (l : List Entry). drop k l) there ∙ ap (λ (n : ℕ). drop n (drop place H ++ p.0)) (sym size) ∙ drop-append_seam (drop place H) p.0 in
+    ap (λ (l : List Entry). drop k l) there ∙ ap (λ (n : ℕ). drop n (drop place H ++ p.0)) (sym size)
+    ∙ drop-append_seam (drop place H) p.0 in
     begins-more H (drop k page) leader p.0 p.1
     (subst (λ (l : List Entry). IsPrefix (drop k page) l) left (drop-begins k page (drop place leader) is))
 
@@ -77,24 +84,29 @@ history-begins : (leader : List Entry) (held : Held) → Begins leader held → 
 history-begins leader held b =
     IsPrefix-trans held.history (held.history ++ held.pending) leader (IsPrefix-append held.history held.pending) b
 
-decided-begins : (leader : List Entry) (held : Held) (H : List Entry) → Begins leader held → IsDecided held H → IsPrefix H leader
-decided-begins leader held H b (inl is) = subst (λ (l : List Entry). IsPrefix l leader) (sym is) (history-begins leader held b)
+decided-begins : (leader : List Entry) (held : Held) (H : List Entry) → Begins leader held → IsDecided held H
+    → IsPrefix H leader
+decided-begins leader held H b (inl is) =
+    subst (λ (l : List Entry). IsPrefix l leader) (sym is) (history-begins leader held b)
 decided-begins leader held H b (inr is) = subst (λ (l : List Entry). IsPrefix l leader) (sym is) b
 
 -- nothing pending
-settled-begins : (leader H : List Entry) (held : Held) → IsPrefix H leader → held.history ≡ H → held.pending ≡ [] → Begins leader held
+settled-begins : (leader H : List Entry) (held : Held) → IsPrefix H leader → held.history ≡ H → held.pending ≡ []
+    → Begins leader held
 settled-begins leader H held p is none =
-    subst (λ (l : List Entry). IsPrefix l leader) (sym (ap (λ (l : List Entry). held.history ++ l) none ∙ append-nil held.history ∙ is)) p
+    subst (λ (l : List Entry). IsPrefix l leader)
+    (sym (ap (λ (l : List Entry). held.history ++ l) none ∙ append-nil held.history ∙ is)) p
 
 place-le : (from n : ℕ) → from ≤ n + 1 → from - 1 ≤ n
 place-le from n le = omega arith
 
-pub takes-begins : (leader : List Entry) (came : Came) (p : Page) (old new : Held) → Begins leader old → IsPageOf leader p →
-    Takes came p.from p.entries old new → Begins leader new
+pub takes-begins : (leader : List Entry) (came : Came) (p : Page) (old new : Held) → Begins leader old
+    → IsPageOf leader p → Takes came p.from p.entries old new → Begins leader new
 takes-begins leader (stored count) p old new b is t =
     let H = t.0 in
     settled-begins leader (H ++ entries_past H (p.from - 1) p.entries) new
-    (page-goes-on leader H (p.from - 1) p.entries (decided-begins leader old H b t.1) (place-le p.from (length H) t.2) is)
+    (page-goes-on leader H (p.from - 1) p.entries (decided-begins leader old H b t.1)
+    (place-le p.from (length H) t.2) is)
     t.4 t.5
 takes-begins leader (gap first have) p old new b is t =
     settled-begins leader new.history new (decided-begins leader old new.history b t.0) refl t.1
@@ -106,19 +118,21 @@ takes-begins leader unrepaired p old new b is t =
 takes-begins leader undecided p old new b is t =
     let H = new.history in
     subst (λ (l : List Entry). IsPrefix (H ++ l) leader) (sym t.3)
-    (page-goes-on leader H (p.from - 1) p.entries (decided-begins leader old H b t.0) (place-le p.from (length H) t.1) is)
+    (page-goes-on leader H (p.from - 1) p.entries (decided-begins leader old H b t.0)
+    (place-le p.from (length H) t.1) is)
 takes-begins leader unstored p old new b is t =
     settled-begins leader new.history new (decided-begins leader old new.history b t.0) refl t.1
 
-left-begins : (leader : List Entry) (old new : Held) (H : List Entry) → Begins leader old → Begins leader new → IsLeft old new H →
-    IsPrefix H leader
+left-begins : (leader : List Entry) (old new : Held) (H : List Entry) → Begins leader old → Begins leader new
+    → IsLeft old new H → IsPrefix H leader
 left-begins leader old new H b c (inl is) = decided-begins leader old H b is
 left-begins leader old new H b c (inr is) = subst (λ (l : List Entry). IsPrefix l leader) (sym is) c
 
 -- Growing.
 
 decided-grows : (held : Held) (H : List Entry) → IsDecided held H → IsPrefix held.history H
-decided-grows held H (inl is) = subst (λ (l : List Entry). IsPrefix held.history l) (sym is) (IsPrefix-refl held.history)
+decided-grows held H (inl is) =
+    subst (λ (l : List Entry). IsPrefix held.history l) (sym is) (IsPrefix-refl held.history)
 decided-grows held H (inr is) =
     subst (λ (l : List Entry). IsPrefix held.history l) (sym is) (IsPrefix-append held.history held.pending)
 
@@ -133,8 +147,8 @@ takes-grows unrepaired from page old new t =
 takes-grows undecided from page old new t = decided-grows old new.history t.0
 takes-grows unstored from page old new t = decided-grows old new.history t.0
 
-left-grows : (came : Came) (from : ℕ) (page : List Entry) (old new : Held) (H : List Entry) → Takes came from page old new →
-    IsLeft old new H → IsPrefix old.history H
+left-grows : (came : Came) (from : ℕ) (page : List Entry) (old new : Held) (H : List Entry)
+    → Takes came from page old new → IsLeft old new H → IsPrefix old.history H
 left-grows came from page old new H t (inl is) = decided-grows old H is
 left-grows came from page old new H t (inr is) =
     subst (λ (l : List Entry). IsPrefix old.history l) (sym is)
@@ -168,7 +182,8 @@ appended w e s = record {
   pages = λ i p is. page-stays w.leader (e ∷ []) p (s.pages i p is);
 }
 
-answered : (w : World) (from count : ℕ) → IsSound w → IsSound (record w { pages = w.pages ++ page_of w.leader from count ∷ [] })
+answered : (w : World) (from count : ℕ) → IsSound w
+    → IsSound (record w { pages = w.pages ++ page_of w.leader from count ∷ [] })
 answered w from count s = record { begins = s.begins; pages = answered-pages w.leader w.pages from count s.pages }
 
 taken : (w : World) (held : Held) (compared : ℕ) → IsSound w → Begins w.leader held →

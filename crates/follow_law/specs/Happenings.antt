@@ -9,7 +9,8 @@ use Rattle.follow_law.specs.World.{Page, World}
 pub data Happening : Type 0 where
   leader_appends : Entry → Happening  -- the leader appends a legal entry
   leader_starts_anew : Happening  -- it starts anew, with its history
-  leader_answers : (ask : ℕ) → (count : ℕ) → Happening  -- it answers any ask that was ever sent, with so many entries at most
+  -- it answers any ask that was ever sent, with so many entries at most
+  leader_answers : (ask : ℕ) → (count : ℕ) → Happening
   follower_asks : Happening  -- the follower asks for the entries after those compared
   follower_takes : (page : ℕ) → Came → Happening  -- it takes any page that was ever sent, whatever its disk does
   follower_loses : (page : ℕ) → Happening  -- a page is lost

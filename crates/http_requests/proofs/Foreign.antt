@@ -1,5 +1,5 @@
 -- A POST with a field named Origin: what it comes to, and that nothing else comes to its fault.
-use Rattle.std.proofs.Common.{ℕ, ◌≡◌, ◌+◌, inl, inr, Bool, true, false, not, if◌then◌else◌, List, length, drop, take, codes, refl, sym, ap, ◌∙◌, Option, Some, None, Result, Ok, Err, nat_lt}
+use Rattle.std.proofs.Common.{ℕ, ◌≡◌, ◌+◌, inl, inr, Bool, true, false, not, if◌then◌else◌, List, length, drop, take, codes, refl, sym, ap, ◌∙◌, Result, Ok, Err, nat_lt}
 use Rattle.std.proofs.lemmas.Bool.{and_parts}
 use Rattle.std.proofs.lemmas.Slice.Eq.{bytes_eq-Decides}
 use Rattle.httparse.specs.Grammar.{RequestHead}
@@ -7,14 +7,11 @@ use Rattle.http_fields.specs.Fields.{FieldText}
 use Rattle.http_fields.specs.Lengths.{stated_length}
 use Rattle.http_fields.specs.declared.lengths.StatedLength.{StatedLength}
 use Rattle.http_fields.specs.declared.lengths.StatedLength.TheVariants.{Absent, Bytes, TooLong, Malformed}
-use Rattle.http_routes.specs.Paths.{path_of}
-use Rattle.http_routes.specs.Routes.{allow_of, allows, endpoint_at, endpoint_by, endpoint_of, number_in, numbered, page_of, path_number}
-use Rattle.http_routes.specs.declared.page.Page.{Page}
-use Rattle.http_routes.specs.declared.page.Page.TheVariants as page
+use Rattle.http_routes.proofs.Rows.{endpoint_of-holds}
+use Rattle.http_routes.specs.Routes.{endpoint_of}
 use Rattle.http_words.specs.declared.endpoint.Endpoint.{Endpoint}
 use Rattle.http_words.specs.declared.fault.Fault.{Fault}
 use Rattle.http_words.specs.declared.fault.Fault.TheVariants as fault
-use Rattle.http_words.specs.declared.fault.PathField.{PathField}
 use Rattle.http_requests.specs.Fields.{fields_of}
 use Rattle.http_requests.specs.Framing.{body_length, closes_after, has_coding, has_host, is_foreign, is_head_method, is_post, length_by, wants_interim}
 use Rattle.http_requests.specs.Items.{Item, IsNext, IsRequest, body_of, head_size, item_by, item_of, refused}
@@ -71,35 +68,16 @@ item-hostless bytes item x foreign host =
 
 -- ---- nothing else comes to it
 
-numbered-other : (name : PathField) (asked : ℕ → Endpoint) (o : Option ℕ)
-    → numbered name asked o ≡ Err fault.Foreign → ⊥
-numbered-other name asked None e = cc
-numbered-other name asked (Some n) e = cc
-
-row-other : (row : Page) (text : List ℕ) → endpoint_at row text ≡ Err fault.Foreign → ⊥
-row-other page.Searches text e = cc
-row-other page.Leases text e = cc
-row-other page.Report text e = numbered-other _ _ (path_number text) e
-row-other page.Cancel text e = numbered-other _ _ (path_number text) e
-row-other page.Reverts text e = cc
-row-other page.Search text e = numbered-other _ _ (path_number text) e
-row-other page.Farm text e = cc
-row-other page.Orders text e = cc
-row-other page.Totals text e = cc
-row-other page.Log text e = numbered-other _ _ (path_number text) e
-
-allowed-other : (b : Bool) (row : Page) (text : List ℕ)
-    → (if b then endpoint_at row text else Err (fault.MethodNotAllowed (allow_of row))) ≡ Err fault.Foreign → ⊥
-allowed-other true row text e = row-other row text e
-allowed-other false row text e = cc
-
-path-other : (o : Option Page) (text method : List ℕ) → endpoint_by o text method ≡ Err fault.Foreign → ⊥
-path-other None text method e = cc
-path-other (Some row) text method e = allowed-other (allows (allow_of row) method) row text e
-
 endpoint-other : (method target : List ℕ) → endpoint_of method target ≡ Err fault.Foreign → ⊥
-unfolding endpoint_of
-endpoint-other method target e = path-other (page_of (path_of target)) (number_in (path_of target)) method e
+endpoint-other method target =
+    endpoint_of-holds (λ (r : Result Endpoint Fault). r ≡ Err fault.Foreign → ⊥) method target (record {
+      command = λ r allowed e. cc;
+      totals = λ e. cc;
+      log = λ from one e. cc;
+      not_found = λ e. cc;
+      not_allowed = λ methods e. cc;
+      bad_field = λ name e. cc;
+    })
 
 -- the length where none is stated, by whether the method is POST
 abbrev unstated : Bool → Result ℕ Fault

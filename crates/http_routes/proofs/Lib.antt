@@ -1,2 +1,3 @@
 pub mod PathNumbers
+pub mod Rows
 pub mod TextCuts

@@ -1,6 +1,7 @@
 -- The number in a path, by the number that its text writes.
-use Rattle.std.proofs.Common.{ℕ, ◌≡◌, ◌^◌, ◌<◌, ◌≤◌, Bool, true, false, ◌&&◌, List, Option, Some, None, nat_le, nat_lt, refl, ap, ◌∙◌, arith}
+use Rattle.std.proofs.Common.{ℕ, ◌≡◌, ◌^◌, ◌<◌, ◌≤◌, Bool, true, false, ◌&&◌, List, Option, Some, None, if◌then◌else◌, nat_le, nat_lt, refl, ap, ◌∙◌, arith}
 use Rattle.std.proofs.lemmas.Bool.{le-leb, lt-leb, lt-ltb}
+use Rattle.std.proofs.lemmas.Bool.Decides.{nat_tests}
 use Rattle.decimal_text.specs.Decimals.{number}
 use Rattle.http_routes.specs.Routes.{from_one, last_number, path_number}
 
@@ -35,3 +36,17 @@ path_number-zero text is = ap from_one is
 pub path_number-none : (text : List ℕ) → ((n : ℕ) → number text ≡ Some n → 2 ^ 32 ≤ n) → path_number text ≡ None
 unfolding path_number
 path_number-none text large = from_one-large (number text) large
+
+if-positive : (n : ℕ) (b c : Bool) → nat_lt 0 n ≡ b → (m : ℕ) → (if b && c then Some n else None) ≡ Some m → 1 ≤ m
+if-positive n true true is m e = let same : n ≡ m = cc in let low : 0 < n = grind (arith, nat_tests) in omega arith
+if-positive n true false is m e = let bad : ⊥ = cc in absurd bad
+if-positive n false c is m e = let bad : ⊥ = cc in absurd bad
+
+from_one-positive : (o : Option ℕ) (m : ℕ) → from_one o ≡ Some m → 1 ≤ m
+from_one-positive None m e = let bad : ⊥ = cc in absurd bad
+from_one-positive (Some n) m e = if-positive n (nat_lt 0 n) (nat_le n last_number) refl m e
+
+-- what is one is 1 or more
+pub path_number-positive : (text : List ℕ) (m : ℕ) → path_number text ≡ Some m → 1 ≤ m
+unfolding path_number
+path_number-positive text m e = from_one-positive (number text) m e

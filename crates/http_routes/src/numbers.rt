@@ -1,15 +1,20 @@
 //! The numbers in paths.
 ghost use Rattle.std.specs.Prelude.{◌≡◌};
-ghost use Rattle.http_routes.specs.Routes.{number_in, path_number};
+ghost use Rattle.http_routes.specs.Routes.{number_at, path_number, text_at};
 
 use decimal_text::number;
 
-/// The text of the number in a path that stands in a row with one.
-#[tactic(auto, unfolding(crate::specs::Routes::number_in))]
-fn number_in(path: &str) -> &str
-    ensures { result.now ≡ number_in path.now }
+/// The place of a path's first number among its parts, the empty one before its first slash counted.
+pub(crate) const FIRST_NUMBER: usize = 3;
+
+/// The place of a path's second number among its parts.
+pub(crate) const SECOND_NUMBER: usize = 5;
+
+/// The text at this place among the parts of a path, which is empty where the path has fewer.
+fn text_at(place: usize, path: &str) -> &str
+    ensures { result.now ≡ text_at place path.now }
 {
-    match path.split('/').nth(3) {
+    match path.split('/').nth(place) {
         Some(number) => number,
         None => "",
     }
@@ -25,9 +30,9 @@ fn path_number(text: &[u8]) -> Option<u32>
     if number == 0 { None } else { Some(number) }
 }
 
-/// The number from 1 on in a path that stands in a row with one.
-pub(crate) fn number_of(path: &str) -> Option<u32>
-    ensures { result ≡ path_number (number_in path.now) }
+/// The number from 1 on at this place among the parts of a path.
+pub(crate) fn number_at(place: usize, path: &str) -> Option<u32>
+    ensures { result ≡ number_at place path.now }
 {
-    path_number(number_in(path).as_bytes())
+    path_number(text_at(place, path).as_bytes())
 }

@@ -13,6 +13,8 @@ pub(crate) enum Page {
     Cancel,
     Reverts,
     Search,
+    Runs,
+    List,
     Farm,
     Orders,
     Totals,
@@ -28,8 +30,13 @@ impl Page {
             Page::Searches | Page::Leases | Page::Report | Page::Cancel | Page::Reverts => {
                 Allow::Post
             }
-            Page::Search | Page::Farm | Page::Orders | Page::Totals | Page::Log =>
-                Allow::GetAndHead,
+            Page::Search
+            | Page::Runs
+            | Page::List
+            | Page::Farm
+            | Page::Orders
+            | Page::Totals
+            | Page::Log => Allow::GetAndHead,
         }
     }
 }

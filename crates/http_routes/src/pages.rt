@@ -4,10 +4,11 @@ ghost use Rattle.std.specs.Str.{IsUtf8};
 ghost use Rattle.path_table.specs.Apart.{in_order};
 ghost use Rattle.path_table.specs.Filled.{values_of};
 ghost use Rattle.path_table.specs.Walk.{rows_for};
-ghost use Rattle.http_routes.specs.Routes.{endpoint_at, endpoint_by, endpoint_of, number_in, page_of, path_table};
+ghost use Rattle.http_routes.specs.declared.page.Page.TheVariants as page;
+ghost use Rattle.http_routes.specs.Routes.{endpoint_at, endpoint_by, endpoint_of, page_of, path_table};
 
 use crate::fixed::fixed_page;
-use crate::numbers::number_of;
+use crate::numbers::{FIRST_NUMBER, SECOND_NUMBER, number_at};
 use crate::page::{Page, allows};
 use crate::path::{path_of, text_of};
 use farm_types::Memory;
@@ -33,6 +34,8 @@ impl Pages {
         add_route(&mut router, "/v1/searches/{search}/cancel", Page::Cancel)?;
         add_route(&mut router, "/v1/reverts", Page::Reverts)?;
         add_route(&mut router, "/v1/searches/{search}", Page::Search)?;
+        add_route(&mut router, "/v1/searches/{search}/runs/{from}", Page::Runs)?;
+        add_route(&mut router, "/v1/list/{from}", Page::List)?;
         add_route(&mut router, "/v1/farm", Page::Farm)?;
         add_route(&mut router, "/v1/orders", Page::Orders)?;
         add_route(&mut router, "/v1/totals", Page::Totals)?;
@@ -82,7 +85,7 @@ impl Pages {
 /// What a request asks for by its method, where its path stands in a row.
 fn endpoint_in(page: Page, path: &[u8], method: &[u8]) -> Result<Endpoint, Fault>
     requires { IsUtf8 path.now }
-    ensures { result ≡ endpoint_by (Some page) (number_in path.now) method.now }
+    ensures { result ≡ endpoint_by (Some page) path.now method.now }
 {
     if !allows(page.allow(), method) {
         return Err(Fault::MethodNotAllowed(page.allow()));
@@ -93,7 +96,7 @@ fn endpoint_in(page: Page, path: &[u8], method: &[u8]) -> Result<Endpoint, Fault
 /// What a path asks for that stands in a row.
 fn endpoint_at(page: Page, path: &[u8]) -> Result<Endpoint, Fault>
     requires { IsUtf8 path.now }
-    ensures { result ≡ endpoint_at page (number_in path.now) }
+    ensures { result ≡ endpoint_at page path.now }
 {
     match page {
         Page::Searches => Ok(Endpoint::Command(Route::Open)),
@@ -102,21 +105,39 @@ fn endpoint_at(page: Page, path: &[u8]) -> Result<Endpoint, Fault>
         Page::Farm => Ok(Endpoint::Command(Route::Farm)),
         Page::Orders => Ok(Endpoint::Command(Route::Orders)),
         Page::Totals => Ok(Endpoint::Totals),
-        Page::Report => match number_of(text_of(path)) {
+        Page::Report => match number_at(FIRST_NUMBER, text_of(path)) {
             Some(run) => Ok(Endpoint::Command(Route::Report(run))),
             None => Err(Fault::BadField(PathField::Run)),
         },
-        Page::Cancel => match number_of(text_of(path)) {
+        Page::Cancel => match number_at(FIRST_NUMBER, text_of(path)) {
             Some(search) => Ok(Endpoint::Command(Route::Cancel(search))),
             None => Err(Fault::BadField(PathField::Search)),
         },
-        Page::Search => match number_of(text_of(path)) {
+        Page::Search => match number_at(FIRST_NUMBER, text_of(path)) {
             Some(search) => Ok(Endpoint::Command(Route::Search(search))),
             None => Err(Fault::BadField(PathField::Search)),
         },
-        Page::Log => match number_of(text_of(path)) {
+        Page::Runs => runs_at(text_of(path)),
+        Page::List => match number_at(FIRST_NUMBER, text_of(path)) {
+            Some(from) => Ok(Endpoint::Command(Route::List(from))),
+            None => Err(Fault::BadField(PathField::From)),
+        },
+        Page::Log => match number_at(FIRST_NUMBER, text_of(path)) {
             Some(from) => Ok(Endpoint::Log(from)),
             None => Err(Fault::BadField(PathField::From)),
         },
     }
+}
+
+/// What a path asks for that stands in the row of a search's runs.
+fn runs_at(path: &str) -> Result<Endpoint, Fault>
+    ensures { result ≡ endpoint_at page.Runs path.now }
+{
+    let Some(search) = number_at(FIRST_NUMBER, path) else {
+        return Err(Fault::BadField(PathField::Search));
+    };
+    let Some(from) = number_at(SECOND_NUMBER, path) else {
+        return Err(Fault::BadField(PathField::From));
+    };
+    Ok(Endpoint::Command(Route::Runs { search, from }))
 }

@@ -23,6 +23,11 @@ fn route_of(name: &str, number: u32) -> Route {
         "revert" => Route::Revert,
         "search" => Route::Search(number),
         "farm" => Route::Farm,
+        "runs" => Route::Runs {
+            search: number,
+            from: number,
+        },
+        "list" => Route::List(number),
         _ => Route::Orders,
     }
 }

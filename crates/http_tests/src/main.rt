@@ -24,6 +24,7 @@ mod answers;
 mod asked;
 mod flaky;
 mod links;
+mod lists;
 mod pages;
 mod refusals;
 mod replies;

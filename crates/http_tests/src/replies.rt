@@ -2,6 +2,7 @@
 
 ghost use Rattle.farm_laws.specs.Days.{HasDays};
 
+use crate::lists::{print_runs, print_searches};
 use crate::pages::{
     print_log, print_no_orders, print_order, print_page, print_posted, print_totals,
 };
@@ -21,8 +22,8 @@ pub(crate) fn print_reply(rt: &impl Print, alloc: Global, reply: &Reply) -> io::
     print_text(rt, reply_text(alloc, reply))
 }
 
-// The position with these digits, and 0 where they aren't digits.
-fn position_of(digits: &str) -> u16 {
+/// The position with these digits, and 0 where they aren't digits.
+pub(crate) fn position_of(digits: &str) -> u16 {
     digits.parse::<u16>().unwrap_or(0)
 }
 
@@ -69,7 +70,8 @@ fn print_leased(rt: &impl Print, alloc: Global, text: &str) -> io::Result<()> {
     }
 }
 
-fn verdict_of(name: &str) -> Verdict {
+/// The verdict with a name.
+pub(crate) fn verdict_of(name: &str) -> Verdict {
     if name == "fail" {
         Verdict::Fail
     } else {
@@ -77,7 +79,8 @@ fn verdict_of(name: &str) -> Verdict {
     }
 }
 
-fn fate_of(name: &str) -> Fate {
+/// The fate with a name.
+pub(crate) fn fate_of(name: &str) -> Fate {
     if name == "over" {
         Fate::Over
     } else {
@@ -97,7 +100,8 @@ fn print_reported(rt: &impl Print, alloc: Global, text: &str) -> io::Result<()> 
     print_reply(rt, alloc, &reported)
 }
 
-fn skip_fate_of(name: &str) -> SkipFate {
+/// What the report of a tree that can't be tested did, by its name.
+pub(crate) fn skip_fate_of(name: &str) -> SkipFate {
     if name == "late" {
         SkipFate::Late
     } else {
@@ -151,6 +155,8 @@ pub(crate) fn play_reply(rt: &impl Print, alloc: Global, name: &str, text: &str)
         "posted" => print_posted(rt, alloc, text),
         "log" => print_log(rt, alloc, text),
         "no_orders" => print_no_orders(rt, alloc),
+        "runs" => print_runs(rt, alloc, text),
+        "list" => print_searches(rt, alloc, text),
         _ => print_order(rt, alloc, text),
     }
 }

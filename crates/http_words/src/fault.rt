@@ -9,14 +9,14 @@ pub enum Allow {
     GetAndHead,
 }
 
-/// The number that stands in a path.
+/// A number that stands in a path.
 #[derive(Clone, Copy, Debug, PartialEq, Eq, Hash)]
 pub enum PathField {
     /// The number of a run.
     Run,
     /// The number of a search.
     Search,
-    /// The number of the first entry of a log page.
+    /// The number of the first line of a page: an entry of the log, a run of a search, a search of the list.
     From,
 }
 

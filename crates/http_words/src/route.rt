@@ -1,6 +1,6 @@
 //! Which command a request asks for.
 
-/// Which command a request asks for by its method and path, with the number that stands in the path.
+/// Which command a request asks for by its method and path, with the numbers that stand in the path.
 #[derive(Clone, Copy, Debug, PartialEq, Eq, Hash)]
 pub enum Route {
     /// To open a search.
@@ -15,6 +15,15 @@ pub enum Route {
     Revert,
     /// To show this search.
     Search(u32),
+    /// To show this search's runs from one on.
+    Runs {
+        /// The number of the search.
+        search: u32,
+        /// The first of the search's runs that is shown, counted from 1.
+        from: u32,
+    },
+    /// To show the searches from this number on.
+    List(u32),
     /// To show the totals of the farm.
     Farm,
     /// To show all orders.

@@ -1,19 +1,23 @@
 -- Rounds of following, one after the other.
-use Rattle.std.proofs.Common.{◌≡◌, ◌≢◌, ◌⊎◌, inl, inr, ⊎_elim, ◌<◌, ◌≤◌, ◌+◌, ◌-◌, ℕ, Bool, true, false, List, [], ◌∷◌, ◌++◌, length, take, drop, Option, refl, sym, ◌∙◌, ap, subst, arith, append_assoc}
+use Rattle.std.proofs.Common.{◌≡◌, ◌≢◌, ◌⊎◌, inl, inr, ⊎_elim, ◌<◌, ◌≤◌, ◌+◌, ◌-◌, ℕ, Bool, true, false, List, [], ◌∷◌}
+use Rattle.std.proofs.Common.{◌++◌, length, take, drop, Option, refl, sym, ◌∙◌, ap, subst, arith, append_assoc}
 use Rattle.std.specs.Prelude.{Result, Ok, Err}
 use Rattle.std.proofs.lemmas.Grind.{flat_map-append}
-use Rattle.std.proofs.lemmas.List.{append-nil, length-append, length-drop, length-take, take-append-drop, take-append-le, take_all}
+use Rattle.std.proofs.lemmas.List.{append-nil, length-append, length-drop, length-take, take-append-drop}
+use Rattle.std.proofs.lemmas.List.{take-append-le, take_all}
 use Rattle.std.proofs.Math.Seq.{take-append-add}
 use Rattle.std.proofs.lemmas.Bool.{cases_lt}
 use Rattle.farm_disk.specs.Images.{DiskState, LeavesOnly}
 use Rattle.farm_disk.proofs.Moments.{leaves_only-start, leaves_only-trans, leaves_only-weaker}
 use Rattle.farm_entry.specs.declared.entry.Entry.{Entry}
 use Rattle.follow_law.specs.Page.{GoesWith, entries_past}
-use Rattle.follow_law.specs.Taking.{Came, Held, IsDecided, IsLeft, Takes, foreign, gap, stored, undecided, unrepaired, unstored}
+use Rattle.follow_law.specs.Taking.{Came, Held, IsDecided, IsLeft, Takes, foreign, gap, stored, undecided, unrepaired}
+use Rattle.follow_law.specs.Taking.{unstored}
 use Rattle.list_prefix.specs.Prefix.{IsPrefix}
 use Rattle.list_prefix.proofs.Prefixes.{IsPrefix-append, IsPrefix-refl, IsPrefix-trans}
 use Rattle.net_io.specs.Events.{NetworkEvent}
-use Rattle.journal_follow.specs.Following.{AreTaken, Ends, Follows, IsRound, Last, Round, answered, compared_after, cut_off, entries_of, nothing, told_last, told_round, told_rounds, unanswered}
+use Rattle.journal_follow.specs.Following.{AreTaken, Ends, Follows, IsRound, Last, Round, answered, compared_after}
+use Rattle.journal_follow.specs.Following.{cut_off, entries_of, nothing, told_last, told_round, told_rounds, unanswered}
 use Rattle.journal_follow.specs.Rounds.{GoesOn, IsLast, RoundSays}
 use Rattle.journal_follow.specs.Shown.{IsKept, Shows, ShowsBetween, ShowsDecided, ShowsLeft}
 use Rattle.journal_follow.specs.declared.fault.FollowFault.{FollowFault}

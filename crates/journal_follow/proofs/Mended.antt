@@ -1,5 +1,6 @@
 -- What a repair of a journal leaves of a farm and its journal.
-use Rattle.std.proofs.Common.{◌≡◌, ◌≢◌, inr, ℕ, Bool, true, false, true≢false, List, [], ◌++◌, Option, Some, None, refl, sym, ◌∙◌, ap}
+use Rattle.std.proofs.Common.{◌≡◌, ◌≢◌, inr, ℕ, Bool, true, false, true≢false, List, [], ◌++◌, Option, Some, None, refl}
+use Rattle.std.proofs.Common.{sym, ◌∙◌, ap}
 use Rattle.std.specs.Prelude.{IsSome, IsTrue, ◌↔◌}
 use Rattle.farm_core.specs.FarmView.{FarmView}
 use Rattle.farm_disk.specs.Images.{DiskState, LeavesOnly}

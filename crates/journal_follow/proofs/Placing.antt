@@ -1,5 +1,6 @@
 -- What holds of each place where a follower keeps its history, and what its disk shows.
-use Rattle.std.proofs.Common.{◌≡◌, inl, ⊎_elim, ℕ, zero, suc, ◌+◌, ◌≤◌, ◌<◌, Bool, true, false, List, [], ◌∷◌, ◌++◌, length, take, drop, Option, Some, None, refl, sym, ◌∙◌, ap, subst, arith}
+use Rattle.std.proofs.Common.{◌≡◌, inl, ⊎_elim, ℕ, zero, suc, ◌+◌, ◌≤◌, ◌<◌, Bool, true, false, List, [], ◌∷◌, ◌++◌}
+use Rattle.std.proofs.Common.{length, take, drop, Option, Some, None, refl, sym, ◌∙◌, ap, subst, arith}
 use Rattle.std.specs.Prelude.{Err, slice_get, ◌==◌, if◌then◌else◌}
 use Rattle.std.proofs.Common.{Decides}
 use Rattle.std.proofs.lemmas.Option.{same_Some}
@@ -13,7 +14,8 @@ use Rattle.farm_disk.specs.Model.{IsSound}
 use Rattle.farm_disk.proofs.Moments.{leaves_only-rested, leaves_only-start, leaves_only-weaker}
 use Rattle.farm_entry.specs.declared.entry.Entry.{Entry}
 use Rattle.farm_journal.specs.Created.{IsUnborn, IsUnbornOrFirst}
-use Rattle.farm_journal.specs.Layout.{Opening, damaged, header_fault, holds, is_unborn, is_whole, opens, opens_born, records, told_length, unborn, with_payload}
+use Rattle.farm_journal.specs.Layout.{Opening, damaged, header_fault, holds, is_unborn, is_whole, opens, opens_born}
+use Rattle.farm_journal.specs.Layout.{records, told_length, unborn, with_payload}
 use Rattle.farm_journal.specs.declared.layout.TheConstants.{FIRST_GATE}
 use Rattle.farm_journal.specs.Opened.{Misses, OpeningCause}
 use Rattle.farm_journal.specs.State.{JournalState, IsHeld}
@@ -24,14 +26,16 @@ use Rattle.farm_store.specs.StoreInside.{IsStore, Keeps}
 use Rattle.farm_store.proofs.Spellings.{keeps-first}
 use Rattle.follow_law.specs.Taking.{Held}
 use Rattle.journal_follow.specs.Admitted.{IsStuckAt}
-use Rattle.journal_follow.specs.Inside.{HasCountFrom, IsBegunDisk, IsFirst, IsOfRepair, IsStuckBy, IsUnbornDisk, Stores, unopened_fault}
+use Rattle.journal_follow.specs.Inside.{HasCountFrom, IsBegunDisk, IsFirst, IsOfRepair, IsStuckBy, IsUnbornDisk, Stores}
+use Rattle.journal_follow.specs.Inside.{unopened_fault}
 use Rattle.journal_follow.specs.Settled.{SyncsAndReads}
 use Rattle.journal_follow.specs.Shown.{ShowsDecided, ShowsLeft}
 use Rattle.journal_follow.specs.Taken.{IsSoundly}
 use Rattle.journal_follow.specs.declared.fault.FollowFault.{FollowFault}
 use Rattle.journal_follow.specs.declared.fault.FollowFault.TheVariants as fault
 use Rattle.journal_follow.proofs.Admissions.{legal-some}
-use Rattle.journal_follow.proofs.Showing.{begun-shows, decided-left, first-stands, just, now-left, stands-shows, with_pending}
+use Rattle.journal_follow.proofs.Showing.{begun-shows, decided-left, first-stands, just, now-left, stands-shows}
+use Rattle.journal_follow.proofs.Showing.{with_pending}
 use Rattle.journal_follow.proofs.Syncs.{bytes-read, images-read, moment-read}
 
 -- each entry takes a byte

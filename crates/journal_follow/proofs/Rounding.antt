@@ -1,5 +1,6 @@
 -- From an ask and what is done with its page to what a round comes to.
-use Rattle.std.proofs.Common.{◌≡◌, ◌≢◌, ◌≤◌, ◌+◌, ◌++◌, inl, ℕ, List, [], length, Option, refl, sym, ◌∙◌, ap, subst, arith}
+use Rattle.std.proofs.Common.{◌≡◌, ◌≢◌, ◌≤◌, ◌+◌, ◌++◌, inl, ℕ, List, [], length, Option, refl, sym, ◌∙◌, ap, subst}
+use Rattle.std.proofs.Common.{arith}
 use Rattle.std.specs.Prelude.{Result, Ok, Err}
 use Rattle.farm_entry.specs.declared.entry.Entry.{Entry}
 use Rattle.farm_entry.specs.declared.limits.TheConstants.{MAX_ENTRIES}
@@ -10,7 +11,8 @@ use Rattle.journal_follow.proofs.Takings.{may-bounded}
 use Rattle.follow_law.specs.Taking.{Came, Held, Takes, foreign, gap, stored, undecided, unrepaired, unstored}
 use Rattle.net_io.specs.Events.{NetworkEvent}
 use Rattle.journal_follow.specs.Asked.{AskComesTo, AskEnds}
-use Rattle.journal_follow.specs.Following.{Ends, IsRound, Last, Round, answered, cut_off, nothing, told_last, told_round, unanswered}
+use Rattle.journal_follow.specs.Following.{Ends, IsRound, Last, Round, answered, cut_off, nothing, told_last}
+use Rattle.journal_follow.specs.Following.{told_round, unanswered}
 use Rattle.journal_follow.specs.Rounds.{EndedSays, RoundSays}
 use Rattle.journal_follow.specs.Taken.{Answers}
 use Rattle.journal_follow.specs.declared.fault.FollowFault.{FollowFault}

@@ -4,7 +4,8 @@ use Rattle.std.specs.Prelude.{Err}
 use Rattle.std.proofs.Math.Nat.{eq-or-lt_of_le}
 use Rattle.farm_disk.specs.Answers.{after_sync, rested}
 use Rattle.farm_disk.specs.Images.{DiskState, EachImage, IsSettled, LeavesOnly, sync}
-use Rattle.farm_disk.proofs.Moments.{leaves_only-now, leaves_only-rested, leaves_only-start, leaves_only-step, leaves_only-trans, leaves_only-weaker, settled-sync, since_sync-run}
+use Rattle.farm_disk.proofs.Moments.{leaves_only-now, leaves_only-rested, leaves_only-start, leaves_only-step}
+use Rattle.farm_disk.proofs.Moments.{leaves_only-trans, leaves_only-weaker, settled-sync, since_sync-run}
 use Rattle.farm_journal.specs.ReadsOnly.{ReadsOnly}
 use Rattle.farm_journal.specs.declared.fault.OpeningFault.{OpeningFault}
 use Rattle.farm_journal.specs.declared.fault.OpeningFault.TheVariants as opening

@@ -1,5 +1,6 @@
 -- How a follower keeps its history: nothing yet; the farm of a journal that was begun; or a farm and a journal.
-use Rattle.std.specs.Prelude.{◌≡◌, ◌≢◌, ◌≤◌, ◌<◌, ◌+◌, ◌-◌, ◌++◌, length, take, drop, ℕ, Bool, true, false, List, [], Option, Some, None, Result, Ok, Err, ⊤}
+use Rattle.std.specs.Prelude.{◌≡◌, ◌≢◌, ◌≤◌, ◌<◌, ◌+◌, ◌-◌, ◌++◌, length, take, drop, ℕ, Bool, true, false, List, []}
+use Rattle.std.specs.Prelude.{Option, Some, None, Result, Ok, Err, ⊤}
 use Rattle.entry_codec.specs.Grammar.{AreSpelled}
 use Rattle.entry_codec.specs.Spelling.{spelling}
 use Rattle.farm_disk.specs.Images.{DiskState, EachImage}

@@ -1,10 +1,11 @@
 -- What a command comes to that only shows something: it has no key, and is answered at a full history too.
 use Rattle.std.proofs.Common.{◌≡◌, nat_le, not, ◌&&◌, ℕ, Bool, true, false, if◌then◌else◌, List, length, Some, None, refl}
 use Rattle.farm_types.specs.declared.moment.Moment.{Moment}
-use Rattle.farm_entry.specs.Decision.{decide, or_else, page_decision}
+use Rattle.farm_entry.specs.Decision.{decide, or_else, page_decision, runs_decision}
 use Rattle.farm_entry.specs.History.{opening_numbered, order_lines}
 use Rattle.farm_entry.specs.Pages.{totals}
-use Rattle.farm_entry.specs.declared.command.Command.TheVariants.{ShowSearch, ShowFarm, ShowOrders}
+use Rattle.farm_entry.specs.SearchLines.{search_list}
+use Rattle.farm_entry.specs.declared.command.Command.TheVariants.{ShowSearch, ShowFarm, ShowOrders, ShowRuns, ShowSearches}
 use Rattle.farm_entry.specs.declared.decision.Decision.{Decision}
 use Rattle.farm_entry.specs.declared.decision.Decision.TheVariants.{Refuse, Show}
 use Rattle.farm_entry.specs.declared.entry.Entry.{Entry}
@@ -27,4 +28,13 @@ decide-farm H m = past-full (nat_le MAX_ENTRIES (length H)) (Show (reply.Farm (t
 pub decide-orders : (H : List Entry) (m : Moment) → decide H ShowOrders m ≡ Show (reply.Orders (order_lines H))
 decide-orders H m = past-full (nat_le MAX_ENTRIES (length H)) (Show (reply.Orders (order_lines H)))
 
-pub ruleset shown = (decide-search, decide-farm, decide-orders)
+pub decide-runs : (H : List Entry) (search from : ℕ) (m : Moment)
+    → decide H (ShowRuns search from) m ≡ runs_decision H search from (opening_numbered H search)
+decide-runs H search from m =
+    past-full (nat_le MAX_ENTRIES (length H)) (runs_decision H search from (opening_numbered H search))
+
+pub decide-searches : (H : List Entry) (from : ℕ) (m : Moment)
+    → decide H (ShowSearches from) m ≡ Show (reply.Searches (search_list H from))
+decide-searches H from m = past-full (nat_le MAX_ENTRIES (length H)) (Show (reply.Searches (search_list H from)))
+
+pub ruleset shown = (decide-search, decide-farm, decide-orders, decide-runs, decide-searches)

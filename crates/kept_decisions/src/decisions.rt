@@ -11,7 +11,7 @@ ghost use Rattle.kept_decisions.specs.Opens.{AsksOther};
 use crate::decision_known::known_decision;
 use crate::decision_new::{cancel_decision, lease_decision, open_decision, revert_decision};
 use crate::decision_report::{report_decision, skip_decision};
-use crate::search_page::page_decision;
+use crate::search_page::{list_decision, page_decision, runs_decision};
 use farm_entry::{Command, Decision, MAX_ENTRIES, OpenAsk, Refusal, Reply, Totals, moment_used};
 use farm_types::{Memory, Moment};
 use kept_farm::KeptFarm;
@@ -136,6 +136,8 @@ pub fn decide(
     match command {
         Command::Open(ask) => decision_on_open(alloc, farm, command, ask, at),
         Command::ShowSearch { search } => page_decision(alloc, farm, *search),
+        Command::ShowRuns { search, from } => runs_decision(alloc, farm, *search, *from),
+        Command::ShowSearches { from } => list_decision(alloc, farm, *from),
         Command::ShowFarm => Ok(Decision::Show(Reply::Farm(all_totals(farm)))),
         Command::ShowOrders => orders_decision(alloc, farm),
         _ => decision_on_other(alloc, farm, command, at),

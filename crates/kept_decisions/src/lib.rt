@@ -1,9 +1,8 @@
 //! The decision on a command at a kept farm, by look-ups.
 //!
 //! [`decide`] and [`is_next`] promise over a kept farm what the plain program promises over a list of entries: what was
-//! done before, what is due, where a search stands and what is counted is asked of the farm, which keeps it. The list
-//! of all orders alone goes through the history. [`standing_of`] tells where a search stands without the rest of its
-//! page.
+//! done before, what is due, where a search stands and what is counted is asked of the farm, which keeps it.
+//! [`standing_of`] tells where a search stands without the rest of its page.
 //!
 //! It stands on `kept_farm` for all that it asks, on `search_state` and `state_laws` for what the state of a search
 //! says of a history, on the laws of `farm_laws` for what these calls ask for, on `plain_history` for what the farm

@@ -1,10 +1,11 @@
-//! What is shown of a search.
+//! What is shown of a search, of its runs, and of all searches.
 
 ghost use Rattle.std.specs.Prelude.{◌≡◌, IfOk};
 ghost use Rattle.std.specs.Option.{option_map};
-ghost use Rattle.farm_entry.specs.Decision.{page_decision};
+ghost use Rattle.farm_entry.specs.Decision.{page_decision, runs_decision};
 ghost use Rattle.farm_entry.specs.History.{opening_numbered};
 ghost use Rattle.farm_entry.specs.Pages.{page_of};
+ghost use Rattle.farm_entry.specs.SearchLines.{search_list};
 ghost use Rattle.farm_entry.specs.Standing.{standing};
 ghost use Rattle.state_laws.specs.Seen.{seen};
 
@@ -51,6 +52,30 @@ pub(crate) fn page_decision(alloc: Global, farm: &KeptFarm, search: u32) -> Resu
     };
     let page = page_of(alloc, farm, opening, state)?;
     Ok(Decision::Show(Reply::Search(page)))
+}
+
+/// The runs of a search from one on.
+pub(crate) fn runs_decision(
+    alloc: Global,
+    farm: &KeptFarm,
+    search: u32,
+    from: u32,
+) -> Result<Decision, Memory>
+    ensures { IfOk result (λ found. found ≡ runs_decision farm.now search from (opening_numbered farm.now search)) }
+{
+    let Some(opening) = farm.opening(search) else {
+        return Ok(Decision::Refuse(Refusal::UnknownSearch(search)));
+    };
+    let page = farm.runs_page(alloc, opening, from)?;
+    Ok(Decision::Show(Reply::Runs(page)))
+}
+
+/// The searches from a number on.
+pub(crate) fn list_decision(alloc: Global, farm: &KeptFarm, from: u32) -> Result<Decision, Memory>
+    ensures { IfOk result (λ found. found ≡ Decision.Show (Reply.Searches (search_list farm.now from))) }
+{
+    let list = farm.search_list(alloc, from)?;
+    Ok(Decision::Show(Reply::Searches(list)))
 }
 
 /// Where a search stands, where it was opened.

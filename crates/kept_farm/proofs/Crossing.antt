@@ -2,8 +2,9 @@
 use denote.Param.Send.{IsSend, sendable}
 use Rattle.std.proofs.Crossing.{crosses}
 use Rattle.farm_ledger.proofs.Crossing.{ledger-send}
+use Rattle.search_places.proofs.places.SearchPlaces.TheSendSync as SearchPlaces
 use Rattle.kept_farm.proofs.row.Row.TheSendSync as Row
 use Rattle.kept_farm.specs.contracts.farm.KeptFarm as KeptFarm
 
 pub kept_farm-send : IsSend KeptFarm.the_row
-kept_farm-send = search (ledger-send, Row.the_send, sendable, crosses) depth 20
+kept_farm-send = search (ledger-send, Row.the_send, SearchPlaces.the_send, sendable, crosses) depth 20

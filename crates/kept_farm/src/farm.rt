@@ -10,23 +10,30 @@ ghost use Rattle.farm_entry.specs.Legal.{IsLegal};
 ghost use Rattle.farm_entry.specs.Orders.{next_order_at};
 ghost use Rattle.farm_entry.specs.Pages.{totals};
 ghost use Rattle.farm_entry.specs.Reply.{reply_at};
+ghost use Rattle.farm_entry.specs.RunPages.{runs_page};
+ghost use Rattle.farm_entry.specs.SearchLines.{search_list};
 ghost use Rattle.farm_laws.specs.Laws.{IsNotBefore};
 ghost use Rattle.kept_farm.specs.Replying.{reply_with};
 ghost use Rattle.state_laws.specs.Seen.{seen};
 
 use crate::changes::{search_in, standing_of, with_entry, with_standings};
+use crate::entry_kind::kind_of;
 use crate::order_places::{lines_at, put_place, take_place};
 use crate::replies::{reply_to_lease, reply_to_opening, reply_to_report, reply_to_skip};
 use crate::row::Row;
+use crate::run_page::{page_of, run_lines_at, runs_in};
+use crate::search_list::search_lines_at;
 use farm_books::Books;
 use farm_entry::{
-    DueRun, Entry, LeasedRun, Opening, OrderPage, Reply, ReportedRun, Settings, SkippedRun,
-    Standing, Totals, What,
+    DueRun, Entry, LeasedRun, Opening, OrderPage, Reply, ReportedRun, RunPage, SearchList,
+    Settings, SkippedRun, Standing, Totals, What,
 };
 use farm_ledger::Ledger;
 use farm_rules::{Draft, NoOrder};
 use farm_state::FarmState;
 use farm_types::{Key, Memory, Moment};
+use item_list::ItemList;
+use search_places::SearchPlaces;
 use search_state::SearchState;
 use std::alloc::Global;
 use std::marker::Model;
@@ -43,13 +50,14 @@ const FOUNDED: Row = Row {
     standing: Standing::Searching,
 };
 
-/// A farm as it is kept: its history, beside each entry its row, and the places of the entries that record an order.
-/// Contracts see it as its history.
+/// A farm as it is kept: its history, beside each entry its row, the places of the entries that record an order, and
+/// those of the entries of each search. Contracts see it as its history.
 #[derive(Drop)]
 pub struct KeptFarm {
     ledger: Ledger,
     rows: Vec<Row>,
     places: Vec<u32>,
+    searches: SearchPlaces,
 }
 
 impl Model for KeptFarm {
@@ -80,6 +88,7 @@ impl KeptFarm {
             ledger: Ledger::found(alloc, settings, at)?,
             rows,
             places: Vec::new(alloc),
+            searches: SearchPlaces::start(alloc),
         })
     }
 
@@ -203,6 +212,39 @@ impl KeptFarm {
         Ok(OrderPage::of(lines_at(alloc, self.history(), &self.places)?))
     }
 
+    /// The runs of a search from one on, as they are shown: a page of them.
+    ///
+    /// # Errors
+    ///
+    /// [`Memory`].
+    pub fn runs_page(&self, alloc: Global, opening: &Opening, from: u32) -> Result<RunPage, Memory>
+        ensures { IfOk result (λ page. page ≡ runs_page self.now from opening.now) }
+    {
+        let places = page_of(runs_in(self.searches.row(opening.search)), from);
+        let runs = run_lines_at(alloc, self.books(), opening, places)?;
+        Ok(RunPage {
+            search: opening.search,
+            from,
+            runs: ItemList::of(runs),
+        })
+    }
+
+    /// The searches from a number on, as they are shown: a page of them.
+    ///
+    /// # Errors
+    ///
+    /// [`Memory`].
+    pub fn search_list(&self, alloc: Global, from: u32) -> Result<SearchList, Memory>
+        ensures { IfOk result (λ list. list ≡ search_list self.now from) }
+    {
+        let rows = page_of(self.searches.rows(), from);
+        let lines = search_lines_at(alloc, &self.ledger, &self.searches, rows)?;
+        Ok(SearchList {
+            from,
+            searches: ItemList::of(lines),
+        })
+    }
+
     /// The reply of the entry at a place: the same whatever came later.
     ///
     /// # Errors
@@ -292,9 +334,14 @@ impl KeptFarm {
         let search = search_in(&self.ledger, &entry.what);
         let before = standing_of(&self.ledger, search);
         let is_order = entry.what.is_order();
+        let kind = kind_of(&entry.what);
         self.rows.reserve(1)?;
         self.places.reserve(1)?;
-        self.ledger.push(alloc, entry)?;
+        self.searches.add(alloc, kind, place)?;
+        if let Err(memory) = self.ledger.push(alloc, entry) {
+            self.searches.take_back(kind, place);
+            return Err(memory);
+        }
         let after = standing_of(&self.ledger, search);
         let totals = with_standings(counted, before, after);
         let stands = after.unwrap_or(Standing::Searching);
@@ -309,9 +356,13 @@ impl KeptFarm {
         ensures { self.new ≡ take (length self.old - 1) self.old }
     {
         let history = self.history();
-        let is_order = history[history.len() - 1].what.is_order();
+        let place = history.len() - 1;
+        let what = &history[place].what;
+        let is_order = what.is_order();
+        let kind = kind_of(what);
         self.ledger.pop();
         let _row = self.rows.pop();
         take_place(&mut self.places, is_order);
+        self.searches.take_back(kind, place as u32);
     }
 }

@@ -5,15 +5,18 @@
 //! it answers. An entry more costs what it changes, and the last one can be taken away again, which takes no memory.
 //!
 //! It stands on `farm_ledger` for the history, its books, the states of the searches, the order of their turns and the
-//! orders that stand; on `search_laws` and `state_laws` for what appending an entry changes, on `plain_history` for a
-//! list that is made item by item, and on `farm_entry` for the types and the definitions. The layer above may use every
-//! name below.
+//! orders that stand, and on `search_places` for where the entries of each search stand; on `search_laws` and
+//! `state_laws` for what appending an entry changes, on `plain_history` for lists that are made item by item, and on
+//! `farm_entry` for the types and the definitions. The layer above may use every name below.
 #![tactic(auto)]
 
 mod changes;
+mod entry_kind;
 mod farm;
 mod order_places;
 mod replies;
 mod row;
+mod run_page;
+mod search_list;
 
 pub use farm::KeptFarm;

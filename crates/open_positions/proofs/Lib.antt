@@ -3,3 +3,4 @@ pub mod Plans
 pub mod Firsts
 pub mod Blocks
 pub mod Listed
+pub mod Bits

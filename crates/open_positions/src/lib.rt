@@ -1,7 +1,7 @@
 //! The positions of a search at which a run can still be made, where some trees can't be tested.
 //!
 //! A tree may not build, or the test may not exist in it. Its position is skipped then: the plan of the search is made
-//! of the other positions, those that are open. [`Skips`] keeps which positions were skipped, by a flag for each, and
+//! of the other positions, those that are open. [`Skips`] keeps which positions were skipped, by a bit for each, and
 //! contracts see them as a list in the order in which they were skipped. The crate stands on `weight_exact`, whose
 //! thresholds and weights the definitions speak of, and on `told_list` for what contracts alone see.
 //!

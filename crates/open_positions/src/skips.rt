@@ -1,6 +1,6 @@
 //! The positions that were skipped.
 
-ghost use Rattle.std.specs.Prelude.{◌≡◌, ◌↔◌, ◌+◌, ◌≤◌, ℕ, [], ◌∷◌, ◌++◌, false, replicate, IsTrue, IfOk};
+ghost use Rattle.std.specs.Prelude.{◌≡◌, ◌↔◌, ◌+◌, ◌≤◌, ℕ, [], ◌∷◌, ◌++◌, IsTrue, IfOk};
 ghost use Rattle.std.specs.List.{filter, range_with_len};
 ghost use Rattle.weight_exact.specs.declared.limits.TheConstants.{MAX_SUSPECTS};
 ghost use Rattle.open_positions.specs.Open.{is_skipped};
@@ -11,8 +11,8 @@ use std::marker::Model;
 use told_list::ToldList;
 use weight_exact::{MAX_SUSPECTS, Memory};
 
-/// How many positions a search has at most: its suspects, and the base.
-const POSITIONS: usize = MAX_SUSPECTS + 1;
+/// How many words of 64 bits have a bit for each position: for the suspects of a search, and for the base.
+const WORDS: usize = MAX_SUSPECTS / 64 + 1;
 
 /// The positions of a search that were skipped, as their trees can't be tested. Contracts see them as a list, in the
 /// order in which they were skipped; one that was skipped twice stands there twice.
@@ -20,7 +20,7 @@ const POSITIONS: usize = MAX_SUSPECTS + 1;
 /// All room is taken with the value, and none later.
 #[derive(Drop)]
 pub struct Skips {
-    flags: [bool; POSITIONS],
+    words: [u64; WORDS],
     is_empty: bool,
     told: ToldList<u16>,
 }
@@ -42,7 +42,7 @@ impl Skips {
         ensures { result ≡ [] }
     {
         Skips {
-            flags: no_flags(),
+            words: [0; WORDS],
             is_empty: true,
             told: ToldList::new(),
         }
@@ -53,7 +53,7 @@ impl Skips {
         requires within { position ≤ MAX_SUSPECTS }
         ensures { self.new ≡ self.old ++ position ∷ [] }
     {
-        self.flags[usize::from(position)] = true;
+        self.words[usize::from(position / 64)] |= 1 << u32::from(position % 64);
         self.is_empty = false;
         self.told.tell(&position);
     }
@@ -79,7 +79,7 @@ impl Skips {
         requires within { position ≤ MAX_SUSPECTS }
         ensures { result ≡ is_skipped self.now position }
     {
-        self.flags[usize::from(position)]
+        self.words[usize::from(position / 64)] >> u32::from(position % 64) & 1 == 1
     }
 
     /// The positions that were skipped, rising, each once, of a search with so many suspects.
@@ -133,11 +133,4 @@ impl Skips {
         }
         position
     }
-}
-
-/// A flag for each position, of which none is up.
-fn no_flags() -> [bool; POSITIONS]
-    ensures { result ≡ replicate (MAX_SUSPECTS + 1) false }
-{
-    [false; POSITIONS]
 }

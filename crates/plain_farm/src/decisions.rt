@@ -2,7 +2,7 @@
 
 ghost use Rattle.std.specs.Prelude.{◌≡◌, IfOk};
 ghost use Rattle.farm_entry.specs.History.{opening_numbered};
-ghost use Rattle.farm_entry.specs.Decision.{decide, full_decision, known_decision, own_decision, page_decision, shape_decision};
+ghost use Rattle.farm_entry.specs.Decision.{decide, full_decision, known_decision, own_decision, page_decision, runs_decision, shape_decision};
 ghost use Rattle.farm_entry.specs.Legal.{IsLegal};
 ghost use Rattle.plain_farm.specs.Rows.{AreRows};
 
@@ -14,6 +14,8 @@ use crate::due_run::next_run_by;
 use crate::orders::next_order_by;
 use crate::pages::{order_page, page_of, totals};
 use crate::rows::Row;
+use crate::run_page::runs_page;
+use crate::search_lines::search_list;
 use farm_entry::{Command, Decision, Entry, MAX_ENTRIES, Refusal, Reply, moment_used};
 use farm_types::{Memory, Moment};
 use plain_history::{lease_of, opening_numbered};
@@ -57,6 +59,25 @@ fn page_decision(alloc: Global, history: &[Entry], search: u32) -> Result<Decisi
     }
 }
 
+/// A page of the runs of a search.
+fn runs_decision(
+    alloc: Global,
+    history: &[Entry],
+    search: u32,
+    from: u32,
+) -> Result<Decision, Memory>
+    ensures { IfOk result (λ found. found
+        ≡ runs_decision history.now search from (opening_numbered history.now search)) }
+{
+    match opening_numbered(history, search) {
+        None => Ok(Decision::Refuse(Refusal::UnknownSearch(search))),
+        Some(opening) => {
+            let page = runs_page(alloc, history, from, opening)?;
+            Ok(Decision::Show(Reply::Runs(page)))
+        }
+    }
+}
+
 /// Then what each command is for, at the moment used.
 fn own_decision(
     alloc: Global,
@@ -93,6 +114,11 @@ fn own_decision(
         Command::ShowSearch { search } => page_decision(alloc, history, *search),
         Command::ShowFarm => Ok(Decision::Show(Reply::Farm(totals(alloc, history)?))),
         Command::ShowOrders => Ok(Decision::Show(Reply::Orders(order_page(alloc, history)?))),
+        Command::ShowRuns { search, from } => runs_decision(alloc, history, *search, *from),
+        Command::ShowSearches { from } => {
+            let list = search_list(alloc, history, *from)?;
+            Ok(Decision::Show(Reply::Searches(list)))
+        }
     }
 }
 

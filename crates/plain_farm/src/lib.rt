@@ -27,6 +27,8 @@ mod orders;
 mod pages;
 mod reply;
 mod rows;
+mod run_page;
+mod search_lines;
 mod standings;
 
 pub use decisions::decide;
@@ -35,4 +37,6 @@ pub use legal::{first_illegal, is_next};
 pub use orders::{confirmed_searches, day_in, next_order_at};
 pub use pages::{order_page, page_of, shares_of, totals, untestable_of};
 pub use reply::{reply_at, reply_to};
-pub use standings::{belief, first_belief, skips, standing};
+pub use run_page::runs_page;
+pub use search_lines::search_list;
+pub use standings::{belief, belief_after, first_belief, skips, standing};

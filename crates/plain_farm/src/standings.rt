@@ -60,7 +60,7 @@ pub fn belief(alloc: Global, history: &[Entry], opening: &Opening) -> Result<Bel
 }
 
 /// The same, by the list of its runs.
-pub(crate) fn belief_after(
+pub fn belief_after(
     alloc: Global,
     history: &[Entry],
     opening: &Opening,

@@ -1,5 +1,5 @@
 -- What is found in a history, an entry at a time.
-use Rattle.std.proofs.Common.{◌≡◌, ℕ, ◌+◌, ◌<◌, List, [], ◌++◌, length, map, get_or, take, Option, Some, None, refl, ap, ◌∙◌}
+use Rattle.std.proofs.Common.{◌≡◌, ℕ, ◌+◌, ◌<◌, List, [], ◌∷◌, ◌++◌, length, map, get_or, take, Option, Some, None, refl, ap, ◌∙◌}
 use Rattle.std.specs.List.{cons_option, filter_map}
 use Rattle.std.specs.Option.{option_and_then, option_map}
 use Rattle.std.proofs.lemmas.List.{map-append}
@@ -46,3 +46,8 @@ mapped-upto f H i e below is =
     ap (map f) (openings-upto H i e (opening_in e.what) below is refl)
     ∙ map-append f (openings (take i H)) (cons_option (opening_in e.what) [])
     ∙ ap (λ ys. map f (openings (take i H)) ++ ys) (option-mapped f (opening_in e.what))
+
+-- what is made of the items of a list up to a place and with it
+pub filtered-upto : {X Y : Type 0} (f : X → Option Y) (xs : List X) (i : ℕ) (x : X) → i < length xs → x ≡ get_or xs i x →
+    filter_map f (take (i + 1) xs) ≡ filter_map f (take i xs) ++ cons_option (f x) []
+filtered-upto f xs i x below is = ap (filter_map f) (take-at xs i x below is) ∙ filter_map-append f (take i xs) (x ∷ [])

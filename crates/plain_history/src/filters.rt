@@ -236,7 +236,7 @@ pub fn place_of_key(history: &[Entry], key: Key) -> Option<usize>
 }
 
 /// Whether an entry is the report of a run, with a verdict or not.
-fn is_report_of(run: u32, entry: &Entry) -> bool
+pub(crate) fn is_report_of(run: u32, entry: &Entry) -> bool
     ensures { result ≡ is_report_of run entry.now }
 {
     match entry.what.told() {

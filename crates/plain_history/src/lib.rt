@@ -10,6 +10,7 @@
 
 mod filters;
 mod lists;
+mod reports;
 mod settings;
 
 pub use filters::{
@@ -17,5 +18,6 @@ pub use filters::{
     openings_count, order_lines, orders_count, place_of_key, place_of_report, reruns, runs,
     skipped, was_cancelled, went_over,
 };
-pub use lists::push_some;
+pub use lists::{lines_from, push_some};
+pub use reports::{report_of, report_shown};
 pub use settings::{daily_limit, lease_ms, settings_of, zone_minutes};

@@ -1,5 +1,6 @@
 -- The bodies of a worker's requests, as they are written and as the farm reads them.
-use Rattle.std.proofs.Common.{◌≡◌, ◌<◌, ◌≤◌, ◌^◌, ℕ, zero, suc, true, List, [], ◌∷◌, ◌++◌, length, codes, Some, Result, Ok, inl, refl, sym, ap, ◌∙◌, arith, length-append}
+use Rattle.std.proofs.Common.{◌≡◌, ◌<◌, ◌≤◌, ◌^◌, ℕ, zero, suc, true, List, [], ◌∷◌, ◌++◌, length, codes, Some, Result}
+use Rattle.std.proofs.Common.{Ok, inl, refl, sym, ap, ◌∙◌, arith, length-append}
 use Rattle.std.specs.Int.{byte_at, bytes_high_first, to_be_bytes, w128}
 use Rattle.std.specs.List.{All}
 use Rattle.std.specs.Option.{is_some}

@@ -1,5 +1,6 @@
 -- The heads that a worker and a follower send ask for what their paths say, on a connection that closes behind them.
-use Rattle.std.proofs.Common.{◌≡◌, ◌<◌, ◌≤◌, ◌^◌, ◌&&◌, ℕ, Bool, true, false, List, [], ◌∷◌, length, get_or, decimal, codes, Ok, refl, ap, subst, ◌∙◌, arith, nat_lt}
+use Rattle.std.proofs.Common.{◌≡◌, ◌<◌, ◌≤◌, ◌^◌, ◌&&◌, ℕ, Bool, true, false, List, [], ◌∷◌, length, get_or, decimal}
+use Rattle.std.proofs.Common.{codes, Ok, refl, ap, subst, ◌∙◌, arith, nat_lt}
 use Rattle.std.specs.Char.{is_ascii_digit}
 use Rattle.std.specs.List.{list_all}
 use Rattle.std.specs.Str.{IsUtf8}
@@ -18,9 +19,12 @@ use Rattle.http_requests.specs.Framing.{body_length, closes_after, is_head_metho
 use Rattle.http_routes.specs.Routes.{endpoint_of}
 use Rattle.http_words.specs.declared.endpoint.Endpoint.{Endpoint}
 use Rattle.http_words.specs.declared.limits.TheConstants.{MAX_BODY_BYTES}
-use Rattle.httparse.specs.Grammar.{AllPass, IsField, IsRequestHead, IsToken, is_token_byte, is_uri_byte, is_value_byte, trim_ows}
-use Rattle.seam_laws.proofs.Decimals.{are_digits-decimal, digits-decimal, pass-each, trim-digits, value-decimal, value-digit}
-use Rattle.seam_laws.proofs.Heads.{close_field, get-is, get-size, get_head, host_field, length_field, post-is, post-size, post_head}
+use Rattle.httparse.specs.Grammar.{AllPass, IsField, IsRequestHead, IsToken, is_token_byte, is_uri_byte, is_value_byte}
+use Rattle.httparse.specs.Grammar.{trim_ows}
+use Rattle.seam_laws.proofs.Decimals.{are_digits-decimal, digits-decimal, pass-each, trim-digits, value-decimal}
+use Rattle.seam_laws.proofs.Decimals.{value-digit}
+use Rattle.seam_laws.proofs.Heads.{close_field, get-is, get-size, get_head, host_field, length_field, post-is}
+use Rattle.seam_laws.proofs.Heads.{post-size, post_head}
 use Rattle.seam_laws.proofs.OneRequest.{one-request}
 use Rattle.seam_laws.specs.Sent.{IsOneRequest}
 

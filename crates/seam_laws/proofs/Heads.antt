@@ -1,6 +1,8 @@
 -- The heads that a worker and a follower send, and what they ask for on a connection.
-use Rattle.std.proofs.Common.{◌≡◌, ◌+◌, ℕ, List, [], ◌∷◌, ◌++◌, length, decimal, codes, sym, ap, ◌∙◌, arith, append_assoc, length-append}
-use Rattle.http_exchange.specs.Requests.{close_lines, get_method, get_request, host_lines, length_name, line, post_method, post_request}
+use Rattle.std.proofs.Common.{◌≡◌, ◌+◌, ℕ, List, [], ◌∷◌, ◌++◌, length, decimal, codes, sym, ap, ◌∙◌, arith}
+use Rattle.std.proofs.Common.{append_assoc, length-append}
+use Rattle.http_exchange.specs.Requests.{close_lines, get_method, get_request, host_lines, length_name, line}
+use Rattle.http_exchange.specs.Requests.{post_method, post_request}
 use Rattle.http_requests.specs.Items.{head_size}
 use Rattle.httparse.specs.Grammar.{Field, RequestHead, crlf, print_request, print_section}
 use Rattle.httparse.proofs.GrammarLemmas.{print_request-append}

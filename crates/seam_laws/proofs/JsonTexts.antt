@@ -1,5 +1,6 @@
 -- What is written as JSON is read back as the value that it was.
-use Rattle.std.proofs.Common.{◌≡◌, ◌<◌, ◌≤◌, ℕ, ◌^◌, suc, max, Bool, true, false, List, [], ◌∷◌, ◌++◌, Some, option_map, option_and_then, refl, sym, ap, ap₂, subst, ◌∙◌, append-nil, arith}
+use Rattle.std.proofs.Common.{◌≡◌, ◌<◌, ◌≤◌, ℕ, ◌^◌, suc, max, Bool, true, false, List, [], ◌∷◌, ◌++◌, Some, option_map}
+use Rattle.std.proofs.Common.{option_and_then, refl, sym, ap, ap₂, subst, ◌∙◌, append-nil, arith}
 use Rattle.std.specs.Prelude.{⊤, codes, decimal}
 use Rattle.std.specs.Option.{is_some}
 use Rattle.std.specs.Str.{IsUtf8}
@@ -12,10 +13,12 @@ use Rattle.json.proofs.Printed.Decimals.{IsNumber-decimal}
 use Rattle.json.proofs.Printed.Tokens.{tokens-print}
 use Rattle.json.proofs.Printed.Trees.{ArePrintable-json_tokens, value-json_tokens}
 use Rattle.json.proofs.Printed.Utf8.{IsUtf8-are_ascii, IsUtf8-boolean, IsUtf8-quoted}
-use Rattle.serde_json.specs.Data.{unsigned, negative, float, Data, null, boolean, number, string, array, object, Items, no_items, item, Members, no_members, member, put, depth, items_depth, members_depth}
+use Rattle.serde_json.specs.Data.{unsigned, negative, float, Data, null, boolean, number, string, array, object, Items}
+use Rattle.serde_json.specs.Data.{no_items, item, Members, no_members, member, put, depth, items_depth, members_depth}
 use Rattle.serde_json.specs.Find.{as_object}
 use Rattle.serde_json.specs.Read.{read, of_json, of_items, of_members, max_depth}
-use Rattle.serde_json.specs.Written.{compact_text, items_text, members_text, outline, items_outline, members_outline, comma_if}
+use Rattle.serde_json.specs.Written.{compact_text, items_text, members_text, outline, items_outline, members_outline}
+use Rattle.serde_json.specs.Written.{comma_if}
 use Rattle.serde_json.proofs.Numbers.{number_of-decimal}
 use Rattle.serde_json.proofs.Texts.{print-outline}
 use Rattle.farm_wire.specs.Reading.{object_in}

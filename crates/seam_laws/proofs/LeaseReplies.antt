@@ -1,5 +1,6 @@
 -- The reply that hands out a run, as it is written and read.
-use Rattle.std.proofs.Common.{◌≡◌, ◌<◌, ◌≤◌, ◌^◌, ℕ, true, List, Some, None, Result, Ok, refl, ap, ◌∙◌, arith, nat_lt, nat_le, codes}
+use Rattle.std.proofs.Common.{◌≡◌, ◌<◌, ◌≤◌, ◌^◌, ℕ, true, List, Some, None, Result, Ok, refl, ap, ◌∙◌, arith, nat_lt}
+use Rattle.std.proofs.Common.{nat_le, codes}
 use Rattle.std.specs.Option.{is_some}
 use Rattle.std.proofs.lemmas.Bool.{lt-ltb, le-leb}
 use Rattle.farm_entry.specs.declared.answer.Answer.TheVariants.{Done}

@@ -1,5 +1,6 @@
 -- A log page, as it is written and read, and the request for one.
-use Rattle.std.proofs.Common.{◌≡◌, ◌-◌, ◌<◌, ◌≤◌, ◌^◌, ℕ, true, List, [], ◌++◌, length, drop, decimal, codes, Some, refl, subst, arith}
+use Rattle.std.proofs.Common.{◌≡◌, ◌-◌, ◌<◌, ◌≤◌, ◌^◌, ℕ, true, List, [], ◌++◌, length, drop, decimal, codes, Some}
+use Rattle.std.proofs.Common.{refl, subst, arith}
 use Rattle.std.specs.Option.{is_some}
 use Rattle.std.proofs.lemmas.Fmt.{length-decimal-le}
 use Rattle.entry_codec.proofs.LogPages.{front-longest}

@@ -1,5 +1,6 @@
 -- What a path with a number asks for.
-use Rattle.std.proofs.Common.{◌≡◌, ◌<◌, ◌≤◌, ◌^◌, ◌==◌, ℕ, Bool, true, false, not, List, [], ◌∷◌, ◌++◌, length, take, decimal, codes, Option, Some, Ok, refl, ap, ◌∙◌, arith, nat_lt}
+use Rattle.std.proofs.Common.{◌≡◌, ◌<◌, ◌≤◌, ◌^◌, ◌==◌, ℕ, Bool, true, false, not, List, [], ◌∷◌, ◌++◌, length, take}
+use Rattle.std.proofs.Common.{decimal, codes, Option, Some, Ok, refl, ap, ◌∙◌, arith, nat_lt}
 use Rattle.std.specs.Char.{is_ascii_digit}
 use Rattle.std.specs.List.{All, slice_index_or}
 use Rattle.std.specs.Str.{IsUtf8}
@@ -11,7 +12,8 @@ use Rattle.std.proofs.lemmas.Str.{IsUtf8-append, IsUtf8-from_ascii}
 use Rattle.http_fields.specs.Texts.{same_text}
 use Rattle.http_routes.proofs.PathNumbers.{path_number-some}
 use Rattle.http_routes.specs.Paths.{path_of, question_mark, scheme_bytes}
-use Rattle.http_routes.specs.Routes.{endpoint_by, endpoint_of, number_in, numbered, page_of, path_number, path_table}
+use Rattle.http_routes.specs.Routes.{endpoint_by, endpoint_of, number_at, numbered, page_of, path_number, path_table}
+use Rattle.http_routes.specs.Routes.{text_at}
 use Rattle.http_routes.specs.declared.page.Page.{Page}
 use Rattle.http_routes.specs.declared.page.Page.TheVariants as page
 use Rattle.http_words.specs.declared.endpoint.Endpoint.TheVariants as endpoint
@@ -20,7 +22,8 @@ use Rattle.http_words.specs.declared.route.Route.TheVariants as route
 use Rattle.httparse.specs.Grammar.{AllPass, is_uri_byte}
 use Rattle.json.proofs.Printed.Utf8.{IsUtf8-are_ascii}
 use Rattle.path_table.specs.Segments.{parts, row_in, slash}
-use Rattle.seam_laws.proofs.Decimals.{digits-decimal, number-decimal, pass-each, question-digit, slash-digit, some-digit, uri-digit}
+use Rattle.seam_laws.proofs.Decimals.{digits-decimal, number-decimal, pass-each, question-digit, slash-digit}
+use Rattle.seam_laws.proofs.Decimals.{some-digit, uri-digit}
 
 -- a path with a number in it, or at its end
 abbrev pub report_path : (digits : List ℕ) → List ℕ
@@ -120,15 +123,22 @@ page-row digits some = rw some refl
 
 -- ---- what they ask for
 
-asked-by : (path text method : List ℕ) (row : Page) (cut : List (List ℕ)) → path_of path ≡ path → parts path ≡ cut
-    → row_in path_table cut ≡ Some row → slice_index_or cut 3 [] ≡ text
-    → endpoint_of method path ≡ endpoint_by (Some row) text method
-unfolding endpoint_of page_of number_in
-asked-by path text method row cut same is found fourth =
-    ap (λ (p : List ℕ). endpoint_by (row_in path_table (parts p)) (slice_index_or (parts p) 3 []) method) same
-    ∙ ap (λ (c : List (List ℕ)). endpoint_by (row_in path_table c) (slice_index_or c 3 []) method) is
-    ∙ ap (λ (r : Option Page). endpoint_by r (slice_index_or cut 3 []) method) found
-    ∙ ap (λ (t : List ℕ). endpoint_by (Some row) t method) fourth
+asked-by : (path method : List ℕ) (row : Page) (cut : List (List ℕ)) → path_of path ≡ path → parts path ≡ cut
+    → row_in path_table cut ≡ Some row → endpoint_of method path ≡ endpoint_by (Some row) path method
+unfolding endpoint_of page_of
+asked-by path method row cut same is found =
+    ap (λ (p : List ℕ). endpoint_by (row_in path_table (parts p)) p method) same
+    ∙ ap (λ (c : List (List ℕ)). endpoint_by (row_in path_table c) path method) is
+    ∙ ap (λ (r : Option Page). endpoint_by r path method) found
+
+-- where the number stands among the parts of these paths
+abbrev number_place : ℕ
+number_place = 3
+
+number-in : (path digits : List ℕ) (n : ℕ) → slice_index_or (parts path) number_place [] ≡ digits
+    → path_number digits ≡ Some n → number_at number_place path ≡ Some n
+unfolding text_at
+number-in path digits n is read = ap (λ (t : List ℕ). path_number t) is ∙ read
 
 number-read : (n : ℕ) → 1 ≤ n → n < 2 ^ 32 → path_number (decimal n) ≡ Some n
 number-read n some fits =
@@ -141,9 +151,12 @@ pub report-asked : (run : ℕ) → 1 ≤ run → run < 2 ^ 32
 report-asked run some fits =
     let wide : run < 2 ^ 64 = omega (arith, fits) in
     let are = digits-decimal run wide in
-    asked-by (report_path (decimal run)) (decimal run) (codes "POST") page.Report _ (report-kept (decimal run) are)
-    (report-parts (decimal run) are) (report-row (decimal run) (some-digit run wide)) refl
-    ∙ ap (numbered field.Run (λ (n : ℕ). endpoint.Command (route.Report n))) (number-read run some fits)
+    let parted = report-parts (decimal run) are in
+    asked-by (report_path (decimal run)) (codes "POST") page.Report _ (report-kept (decimal run) are) parted
+    (report-row (decimal run) (some-digit run wide))
+    ∙ ap (numbered field.Run (λ (n : ℕ). endpoint.Command (route.Report n)))
+    (number-in (report_path (decimal run)) (decimal run) run
+    (ap (λ (cut : List (List ℕ)). slice_index_or cut number_place []) parted) (number-read run some fits))
 
 -- and so is a page of the log
 pub page-asked : (from : ℕ) → 1 ≤ from → from < 2 ^ 32
@@ -151,6 +164,9 @@ pub page-asked : (from : ℕ) → 1 ≤ from → from < 2 ^ 32
 page-asked from some fits =
     let wide : from < 2 ^ 64 = omega (arith, fits) in
     let are = digits-decimal from wide in
-    asked-by (page_path (decimal from)) (decimal from) (codes "GET") page.Log _ (page-kept (decimal from) are)
-    (page-parts (decimal from) are) (page-row (decimal from) (some-digit from wide)) refl
-    ∙ ap (numbered field.From (λ (n : ℕ). endpoint.Log n)) (number-read from some fits)
+    let parted = page-parts (decimal from) are in
+    asked-by (page_path (decimal from)) (codes "GET") page.Log _ (page-kept (decimal from) are) parted
+    (page-row (decimal from) (some-digit from wide))
+    ∙ ap (numbered field.From (λ (n : ℕ). endpoint.Log n))
+    (number-in (page_path (decimal from)) (decimal from) from
+    (ap (λ (cut : List (List ℕ)). slice_index_or cut number_place []) parted) (number-read from some fits))

@@ -6,14 +6,15 @@ use Rattle.farm_types.specs.declared.key.Key.{Key}
 use Rattle.http_exchange.specs.Requests.{post_request}
 use Rattle.http_fields.specs.Texts.{same_text}
 use Rattle.http_routes.specs.Paths.{path_of}
-use Rattle.http_routes.specs.Routes.{endpoint_of, number_in, page_of}
+use Rattle.http_routes.specs.Routes.{endpoint_of, page_of}
 use Rattle.http_words.specs.declared.endpoint.Endpoint.TheVariants as endpoint
 use Rattle.http_words.specs.declared.route.Route.TheVariants as route
 use Rattle.httparse.specs.Grammar.{is_uri_byte}
 use Rattle.json.proofs.Printed.Utf8.{IsUtf8-are_ascii}
 use Rattle.serde_json.specs.Written.{compact_text}
 use Rattle.worker_core.specs.declared.tested.Tested.{Tested}
-use Rattle.worker_wire.specs.Requests.{key_text, lease_data, lease_path, lease_request, report_data, report_end, report_request, runs_path}
+use Rattle.worker_wire.specs.Requests.{key_text, lease_data, lease_path, lease_request, report_data, report_end}
+use Rattle.worker_wire.specs.Requests.{report_request, runs_path}
 use Rattle.seam_laws.proofs.Decimals.{digits-decimal, pass-each}
 use Rattle.seam_laws.proofs.Framed.{IsPath, post-asks}
 use Rattle.seam_laws.proofs.Paths.{report-asked, report_path, report_path-text, report_path-uri}
@@ -30,7 +31,7 @@ lease-path = record {
 }
 
 lease-asked : endpoint_of (codes "POST") lease_path ≡ Ok (endpoint.Command route.Lease)
-unfolding endpoint_of page_of number_in path_of same_text lease_path
+unfolding endpoint_of page_of path_of same_text lease_path
 lease-asked = refl
 
 -- a worker's request for a run is one request of that route

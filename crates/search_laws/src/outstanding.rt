@@ -34,13 +34,15 @@ pub fn expired_leases_stay_expired()
 /// ended has none.
 pub fn due_runs_go_by_outstanding_leases()
     ensures searching { (H : List Entry) (o : Opening) (moment : ℕ) → standing H o ≡ Searching
-        → map (λ (l : LeasedRun). l.position) (outstanding H o moment) ≡ outstanding_positions H o.search Search moment }
+        → map (λ (l : LeasedRun). l.position) (outstanding H o moment)
+        ≡ outstanding_positions H o.search Search moment }
     ensures due_searching { (H : List Entry) (o : Opening) (moment : ℕ) → standing H o ≡ Searching
         → due H o moment ≡ option_map (λ (k : ℕ). record { search = o.search; stage = Search; position = k })
         (due_search (open_plan (setup_of o) (runs H o.search) (skipped H o.search) o.width)
         (map (λ (l : LeasedRun). l.position) (outstanding H o moment))) }
     ensures verifying { (H : List Entry) (o : Opening) (moment suspect : ℕ) → standing H o ≡ Verifying suspect
-        → map (λ (l : LeasedRun). l.position) (outstanding H o moment) ≡ outstanding_positions H o.search Verify moment }
+        → map (λ (l : LeasedRun). l.position) (outstanding H o moment)
+        ≡ outstanding_positions H o.search Verify moment }
     ensures due_verifying { (H : List Entry) (o : Opening) (moment suspect : ℕ) → standing H o ≡ Verifying suspect
         → due H o moment ≡ option_map (λ (k : ℕ). record { search = o.search; stage = Verify; position = k })
         (due_verify suspect (reruns_at suspect (reruns H o.search)) (reruns_at (suspect - 1) (reruns H o.search))
@@ -49,8 +51,8 @@ pub fn due_runs_go_by_outstanding_leases()
         → outstanding H o moment ≡ [] }
 {}
 
-/// A position that was skipped is never handed out again in its search, to search or to verify: no run is due there, and
-/// each lease at it, in any longer history, was handed out before.
+/// A position that was skipped is never handed out again in its search, to search or to verify: no run is due there,
+/// and each lease at it, in any longer history, was handed out before.
 pub fn skipped_positions_are_never_leased_again()
     ensures due { (H : List Entry) (o : Opening) (moment : ℕ) (d : DueRun) → due H o moment ≡ Some d
         → is_skipped (skipped H o.search) d.position ≡ false }

@@ -14,8 +14,9 @@ ghost use Rattle.search_laws.specs.Steps.{IsAbout, handed_out, open_of, without_
 
 use farm_entry::{Entry, Opening, ReportedRun, Standing, What};
 
-/// A search that an entry neither reports a run of nor cancels keeps its runs, its reruns, its skipped positions and its
-/// standing; and an entry reports a run of, or cancels, one search at most. So it changes where at most one search stands.
+/// A search that an entry neither reports a run of nor cancels keeps its runs, its reruns, its skipped positions and
+/// its standing; and an entry reports a run of, or cancels, one search at most. So it changes where at most one search
+/// stands.
 pub fn an_entry_changes_one_search()
     ensures one { (H : List Entry) (what : What) (search other : ℕ) → IsAbout H what search → IsAbout H what other
         → search ≡ other }
@@ -57,7 +58,8 @@ pub fn totals_after_one_entry_more()
     ensures about_none { (H : List Entry) (e : Entry) (test : Standing → Bool) → IsLegal (H ++ e ∷ []) → IsLegal H
         → ((o : Opening) → Contains (openings H) o → ¬ IsAbout H e.what o.search)
         → searches_that test (H ++ e ∷ [])
-        ≡ searches_that test H + count_by (λ (o : Opening). test (standing (H ++ e ∷ []) o)) (cons_option (opening_in e.what) []) }
+        ≡ searches_that test H
+        + count_by (λ (o : Opening). test (standing (H ++ e ∷ []) o)) (cons_option (opening_in e.what) []) }
     ensures about_one { (H : List Entry) (e : Entry) (o : Opening) (test : Standing → Bool) → IsLegal (H ++ e ∷ [])
         → Contains (openings H) o → IsAbout H e.what o.search
         → searches_that test (H ++ e ∷ []) + cond (test (standing H o)) 1 0

@@ -5,7 +5,7 @@ ghost use Rattle.farm_entry.specs.Decision.{decide};
 ghost use Rattle.farm_entry.specs.History.{order_lines, place_of_key};
 ghost use Rattle.farm_entry.specs.Legal.{IsLegal};
 ghost use Rattle.farm_entry.specs.Pages.{totals};
-ghost use Rattle.farm_entry.specs.declared.command.Command.TheVariants.{ShowSearch, ShowFarm, ShowOrders};
+ghost use Rattle.farm_entry.specs.declared.command.Command.TheVariants.{ShowSearch, ShowFarm, ShowOrders, ShowRuns, ShowSearches};
 
 use farm_entry::Entry;
 use farm_types::Moment;
@@ -22,9 +22,14 @@ pub fn orders_are_at_most_the_confirmed_searches()
 
 /// What is shown doesn't depend on the moment at which it is asked for.
 pub fn what_is_shown_does_not_depend_on_the_moment()
-    ensures search { (H : List Entry) (m n : Moment) (search : ℕ) → decide H (ShowSearch search) m ≡ decide H (ShowSearch search) n }
+    ensures search { (H : List Entry) (m n : Moment) (search : ℕ)
+        → decide H (ShowSearch search) m ≡ decide H (ShowSearch search) n }
     ensures farm { (H : List Entry) (m n : Moment) → decide H ShowFarm m ≡ decide H ShowFarm n }
     ensures orders { (H : List Entry) (m n : Moment) → decide H ShowOrders m ≡ decide H ShowOrders n }
+    ensures runs { (H : List Entry) (m n : Moment) (search from : ℕ)
+        → decide H (ShowRuns search from) m ≡ decide H (ShowRuns search from) n }
+    ensures searches { (H : List Entry) (m n : Moment) (from : ℕ)
+        → decide H (ShowSearches from) m ≡ decide H (ShowSearches from) n }
 {}
 
 /// Some key whose number is below the number of entries stands in no entry of a legal history.

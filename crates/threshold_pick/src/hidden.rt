@@ -16,7 +16,7 @@ use weight_exact::{BASIS_POINTS, Steps, Sums};
 /// Whether the hypotheses round the middle of the whole that no run can tell apart any more, as each position between
 /// them was skipped, are at the bar together. A hypothesis that is at the bar alone is such a block as well.
 ///
-/// It takes no memory. The middle is looked for by halves, and the block round it in the flags of the positions.
+/// It takes no memory. The middle is looked for by halves, and the block round it in the bits of the positions.
 pub fn is_hidden(sums: &Sums, bar: Bar, skips: &Skips) -> bool
     requires { CanHalve sums.now }
     ensures { result ≡ is_hidden_in (bar_numerator bar) (bar_denominator bar) sums.now skips.now }

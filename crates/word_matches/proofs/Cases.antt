@@ -124,6 +124,14 @@ follow-at (a ∷ b ∷ c ∷ []) = taken_at refl refl refl
 follow-at (a ∷ b ∷ c ∷ d ∷ ws) =
     refused_at refl (ap (λ (b : Bool). b || false) (many 3 3 (length (a ∷ b ∷ c ∷ d ∷ ws)) (omega arith)))
 
+evidence-at : (ws : List Text) → DecidedAt (codes "evidence") (sub 10) ws
+unfolding clap_on_literals
+evidence-at [] = refused_at refl refl
+evidence-at (a ∷ []) = refused_at refl refl
+evidence-at (a ∷ b ∷ []) = taken_at refl refl refl
+evidence-at (a ∷ b ∷ c ∷ ws) =
+    refused_at refl (ap (λ (b : Bool). b || false) (many 2 2 (length (a ∷ b ∷ c ∷ ws)) (omega arith)))
+
 -- from the command's words to all
 decided-at : (name : Text) (s : Shape) (ws : List Text) → Leads name s → is_plain name ≡ true → list_all is_plain ws ≡ true
     → DecidedAt name s ws → Decided (name ∷ ws)
@@ -183,6 +191,10 @@ follow-leads : Leads (codes "follow") (sub 9)
 unfolding clap_on_literals
 follow-leads = record { stops = refl; faultless = refl; finds = refl }
 
+evidence-leads : Leads (codes "evidence") (sub 10)
+unfolding clap_on_literals
+evidence-leads = record { stops = refl; faultless = refl; finds = refl }
+
 -- a fault of the first word is one of all
 first-fault : (k rest more : Kinds) → is_faultless k ≡ false → is_faultless (or_else (or_else k rest) more) ≡ false
 first-fault [] rest more fault = absurd (cc)
@@ -222,8 +234,10 @@ decided (w ∷ ws) plain =
     by_name (codes "rates") w ws (sub 7) rates-leads refl rest (rates-at ws) (λ not_rates.
     by_name (codes "drill") w ws (sub 8) drill-leads refl rest (drill-at ws) (λ not_drill.
     by_name (codes "follow") w ws (sub 9) follow-leads refl rest (follow-at ws) (λ not_follow.
-    unnamed-refused w ws plain (rw (not_judge, not_run, not_found, not_show, not_audit, not_serve, not_work, not_rates, not_drill, not_follow) refl)
-    (rw (not_judge, not_run, not_found, not_show, not_audit, not_serve, not_work, not_rates, not_drill, not_follow) refl)))))))))))
+    by_name (codes "evidence") w ws (sub 10) evidence-leads refl rest (evidence-at ws) (λ not_evidence.
+    unnamed-refused w ws plain
+    (rw (not_judge, not_run, not_found, not_show, not_audit, not_serve, not_work, not_rates, not_drill, not_follow, not_evidence) refl)
+    (rw (not_judge, not_run, not_found, not_show, not_audit, not_serve, not_work, not_rates, not_drill, not_follow, not_evidence) refl))))))))))))
 
 -- where no fault came, what was read is what fits
 pub taken-fitting : (ws : List Text) → Decided ws → fault_of command_line ws ≡ []

@@ -88,9 +88,15 @@ follow_ids = codes "journal" ∷ codes "address" ∷ codes "rounds" ∷ []
 abbrev pub follow_line : App
 follow_line = with_subcommand drill_line (leaf (codes "follow") follow_ids).top
 
+abbrev pub evidence_ids : List Text
+evidence_ids = codes "journal" ∷ codes "search" ∷ []
+
+abbrev pub evidence_line : App
+evidence_line = with_subcommand follow_line (leaf (codes "evidence") evidence_ids).top
+
 -- the whole command line
 abbrev pub command_line : App
-command_line = follow_line
+command_line = evidence_line
 
 -- the name of a command and the words found under these names, where each was
 abbrev pub read_words : List Text → List Row → Option (List Text)
@@ -119,6 +125,7 @@ read_of name found =
     else if bytes_eq name (codes "rates") then read_named (codes "rates") rates_ids found
     else if bytes_eq name (codes "drill") then read_named (codes "drill") drill_ids found
     else if bytes_eq name (codes "follow") then read_named (codes "follow") follow_ids found
+    else if bytes_eq name (codes "evidence") then read_named (codes "evidence") evidence_ids found
     else None
 
 abbrev pub read_rows : Option (Text × List Row) → Option (List Text)

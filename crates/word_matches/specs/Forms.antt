@@ -33,6 +33,7 @@ rows =
     ∷ taking (codes "rates") 1
     ∷ taking (codes "drill") 2
     ∷ taking (codes "follow") 3
+    ∷ taking (codes "evidence") 2
     ∷ []
 
 -- the name of the row, and as many words as it takes
@@ -64,3 +65,4 @@ words_of (matched.Work address worker runs runner) =
 words_of (matched.Rates journal) = codes "rates" ∷ journal.now ∷ []
 words_of (matched.Drill searches workers) = codes "drill" ∷ searches.now ∷ workers.now ∷ []
 words_of (matched.Follow journal address rounds) = codes "follow" ∷ journal.now ∷ address.now ∷ rounds.now ∷ []
+words_of (matched.Evidence journal search) = codes "evidence" ∷ journal.now ∷ search.now ∷ []

@@ -95,5 +95,6 @@ pub(crate) fn command_line<'a>(alloc: Global) -> Result<Command<'a>, AllocError>
     )?;
     let line = with_leaf(alloc, line, "rates", &["journal"])?;
     let line = with_leaf(alloc, line, "drill", &["searches", "workers"])?;
-    with_leaf(alloc, line, "follow", &["journal", "address", "rounds"])
+    let line = with_leaf(alloc, line, "follow", &["journal", "address", "rounds"])?;
+    with_leaf(alloc, line, "evidence", &["journal", "search"])
 }

@@ -73,4 +73,11 @@ pub enum Matched<'a> {
         /// How often it asks at most.
         rounds: &'a str,
     },
+    /// `evidence JOURNAL SEARCH`.
+    Evidence {
+        /// The journal's path.
+        journal: &'a str,
+        /// The number of the search.
+        search: &'a str,
+    },
 }

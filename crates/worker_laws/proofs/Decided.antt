@@ -8,7 +8,7 @@ use Rattle.farm_rules.specs.declared.orders.NoOrder.TheVariants as none
 use Rattle.farm_types.specs.declared.key.Key.{Key}
 use Rattle.farm_types.specs.declared.moment.Moment.{Moment}
 use Rattle.weight_exact.specs.declared.run.Verdict.{Verdict}
-use Rattle.farm_entry.specs.Decision.{add_at, add_opening, asked_before, cancel_decision, decide, fate_of, full_decision, keyed_decision, known_decision, lease_decision, moment_used, or_else, own_decision, page_decision, refuse_opening, repeat_or_clash, report_decision, revert_decision, shape_decision, skip_decision, skip_fate_of}
+use Rattle.farm_entry.specs.Decision.{add_at, add_opening, asked_before, cancel_decision, decide, fate_of, full_decision, keyed_decision, known_decision, lease_decision, moment_used, or_else, own_decision, page_decision, refuse_opening, repeat_or_clash, report_decision, revert_decision, runs_decision, shape_decision, skip_decision, skip_fate_of}
 use Rattle.farm_entry.specs.History.{opening_numbered, place_of_key, place_of_report, report_in, skip_in}
 use Rattle.farm_entry.specs.Standing.{is_active, standing}
 use Rattle.farm_entry.specs.declared.command.Command.{Command}
@@ -90,6 +90,11 @@ page-plain : (q : Command) (H : List Entry) (search : ℕ) (o : Option Opening) 
 page-plain q H search None = tt
 page-plain q H search (Some o) = refl
 
+runs-plain : (q : Command) (H : List Entry) (search from : ℕ) (o : Option Opening) →
+    IsPlain q (runs_decision H search from o)
+runs-plain q H search from None = tt
+runs-plain q H search from (Some o) = refl
+
 own-plain : (H : List Entry) (q : Command) (m : Moment) → IsPlain q (own_decision H q m)
 own-plain H (command.Open ask) m =
     either-plain (command.Open ask) _ (Refuse TooManySearches) (add_opening m _) tt (opening-plain (command.Open ask) m _)
@@ -101,6 +106,8 @@ own-plain H (command.TakeRevert key agent) m = revert-plain _ key agent m _
 own-plain H (command.ShowSearch search) m = page-plain _ H search _
 own-plain H command.ShowFarm m = refl
 own-plain H command.ShowOrders m = refl
+own-plain H (command.ShowRuns search from) m = runs-plain _ H search from _
+own-plain H (command.ShowSearches from) m = refl
 
 refused-plain : (q : Command) (made : Result Opening OpenFault) → IsPlainIn q (refuse_opening made)
 refused-plain q (Ok o) = tt
@@ -116,6 +123,8 @@ shape-plain (command.TakeRevert key agent) = tt
 shape-plain (command.ShowSearch search) = tt
 shape-plain command.ShowFarm = tt
 shape-plain command.ShowOrders = tt
+shape-plain (command.ShowRuns search from) = tt
+shape-plain (command.ShowSearches from) = tt
 
 placed-plain : (q : Command) (f : ℕ → Decision) → ((place : ℕ) → IsPlain q (f place)) → (o : Option ℕ) →
     IsPlainIn q (option_map f o)
@@ -140,6 +149,8 @@ known-plain H (command.TakeRevert key agent) = keyed-plain H (command.TakeRevert
 known-plain H (command.ShowSearch search) = keyed-plain H (command.ShowSearch search) None
 known-plain H command.ShowFarm = keyed-plain H command.ShowFarm None
 known-plain H command.ShowOrders = keyed-plain H command.ShowOrders None
+known-plain H (command.ShowRuns search from) = keyed-plain H (command.ShowRuns search from) None
+known-plain H (command.ShowSearches from) = keyed-plain H (command.ShowSearches from) None
 
 maybe-plain : (q : Command) (b : Bool) (d : Decision) → IsPlain q d → IsPlainIn q (if b then Some d else None)
 maybe-plain q true d plain = plain

@@ -180,6 +180,8 @@ tells-lease (replied (reply.Ordered order commit search day)) run is = absurd (n
 tells-lease (replied (reply.Search page)) run is = absurd (none-some _ is)
 tells-lease (replied (reply.Farm totals)) run is = absurd (none-some _ is)
 tells-lease (replied (reply.Orders page)) run is = absurd (none-some _ is)
+tells-lease (replied (reply.Runs page)) run is = absurd (none-some _ is)
+tells-lease (replied (reply.Searches page)) run is = absurd (none-some _ is)
 tells-lease (refused NoRun) run is = absurd cc
 tells-lease (refused _) run is = absurd (none-some _ is)
 
@@ -194,6 +196,8 @@ tells-none (replied (reply.Ordered order commit search day)) t is = none-some _ 
 tells-none (replied (reply.Search page)) t is = none-some _ is
 tells-none (replied (reply.Farm totals)) t is = none-some _ is
 tells-none (replied (reply.Orders page)) t is = none-some _ is
+tells-none (replied (reply.Runs page)) t is = none-some _ is
+tells-none (replied (reply.Searches page)) t is = none-some _ is
 tells-none (refused NoRun) t is = absurd cc
 tells-none (refused _) t is = none-some _ is
 

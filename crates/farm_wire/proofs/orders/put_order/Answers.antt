@@ -17,6 +17,7 @@ returns c =
     c.in_ok-put.ensures)))))
     ∙ put_behind-joined old (order_pieces piece line agent c.as_str.result.now)
     ∙ ap (λ text. old ++ joined (order_pieces piece line text c.as_str.result.now)) c.text.ensures.text
-    ∙ ap (λ date. old ++ joined (order_pieces piece line line.agent date)) (c.as_str.ensures.value ∙ c.in_ok-date.ensures)
+    ∙ ap (λ date. old ++ joined (order_pieces piece line line.agent date))
+    (c.as_str.ensures.value ∙ c.in_ok-date.ensures)
     ∙ ap (λ text. old ++ text) (joined-order piece line))
     c.put-2.ensures

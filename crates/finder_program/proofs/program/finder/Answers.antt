@@ -3,7 +3,7 @@ use Rattle.farm_script.specs.Shown.{shown_text}
 use Rattle.link_io.specs.Streams.{streams}
 use Rattle.rates_report.specs.RateLines.{rates_text}
 use Rattle.farm_serve.specs.Outside.{disk_seen, output_seen}
-use Rattle.finder_program.proofs.Completing.{found-completes, run_journal-completes, shown-completes}
+use Rattle.finder_program.proofs.Completing.{evidence-completes, found-completes, run_journal-completes, shown-completes}
 use Rattle.finder_program.proofs.Saying.{asked-named, asked-none, unread-says}
 use Rattle.finder_program.proofs.program.finder.Goals as goal
 
@@ -60,6 +60,18 @@ returns-in-Ok-Some-Rates-clause-says g c =
     (record {
       ends = done.ensures.ends;
       completes = shown-completes rates_text done.result.0 (output_seen g.K.Sink c.args.output.now)
+          (output_seen g.K.Sink done.new.output) (disk_seen g.D.Disk c.args.disk) (disk_seen g.D.Disk done.result.1)
+          done.ensures.ends done.ensures.cause;
+    })
+
+pub returns-in-Ok-Some-Evidence-clause-says : goal.returns-in-Ok-Some-Evidence-clause-says
+returns-in-Ok-Some-Evidence-clause-says g c =
+    let read = c.in-Ok-Some-Evidence in
+    let done = c.evidence_command-status in
+    rw (asked-named read.ensures.asked read.field-0-is read.field-0-0-is)
+    (record {
+      ends = done.ensures.ends;
+      completes = evidence-completes read.search done.result.0 (output_seen g.K.Sink c.args.output.now)
           (output_seen g.K.Sink done.new.output) (disk_seen g.D.Disk c.args.disk) (disk_seen g.D.Disk done.result.1)
           done.ensures.ends done.ensures.cause;
     })

@@ -5,7 +5,9 @@ use Rattle.std.specs.Prelude.{Err, Ok}
 use Rattle.journal_follow.proofs.Takings.{may-bounded}
 use Rattle.journal_follow.specs.Rounds.{RoundSays}
 use Rattle.journal_follow.specs.declared.following.Went.{Went}
-use Rattle.journal_follow.proofs.Going.{HasGone, all-grows, follows-all, follows-err, follows-ok, goes-none, gone-none, gone-on, leaves-end, leaves-last, leaves-on, leaves-start, says-grows, start-grows}
+use Rattle.journal_follow.proofs.Going.{HasGone, all-grows, follows-all, follows-err, follows-ok, goes-none, gone-none}
+use Rattle.journal_follow.proofs.Going.{gone-on, leaves-end, leaves-last, leaves-on, leaves-start, says-grows}
+use Rattle.journal_follow.proofs.Going.{start-grows}
 use Rattle.journal_follow.proofs.following.follow.Goals as goal
 
 pub loop-left-init : goal.loop-left-init

@@ -17,7 +17,8 @@ use Rattle.journal_follow.proofs.Admissions.{legal-may}
 use Rattle.journal_follow.proofs.Records.{held-idle}
 use Rattle.journal_follow.proofs.Showing.{just, with_pending}
 use Rattle.journal_follow.proofs.Syncs.{rose-on}
-use Rattle.journal_follow.proofs.Placing.{created-moment, moment-rested, rested-begun, rested-unborn, store-first, unborn-left, unborn-moment, unborn-test}
+use Rattle.journal_follow.proofs.Placing.{created-moment, moment-rested, rested-begun, rested-unborn, store-first}
+use Rattle.journal_follow.proofs.Placing.{unborn-left, unborn-moment, unborn-test}
 use Rattle.journal_follow.proofs.place.create.Goals as goal
 
 pub returns-in_default-clause-any_moment : goal.returns-in_default-clause-any_moment

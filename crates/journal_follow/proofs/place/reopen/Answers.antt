@@ -7,7 +7,8 @@ use Rattle.farm_journal.specs.State.{IsHeld}
 use Rattle.farm_journal.specs.declared.fault.OpeningFault.{OpeningFault}
 use Rattle.farm_store.proofs.Calls.{undecided-none}
 use Rattle.journal_follow.proofs.Admissions.{legal-some}
-use Rattle.journal_follow.proofs.Placing.{begun-again, begun-just, begun-moment, begun-not-damaged, store-first, unborn-again, unopened-cause, unopened-none, unopened-repair, unopened-sound}
+use Rattle.journal_follow.proofs.Placing.{begun-again, begun-just, begun-moment, begun-not-damaged, store-first}
+use Rattle.journal_follow.proofs.Placing.{unborn-again, unopened-cause, unopened-none, unopened-repair, unopened-sound}
 use Rattle.journal_follow.specs.Inside.{IsBegunDisk}
 use Rattle.journal_follow.specs.Shown.{ShowsDecided}
 use Rattle.journal_follow.proofs.Showing.{with_pending}

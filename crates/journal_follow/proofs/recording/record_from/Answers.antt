@@ -7,7 +7,8 @@ use Rattle.entry_codec.specs.Spelling.{spelling}
 use Rattle.farm_entry.specs.declared.entry.Entry.{Entry}
 use Rattle.farm_journal.specs.declared.layout.TheConstants.{MAX_PAYLOAD}
 use Rattle.journal_follow.specs.Inside.{Writes}
-use Rattle.journal_follow.proofs.Records.{back-start, kept-missed, kept-written, leaves-missed, leaves-written, opened, some, stores-missed, stores-written, within}
+use Rattle.journal_follow.proofs.Records.{back-start, kept-missed, kept-written, leaves-missed, leaves-written, opened}
+use Rattle.journal_follow.proofs.Records.{some, stores-missed, stores-written, within}
 use Rattle.journal_follow.proofs.recording.record_from.Goals as goal
 
 pub write_new-requires-clause-open : goal.write_new-requires-clause-open

@@ -1,7 +1,7 @@
 use Rattle.std.proofs.Common.{◌≡◌, ◌∙◌, ap, ap₂, codes, []}
 use Rattle.std.proofs.lemmas.Result.{IfOk-weaker}
 use Rattle.clap.specs.Words.{App, app_of, with_subcommand}
-use Rattle.word_matches.specs.CommandLine.{audit_line, drill_ids, drill_line, empty_line, follow_ids, found_ids, found_line, judge_line, leaf, rates_ids, rates_line, run_leaf, run_line, serve_ids, serve_line, show_ids, show_line, work_ids, work_line}
+use Rattle.word_matches.specs.CommandLine.{audit_line, drill_ids, drill_line, empty_line, evidence_ids, follow_ids, follow_line, found_ids, found_line, judge_line, leaf, rates_ids, rates_line, run_leaf, run_line, serve_ids, serve_line, show_ids, show_line, work_ids, work_line}
 use Rattle.word_matches.proofs.Commands.{third-denied}
 use Rattle.word_matches.proofs.command_line.command_line.Goals as goal
 
@@ -28,6 +28,8 @@ returns c =
     c.in_ok-line-8.ensures ∙ ap (λ (a : App). with_subcommand a (leaf (codes "rates") rates_ids).top) work in
     let drill : app_of c.in_ok-line-9.line ≡ drill_line =
     c.in_ok-line-9.ensures ∙ ap (λ (a : App). with_subcommand a (leaf (codes "drill") drill_ids).top) rates in
-    IfOk-weaker c.with_leaf-9.result _ _
-    (λ line is. is ∙ ap (λ (a : App). with_subcommand a (leaf (codes "follow") follow_ids).top) drill)
-    c.with_leaf-9.ensures
+    let follow : app_of c.in_ok-line-10.line ≡ follow_line =
+    c.in_ok-line-10.ensures ∙ ap (λ (a : App). with_subcommand a (leaf (codes "follow") follow_ids).top) drill in
+    IfOk-weaker c.with_leaf-10.result _ _
+    (λ line is. is ∙ ap (λ (a : App). with_subcommand a (leaf (codes "evidence") evidence_ids).top) follow)
+    c.with_leaf-10.ensures

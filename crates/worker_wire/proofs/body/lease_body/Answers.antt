@@ -6,5 +6,6 @@ use Rattle.worker_wire.proofs.body.lease_body.Goals as goal
 pub returns : goal.returns
 returns c =
     let digits : c.encode_lower-digits.result.now ≡ key_text c.args.key = cc in
-    subst (λ (d : List ℕ). IfOk c.lease_text.result (λ text. string_bytes text ≡ compact_text (lease_data d c.args.worker.now)))
+    subst
+    (λ (d : List ℕ). IfOk c.lease_text.result (λ text. string_bytes text ≡ compact_text (lease_data d c.args.worker.now)))
     digits c.lease_text.ensures

@@ -11,7 +11,8 @@ pub returns-in_ok-put_number-in-Some : goal.returns-in_ok-put_number-in-Some
 returns-in_ok-put_number-in-Some c =
     on_ok_weaker c.put_more_positions.result
     (λ put. numbers-some c.args.self.now c.put.new.self c.put_number.new.self c.put_more_positions.new.self
-    c.args.piece.now c.args.positions.now c.in-Some.more.now c.in-Some.first.now c.in-Some.ensures.cases.0 c.in_ok-put-in-Some.ensures
+    c.args.piece.now c.args.positions.now c.in-Some.more.now c.in-Some.first.now c.in-Some.ensures.cases.0
+    c.in_ok-put-in-Some.ensures
     c.in_ok-put_number-in-Some.ensures put)
     c.put_more_positions.ensures
 

@@ -8,7 +8,8 @@ use Rattle.journal_follow.specs.State.{FollowerState, IsSameDisk}
 use Rattle.journal_follow.specs.Taken.{IsSoundly, OnMemory}
 use Rattle.journal_follow.specs.declared.place.Place.TheVariants as place
 use Rattle.journal_follow.proofs.Admissions.{legal-some}
-use Rattle.journal_follow.proofs.Holding.{both-views, follower-of, on_memory, on_memory-weaker, place-of, same-journal, unborn-still}
+use Rattle.journal_follow.proofs.Holding.{both-views, follower-of, on_memory, on_memory-weaker, place-of, same-journal}
+use Rattle.journal_follow.proofs.Holding.{unborn-still}
 use Rattle.journal_follow.proofs.follower.Follower.repair.Goals as goal
 
 pub reopen-place-requires : goal.reopen-place-requires

@@ -5,7 +5,8 @@ use Rattle.farm_journal.specs.Mended.{payloads_after}
 use Rattle.farm_journal.specs.declared.mending.Repaired.{Repaired}
 use Rattle.farm_store.proofs.Calls.{undecided-none}
 use Rattle.farm_store.proofs.Repairs.{kept-dropped, kept-found, some-is}
-use Rattle.journal_follow.proofs.Mended.{decided-kept, held-unchanged, not-pending, pending-some, shows-idle, shows-repair}
+use Rattle.journal_follow.proofs.Mended.{decided-kept, held-unchanged, not-pending, pending-some, shows-idle}
+use Rattle.journal_follow.proofs.Mended.{shows-repair}
 use Rattle.journal_follow.proofs.place.Opened.repair.Goals as goal
 
 pub returns-then-not-pending-clause-repairs : goal.returns-then-not-pending-clause-repairs

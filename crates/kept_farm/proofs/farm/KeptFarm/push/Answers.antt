@@ -7,10 +7,12 @@ use Rattle.farm_laws.proofs.Bounds.{entries-bounded}
 use Rattle.kept_farm.specs.Changes.{AreFew, with_entry}
 use Rattle.kept_farm.specs.Places.{order_places, with_place}
 use Rattle.kept_farm.specs.Rows.{row_of}
+use Rattle.kept_farm.specs.Searches.{search_rows}
 use Rattle.kept_farm.specs.declared.row.Row.{Row}
 use Rattle.kept_farm.proofs.Counting.{IsChange, change-moves, change-row, change-small, few, row-totals}
-use Rattle.kept_farm.proofs.Keeping.{beside-last, beside-pushed, some-legal}
+use Rattle.kept_farm.proofs.Keeping.{beside-last, beside-pushed, beside-same, some-legal}
 use Rattle.kept_farm.proofs.Places.{pushed-places}
+use Rattle.kept_farm.proofs.Searches.{searches-popped, searches-pushed}
 use Rattle.kept_farm.proofs.farm.KeptFarm.push.Goals as goal
 
 pub overflow_cast-place : goal.overflow_cast-place
@@ -66,7 +68,7 @@ with_standings-totals-requires c =
     (record {
       legal = h.legal;
       longer = subst (λ (X : List Entry). IsLegal (X ++ e ∷ [])) (sym c.self.view_is) c.requires;
-      pushed = c.in_ok-push.ensures.pushed;
+      pushed = c.in_default.ensures.pushed;
       counted = c.with_entry-counted.ensures ∙ ap (λ (t : Totals). with_entry t e.what) is;
       of_search = c.search_in-search.ensures;
       stood = c.standing_of-before.ensures;
@@ -92,7 +94,7 @@ of-requires c =
     (record {
       legal = h.legal;
       longer = subst (λ (X : List Entry). IsLegal (X ++ e ∷ [])) (sym c.self.view_is) c.requires;
-      pushed = c.in_ok-push.ensures.pushed;
+      pushed = c.in_default.ensures.pushed;
       counted = c.with_entry-counted.ensures ∙ ap (λ (t : Totals). with_entry t e.what) is;
       of_search = c.search_in-search.ensures;
       stood = c.standing_of-before.ensures;
@@ -116,7 +118,7 @@ invariant_of-self-2 c =
     c.totals.ensures ∙ row-totals H c.index.result.now c.len-entries.result row (count ∙ h.rows.as_many) in
     let longer : IsLegal (H ++ e ∷ []) =
     subst (λ (X : List Entry). IsLegal (X ++ e ∷ [])) (sym c.self.view_is) c.requires in
-    let more = c.in_ok-push.ensures.pushed in
+    let more = c.in_default.ensures.pushed in
     let change : IsChange H _ e c.with_entry-counted.result c.search_in-search.result c.standing_of-before.result
     c.standing_of-after.result = record {
       legal = h.legal;
@@ -143,4 +145,30 @@ invariant_of-self-2 c =
           ∙ pushed-places H e c.reserve-2.new.self.items c.len-entries.result (count ∙ h.rows.as_many)
           (c.in_ok-reserve-2.ensures.items ∙ h.places)
           ∙ ap (order_places 0) (sym more);
+      searches =
+          searches-pushed H e s.searches c.add.new.self c.kind_of-kind.result c.len-entries.result h.searches
+          c.kind_of-kind.ensures (count ∙ h.rows.as_many) c.in_ok-add.ensures.added
+          ∙ ap search_rows (sym more);
+    }
+
+pub invariant_of-self-in-Err : goal.invariant_of-self-in-Err
+invariant_of-self-in-Err c =
+    let s = c.self.inside in
+    let H : List Entry = s.ledger in
+    let e : Entry = c.args.entry in
+    let h = c.self.invariant in
+    let count : c.len-entries.result ≡ length s.rows.items = omega (arith, c.len-entries.ensures) in
+    let at : c.len-entries.result ≡ length H = count ∙ h.rows.as_many in
+    let kept : c.push.new.self ≡ H = c.in-Err.ensures.kept in
+    let more = searches-pushed H e s.searches c.add.new.self c.kind_of-kind.result c.len-entries.result h.searches
+    c.kind_of-kind.ensures at c.in_ok-add.ensures.added in
+    record {
+      legal = subst IsLegal (sym kept) h.legal;
+      rows =
+          beside-same row_of H c.push.new.self s.rows.items c.reserve.new.self.items h.rows kept c.in_ok-reserve.ensures.items;
+      places = c.in_ok-reserve-2.ensures.items ∙ h.places ∙ ap (order_places 0) (sym kept);
+      searches =
+          searches-popped H e c.add.new.self c.take_back.new.self c.kind_of-kind.result c.len-entries.result more
+          c.kind_of-kind.ensures at c.take_back.ensures
+          ∙ ap search_rows (sym kept);
     }

@@ -4,9 +4,9 @@ use Rattle.std.specs.List.{slice_get}
 use Rattle.std.specs.Option.{option_map}
 use Rattle.std.proofs.lemmas.Iterator.Consumers.{nth_from_yields_List}
 use Rattle.std.proofs.lemmas.Iterator.Splits.{YieldsList-from_str_split}
-use Rattle.http_routes.specs.Routes.{number_in}
+use Rattle.http_routes.specs.Routes.{text_at}
 use Rattle.path_table.specs.Segments.{parts}
-use Rattle.http_routes.proofs.numbers.number_in.Goals as goal
+use Rattle.http_routes.proofs.numbers.text_at.Goals as goal
 
 -- an item, or the default where there is none
 item_or : {X : Type 0} → Option X → X → X
@@ -20,19 +20,19 @@ item_or-get (x ∷ xs) zero d = refl
 item_or-get (x ∷ xs) (suc i) d = item_or-get xs i d
 
 pub returns-in-Some : goal.returns-in-Some
-unfolding number_in item_or
+unfolding text_at item_or
 returns-in-Some c =
     let all = YieldsList-from_str_split 47 c.args.path.now (lit< tt) c.split.ensures.text c.split.ensures.has_more c.split.ensures.pattern in
-    let fourth = nth_from_yields_List _ _ 3 c.nth.ensures.ran all in
+    let fourth = nth_from_yields_List _ _ c.args.place c.nth.ensures.ran all in
     ap (λ (r : Option (Bor (List ℕ))). item_or (option_map (λ x. x.now) r) []) (sym c.in-Some.is)
     ∙ ap (λ (r : Option (List ℕ)). item_or r []) fourth
-    ∙ item_or-get (parts c.args.path.now) 3 []
+    ∙ item_or-get (parts c.args.path.now) c.args.place []
 
 pub returns-in-None : goal.returns-in-None
-unfolding number_in item_or
+unfolding text_at item_or
 returns-in-None c =
     let all = YieldsList-from_str_split 47 c.args.path.now (lit< tt) c.split.ensures.text c.split.ensures.has_more c.split.ensures.pattern in
-    let fourth = nth_from_yields_List _ _ 3 c.nth.ensures.ran all in
+    let fourth = nth_from_yields_List _ _ c.args.place c.nth.ensures.ran all in
     ap (λ (r : Option (Bor (List ℕ))). item_or (option_map (λ x. x.now) r) []) (sym c.in-None.is)
     ∙ ap (λ (r : Option (List ℕ)). item_or r []) fourth
-    ∙ item_or-get (parts c.args.path.now) 3 []
+    ∙ item_or-get (parts c.args.path.now) c.args.place []

@@ -1,0 +1,4 @@
+pub mod Growing
+pub mod Keeping
+pub mod Numbers
+pub mod Pieces

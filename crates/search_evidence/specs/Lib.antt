@@ -1,0 +1,3 @@
+pub mod Written
+pub mod Evidence
+pub mod Kept
