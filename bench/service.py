@@ -162,6 +162,10 @@ def entry_of(it):
         return {"what": "cancel", "key": it.number(16), "search": it.number(4)}
     if tag == 8:
         return {"what": "report", "run": it.number(4), "verdict": "skip", "fate": ("skipped", "late")[it.number(1) - 1]}
+    if tag == 9:
+        return {"what": "close"}
+    if tag == 10:
+        return {"what": "carry", "commit": it.take(20).hex(), "day": it.number(4)}
     assert tag == 6, (tag, at)
     return {"what": "revert", "key": it.number(16), "agent": it.name(), "order": it.number(4), "commit": it.take(20).hex(),
             "search": it.number(4), "day": it.number(4)}

@@ -132,8 +132,12 @@ def order_of(told: Told) -> Optional[dict[str, Any]]:
     order = told.search.order
     if order is None:
         return None
-    date = time.strftime("%Y-%m-%d", time.gmtime(order.day * 86_400))
-    return {"order": order.order, "agent": order.agent, "at": order.at, "date": date, "day": order.day}
+    return {"order": order.order, "agent": order.agent, "at": order.at, "date": day_of(order.day), "day": order.day}
+
+
+def day_of(day: int) -> str:
+    """The date of a day, counted since 1970-01-01."""
+    return time.strftime("%Y-%m-%d", time.gmtime(day * 86_400))
 
 
 # ---- sentences ------------------------------------------------------------------------------------------------------
@@ -166,7 +170,7 @@ def notes_of(told: Told) -> list[str]:
         notes.append(f"Can't be tested: {listed([named(told.tree(position)) for position in told.untestable])}.")
     notes += rerun_notes(told)
     given = ", ".join(f"{name} {text}" for name, text in numbers_of(told))
-    return [*notes, *order_notes(told), *sound_notes(told), f"Given: {given}."]
+    return [*notes, *order_notes(told), *closed_notes(told), *sound_notes(told), f"Given: {given}."]
 
 
 def order_notes(told: Told) -> list[str]:
@@ -174,10 +178,19 @@ def order_notes(told: Told) -> list[str]:
     if told.standing != "confirmed":
         return []
     of_commit = next((order for order in told.history.orders if order.commit == told.page["commit"]), None)
+    before = next((order for order in told.history.carried if order.commit == told.page["commit"]), None)
+    if before is not None:
+        return [f"Its revert was ordered by a farm before this one, on {day_of(before.day)}."]
     if of_commit is None:
         return ["No revert of it was ordered yet."]
     name = "" if of_commit.search == told.search.number else f", for search {of_commit.search}"
     return [f"Its revert is order {of_commit.order}, of {of_commit.agent} on {told.moment(of_commit.at)}{name}."]
+
+
+def closed_notes(told: Told) -> list[str]:
+    """Whether the farm takes no more commands."""
+    closed = told.history.closed
+    return [] if closed is None else [f"The farm was closed on {told.moment(closed)}: the next one goes on."]
 
 
 def rerun_notes(told: Told) -> list[str]:

@@ -85,7 +85,21 @@ class Ordered(NamedTuple):
     day: int
 
 
-Entry = Union[Founded, Opened, Leased, Reported, Cancelled, Ordered]
+class Carried(NamedTuple):
+    """An order of a farm before this one was carried over: no farm that follows orders its commit again."""
+
+    at: int
+    commit: str
+    day: int
+
+
+class Closed(NamedTuple):
+    """The farm was closed: it takes no more commands, and hands its orders over to the next one."""
+
+    at: int
+
+
+Entry = Union[Founded, Opened, Leased, Reported, Cancelled, Ordered, Carried, Closed]
 SUSPECT = struct.Struct(">20sH")
 
 
@@ -160,8 +174,15 @@ def _entry(at: int, tag: int, data: _Bytes) -> Entry:
         return Cancelled(at, *data.take("16xI"))
     if tag == 6:
         return _ordered(at, data)
-    run, fate = data.take("IB")
-    return Reported(at, run, "skip", SKIP_FATES[fate])
+    if tag == 8:
+        run, fate = data.take("IB")
+        return Reported(at, run, "skip", SKIP_FATES[fate])
+    return Closed(at) if tag == 9 else _carried(at, data)
+
+
+def _carried(at: int, data: _Bytes) -> Carried:
+    commit, day = data.take("20sI")
+    return Carried(at, commit.hex(), day)
 
 
 def entries_of(data: bytes, start: int = 0) -> Iterator[tuple[Entry, bytes]]:
@@ -172,7 +193,7 @@ def entries_of(data: bytes, start: int = 0) -> Iterator[tuple[Entry, bytes]]:
         begin = reader.at
         try:
             at, tag = reader.take("QB")
-            if not 1 <= tag <= 8:
+            if not 1 <= tag <= 10:
                 raise Unreadable(f"the entry at byte {start + begin} is of a kind, {tag}, that this tool doesn't know: "
                                  "take the tools of the program that wrote it")
             entry = _entry(at, tag, reader)
@@ -237,6 +258,8 @@ class History:
         self.searches: list[Search] = []
         self.runs: list[Run] = []
         self.orders: list[Ordered] = []
+        self.carried: list[Carried] = []
+        self.closed: Optional[int] = None  # the moment
 
     def add(self, entry: Entry) -> Optional[Search]:
         """Takes an entry in; the search that it is about, where it is about one."""
@@ -256,9 +279,19 @@ class History:
     def _add(self, entry: Entry) -> Optional[Search]:
         if isinstance(entry, Founded) != (self.count == 0):
             raise ValueError("founded once, and first")
+        if self.closed is not None or isinstance(entry, Carried) and self.count != 1 + len(self.carried):
+            raise ValueError("carried over before all else, and closed last")
         if isinstance(entry, Founded):
             self.founding = entry
-            return None
+        elif isinstance(entry, Carried):
+            self.carried.append(entry)
+        elif isinstance(entry, Closed):
+            self.closed = entry.at
+        else:
+            return self._add_to_searches(entry)
+        return None
+
+    def _add_to_searches(self, entry: Union[Opened, Leased, Reported, Cancelled, Ordered]) -> Search:
         if isinstance(entry, Opened):
             search = Search(entry)
             self._expect(entry.search, self.searches)

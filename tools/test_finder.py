@@ -365,7 +365,7 @@ class Built(Tree):
 
 class Words(Tree):
     FITS = """judge|audit|run|run J|found J 1000 0 east:840|found J 86400000 1000 west:720|show J|rates J|drill 1 1
-evidence J 1|evidence J 4294967295
+evidence J 1|evidence J 4294967295|close J|inherit J 1000 0 east:840
 serve J A 16 1000000000|follow J A 1000000|work A 1000000 1 table:P|work A b 1000000 host:A"""
     MISFITS = """judgee|judge J|audit J|run J K|found J 999 0 east:0|found J 86400001 0 east:0|found J 1000 1001 east:0
 found J 01000 0 east:0|found J 1000 0 east:841|found J 1000 0 west:721|found J 1000 0 west:07|found J 1000 0 north:1
@@ -373,6 +373,8 @@ found J 1000 0|found J 1000 0 east:0 x|show|show J K|show -J|rates|serve J A 0 1
 serve J A 4 1000000001|serve J A 4 99999999999999999999|serve J A 4|follow J A 0|follow J A 1000001|follow J A
 work A b 0 host:A|work A b 1000001 host:A|work A b 1 host:|work A b 1 file:P|work A b 1|drill 0 1|drill 2001 1
 drill 1 0|drill 1 5|drill 1|drill 1 1 1|evidence J|evidence J 0|evidence J 4294967296|evidence J 01
+close|close J K|inherit J|inherit J 999 0 east:0|inherit J 1000 1001 east:0|inherit J 1000 0 east:841
+inherit -J 1000 0 east:0
 --judge|judge --x|help-me"""
 
     def test_the_launcher_says_why_exactly_where_the_program_answers_usage(self):

@@ -5,8 +5,9 @@
 //! RUNS CULPRIT BROKEN PLAN` is one worker of up to so many leases, whose tests fail from the commit CULPRIT on, and
 //! whose runner fails from BROKEN on (`-`: nowhere), or, with `~` before it, says from there on that trees can't be
 //! tested; the letters of PLAN are in `network`. `soak RUNS CULPRIT PLAN NAME ..` has the workers of these names take
-//! turns, of so many leases each, until all of one round are idle. `history` tells whether the history is legal by the
-//! plain program and some run has two reports, `entries` how many entries it has. An empty line begins a new farm.
+//! turns, of so many leases each, until all of one round are idle. `close` closes the farm, if it may be closed.
+//! `history` tells whether the history is legal by the plain program and some run has two reports, `entries` how many
+//! entries it has. An empty line begins a new farm.
 #![tactic(auto)]
 
 mod history;
@@ -174,11 +175,21 @@ fn play_soak(rt: &impl Print, game: &mut Game, text: &str) -> io::Result<()> {
     println!(rt; "all idle: {}", game.soak(names, &plan))
 }
 
+/// Closes the farm, and prints whether it could be closed.
+fn play_close(rt: &impl Print, service: Option<&mut Service>) -> io::Result<()> {
+    let Some(service) = service else {
+        return println!(rt; "no service");
+    };
+    let closed = service.close().is_ok();
+    println!(rt; "closed: {closed}")
+}
+
 fn play_line(rt: &impl Print, game: &mut Game, line: &str) -> io::Result<()> {
     let (name, rest) = word(line);
     match name {
         "work" => play_work(rt, game, rest),
         "soak" => play_soak(rt, game, rest),
+        "close" => play_close(rt, game.network.service()),
         "entries" | "history" => print_history(rt, game.alloc, name, game.network.service()),
         _ => match game.tell(line) {
             Some(text) => println!(rt; "{text}"),

@@ -16,7 +16,7 @@ use std::alloc::Global;
 /// `.`: the request is answered. `a`: the farm takes it, and the answer is lost. `r`: the request is lost. `f`: the
 /// farm takes it, and the connection fails. `x`: no connection is made. `5`: the service has no storage. `d`: the
 /// request comes late, before the next one that is answered. `t`: the request comes twice. `4`: an answer that workers
-/// don't get.
+/// don't get. `c`: the first search is cancelled and the farm closed, and then the request is answered.
 #[derive(Drop)]
 pub(crate) struct ServiceLink<'f> {
     alloc: Global,
@@ -59,6 +59,10 @@ impl<'f> ServiceLink<'f> {
             }
             b'5' => answer_bytes(self.alloc, StatusCode::NoStorage, b"{}", true),
             b'4' => answer_bytes(self.alloc, StatusCode::NotFound, b"{}", true),
+            b'c' => {
+                self.service.end()?;
+                self.take_request()
+            }
             b'a' | b'f' => {
                 let _lost = self.take_request()?;
                 Ok(none)

@@ -1,9 +1,9 @@
 //! The service, played in memory: requests as bytes, answered by a real farm.
 ghost use Rattle.std.specs.Prelude.{true};
 
-use farm_core::Farm;
-use farm_entry::{Command, Entry};
-use farm_types::{Memory, Moment};
+use farm_core::{AdmitFault, Farm};
+use farm_entry::{Command, Entry, What};
+use farm_types::{Key, Memory, Moment};
 use farm_wire::{answer_text, command_of};
 use http_answers::{Answer, answer_status, put_answer};
 use http_requests::{LastHead, Next, Reading, Request, next_of};
@@ -70,6 +70,26 @@ impl<'f> Service<'f> {
             }
             None => Ok(Vec::new(self.alloc)),
         }
+    }
+
+    /// Closes the farm, where that may come next.
+    pub(crate) fn close(&mut self) -> Result<(), AdmitFault> {
+        let at = moment_of(self.now).ok_or(AdmitFault::Memory)?;
+        self.farm.admit(Entry {
+            at,
+            what: What::Closed,
+        })
+    }
+
+    /// Cancels the first search and closes the farm, where that may come next.
+    pub(crate) fn end(&mut self) -> Result<(), Memory> {
+        let cancel = Command::Cancel {
+            key: Key(0),
+            search: 1,
+        };
+        let _cancelled = self.tell(&cancel)?;
+        let _closed = self.close();
+        Ok(())
     }
 
     /// Keeps a request that comes late.

@@ -1,7 +1,8 @@
 //! Entries from the front of some bytes: a moment, a tag in one byte that tells the kind, and the fields of that kind.
 
 ghost use Rattle.std.specs.Prelude.{◌≡◌, IfOk};
-ghost use Rattle.entry_codec.specs.Reading.{cancelled_at, entry_at, founded_at, leased_at, miss_at, opened_at, opening_at, ordered_at, reported_at, skipped_at, what_at};
+ghost use Rattle.entry_codec.specs.Reading.{cancelled_at, carried_at, closed_at, entry_at, founded_at, leased_at, miss_at, opened_at, opening_at};
+ghost use Rattle.entry_codec.specs.Reading.{ordered_at, reported_at, skipped_at, what_at};
 ghost use Rattle.audit_check.specs.Reads.{Reads};
 ghost use Rattle.audit_check.specs.Added.{IsAdded};
 
@@ -152,6 +153,24 @@ fn ordered(alloc: Global, bytes: &[u8]) -> Result<(What, &[u8]), Stop>
     Ok((what, rest))
 }
 
+/// An order that was carried over from a farm before this one: its commit and day.
+#[tactic(auto, unfolding(entry_codec::specs::Reading::carried_at))]
+fn carried(bytes: &[u8]) -> Result<(What, &[u8]), Stop>
+    ensures { Reads (λ x. (x.0, x.1.now)) result (carried_at bytes.now) }
+{
+    let (commit, rest) = commit(bytes)?;
+    let (day, rest) = number_4(rest)?;
+    Ok((What::Carried { commit, day }, rest))
+}
+
+/// The farm's closing, which has no fields.
+#[tactic(auto, unfolding(entry_codec::specs::Reading::closed_at))]
+fn closed(bytes: &[u8]) -> Result<(What, &[u8]), Stop>
+    ensures { Reads (λ x. (x.0, x.1.now)) result (closed_at bytes.now) }
+{
+    Ok((What::Closed, bytes))
+}
+
 /// What an entry with a tag records.
 #[tactic(auto, unfolding(entry_codec::specs::Reading::what_at))]
 fn what(alloc: Global, tag: u8, bytes: &[u8]) -> Result<(What, &[u8]), Stop>
@@ -166,6 +185,8 @@ fn what(alloc: Global, tag: u8, bytes: &[u8]) -> Result<(What, &[u8]), Stop>
         6 => ordered(alloc, bytes),
         7 => opened(alloc, true, bytes),
         8 => skipped(bytes),
+        9 => closed(bytes),
+        10 => carried(bytes),
         _ => Err(Stop::Malformed),
     }
 }

@@ -17,7 +17,7 @@ fn short_entries_are_refused(rt: HostRuntime) -> Result<(), Fail> {
         ),
         ("no tag", "0000000005f5e100"),
         ("a tag below the first", "0000000005f5e10000"),
-        ("a tag above the last", "0000000005f5e10009000000010201"),
+        ("a tag above the last", "0000000005f5e1000b000000010201"),
         (
             "a lease that is too short",
             "0000000005f5e10001000003e7000a02d0",
@@ -90,6 +90,19 @@ fn short_entries_are_refused(rt: HostRuntime) -> Result<(), Fail> {
             "0000000005f5e10006000102030405060708090a0b0c0d0e0f01200000000300000000000000000000000000\
              000000000000",
         ),
+        (
+            "a carried order whose commit is cut off",
+            "0000000005265c000a00000000000000000000000000000000000000",
+        ),
+        (
+            "a carried order without its day",
+            "0000000005265c000a0000000000000000000000000000000000000002",
+        ),
+        (
+            "a carried order whose day is cut off",
+            "0000000005265c000a0000000000000000000000000000000000000002000000",
+        ),
+        ("a closing whose moment is cut off", "00000005f5e10009"),
     ];
     for (wrong, digits) in cases {
         assert_eq!(rt; bad_at(rt.alloc(), digits)?, Some(0), "{wrong}");
@@ -279,6 +292,13 @@ fn the_first_fault_is_told(rt: HostRuntime) -> Result<(), Fail> {
         (
             "0000000005f5e100040000000102010000000005f5e100080000000203",
             Some(15),
+        ),
+        // A closing behind a report, a byte behind a closing, which has no fields, and an order that was carried over.
+        ("0000000005f5e100040000000102010000000005f5e10009", None),
+        ("0000000005f5e1000900", Some(9)),
+        (
+            "0000000005265c000a00000000000000000000000000000000000000020000000100",
+            Some(33),
         ),
         // A byte is left, and one is missing.
         ("0000000005f5e1000400000001020100", Some(15)),

@@ -144,3 +144,24 @@ fn cancellations_and_orders_are_their_bytes(rt: HostRuntime) -> Result<(), Fail>
          000000000000020000000400004e20";
     is_spelled(&rt, rt.alloc(), digits, &ordered)
 }
+
+#[test]
+fn closings_and_carried_orders_are_their_bytes(rt: HostRuntime) -> Result<(), Fail> {
+    is_spelled(&rt, rt.alloc(), "0000000005f5e10009", &entry(What::Closed)?)?;
+    let first = Entry {
+        at: Moment::of(86_400_000)?,
+        what: What::Carried {
+            commit: id(2),
+            day: 1,
+        },
+    };
+    let digits = "0000000005265c000a000000000000000000000000000000000000000200000001";
+    is_spelled(&rt, rt.alloc(), digits, &first)?;
+    // The codec keeps to the field's range alone: which days are legal is the farm's to say.
+    let last = entry(What::Carried {
+        commit: id(255),
+        day: u32::MAX,
+    })?;
+    let digits = "0000000005f5e1000a00000000000000000000000000000000000000ffffffffff";
+    is_spelled(&rt, rt.alloc(), digits, &last)
+}

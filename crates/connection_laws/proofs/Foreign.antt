@@ -3,7 +3,7 @@ use Rattle.std.proofs.Common.{ℕ, ◌≡◌, ◌+◌, Bool, true, false, if◌t
 use Rattle.std.specs.Prelude.{◌&&◌, ⊤}
 use Rattle.std.proofs.lemmas.Bool.{cases_Bool, false≢true}
 use Rattle.farm_entry.specs.Decision.{decide, is_show, or_else, page_decision, runs_decision}
-use Rattle.farm_entry.specs.History.{opening_numbered, order_lines}
+use Rattle.farm_entry.specs.History.{is_closed, opening_numbered, order_lines}
 use Rattle.farm_entry.specs.Pages.{totals}
 use Rattle.farm_entry.specs.Playing.{after}
 use Rattle.farm_entry.specs.SearchLines.{search_list}
@@ -14,7 +14,7 @@ use Rattle.farm_entry.specs.declared.decision.Decision.TheVariants.{New, Refuse,
 use Rattle.farm_entry.specs.declared.entry.Entry.{Entry}
 use Rattle.farm_entry.specs.declared.limits.TheConstants.{MAX_ENTRIES}
 use Rattle.farm_entry.specs.declared.opening.Opening.{Opening}
-use Rattle.farm_entry.specs.declared.refusal.Refusal.TheVariants.{Full}
+use Rattle.farm_entry.specs.declared.refusal.Refusal.TheVariants.{Closed, Full}
 use Rattle.farm_entry.specs.declared.reply.Reply.TheVariants as reply
 use Rattle.farm_entry.specs.declared.answer.Answer.{Answer}
 use Rattle.farm_store.specs.declared.asking.Ask.{Ask}
@@ -51,11 +51,14 @@ runs-adds_none : (H : List Entry) (search from : ℕ) (o : Option Opening)
 runs-adds_none H search from None = refl
 runs-adds_none H search from (Some o) = refl
 
--- a full history still shows
-shown-full : (H : List Entry) (full : Bool) (d : Decision) → new_place H d ≡ []
-    → new_place H (or_else (if full && false then Some (Refuse Full) else None) d) ≡ []
-shown-full H true d none = none
-shown-full H false d none = none
+-- a full history still shows, and so does a closed one
+shown-full : (H : List Entry) (full closed : Bool) (d : Decision) → new_place H d ≡ []
+    → new_place H (or_else
+    (if full && false then Some (Refuse Full) else if closed && false then Some (Refuse Closed) else None) d) ≡ []
+shown-full H true true d none = none
+shown-full H true false d none = none
+shown-full H false true d none = none
+shown-full H false false d none = none
 
 pub show-adds_none : (H : List Entry) (q : Command) (m : Moment) → is_show q ≡ true → new_place H (decide H q m) ≡ []
 show-adds_none H (command.Open ask) m shows = absurd (false≢true shows)
@@ -65,17 +68,17 @@ show-adds_none H (command.Skip run) m shows = absurd (false≢true shows)
 show-adds_none H (command.Cancel key search) m shows = absurd (false≢true shows)
 show-adds_none H (command.TakeRevert key agent) m shows = absurd (false≢true shows)
 show-adds_none H (command.ShowSearch search) m shows =
-    shown-full H (nat_le MAX_ENTRIES (length H)) (page_decision H search (opening_numbered H search))
+    shown-full H (nat_le MAX_ENTRIES (length H)) (is_closed H) (page_decision H search (opening_numbered H search))
     (page-adds_none H search (opening_numbered H search))
 show-adds_none H command.ShowFarm m shows =
-    shown-full H (nat_le MAX_ENTRIES (length H)) (Show (reply.Farm (totals H))) refl
+    shown-full H (nat_le MAX_ENTRIES (length H)) (is_closed H) (Show (reply.Farm (totals H))) refl
 show-adds_none H command.ShowOrders m shows =
-    shown-full H (nat_le MAX_ENTRIES (length H)) (Show (reply.Orders (order_lines H))) refl
+    shown-full H (nat_le MAX_ENTRIES (length H)) (is_closed H) (Show (reply.Orders (order_lines H))) refl
 show-adds_none H (command.ShowRuns search from) m shows =
-    shown-full H (nat_le MAX_ENTRIES (length H)) (runs_decision H search from (opening_numbered H search))
+    shown-full H (nat_le MAX_ENTRIES (length H)) (is_closed H) (runs_decision H search from (opening_numbered H search))
     (runs-adds_none H search from (opening_numbered H search))
 show-adds_none H (command.ShowSearches from) m shows =
-    shown-full H (nat_le MAX_ENTRIES (length H)) (Show (reply.Searches (search_list H from))) refl
+    shown-full H (nat_le MAX_ENTRIES (length H)) (is_closed H) (Show (reply.Searches (search_list H from))) refl
 
 -- a decision that adds nothing leaves the history as it is
 after-adds_none : (H : List Entry) (d : Decision) → new_place H d ≡ [] → after H d ≡ H

@@ -131,8 +131,8 @@ pub(crate) fn name(alloc: Global, text: &str) -> Result<Name, Memory> {
     }
 }
 
-// The commit whose bytes are all the lowest byte of a number.
-fn commit(number: u32) -> CommitId {
+/// The commit whose bytes are all the lowest byte of a number.
+pub(crate) fn commit(number: u32) -> CommitId {
     CommitId::of([(number & 0xff) as u8; 20])
 }
 

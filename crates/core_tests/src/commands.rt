@@ -25,8 +25,8 @@ fn mixed(seed: u32, number: u32) -> u64 {
     both.wrapping_add(1).wrapping_mul(0x9e37_79b9_7f4a_7c15)
 }
 
-// The request of an agent.
-fn take_revert(alloc: Global, key: u32) -> Result<Command, Memory> {
+/// The request of an agent.
+pub(crate) fn take_revert(alloc: Global, key: u32) -> Result<Command, Memory> {
     match name(alloc, "a") {
         Ok(agent) => Ok(Command::TakeRevert {
             key: Key(u128::from(key)),

@@ -1,10 +1,11 @@
 //! Plays farms in memory. A line of standard input is a case: `random SEED STEPS` plays commands that are picked by
-//! chance beside the plain program, `script WORDS` prints what each word comes to, `tally` prints how often each thing
-//! came up so far, and any other line is printed as it is. The file `stdout` has what is wanted; that of the scripts
-//! was worked out by hand.
+//! chance beside the plain program, `closed SEED STEPS` plays so a farm that begins with carried orders, closes it and
+//! plays on, `script WORDS` prints what each word comes to, `tally` prints how often each thing came up so far, and any
+//! other line is printed as it is. The file `stdout` has what is wanted; that of the scripts was worked out by hand.
 #![tactic(auto)]
 
 mod asks;
+mod closing;
 mod commands;
 mod dice;
 mod moments;
@@ -14,6 +15,7 @@ mod table;
 mod tally;
 mod words;
 
+use closing::play_closed;
 use farm_entry::Settings;
 use farm_types::Moment;
 use plays::play;
@@ -27,24 +29,28 @@ use words::{number_of, word};
 /// The moment at which a farm is founded, in milliseconds.
 const START_MS: u64 = 100_000_000;
 
-// Plays commands that are picked by chance, and prints what the play came to.
-fn play_random(
-    rt: &impl Print,
+// Plays commands that are picked by chance.
+fn play_seed(
     alloc: Global,
     table: &mut Table,
     tally: &mut Tally,
     start: Moment,
     text: &str,
-) -> io::Result<()> {
+    closes: bool,
+) -> Option<u32> {
     let (seed, steps) = word(text);
-    match play(
-        alloc,
-        table,
-        tally,
-        start,
-        number_of(seed),
-        number_of(steps),
-    ) {
+    let (seed, steps) = (number_of(seed), number_of(steps));
+    if closes {
+        play_closed(alloc, table, tally, start, seed, steps)
+    } else {
+        play(alloc, table, tally, start, seed, steps)
+    }
+}
+
+// Prints what a play came to.
+fn print_played(rt: &impl Print, table: &Table, text: &str, played: Option<u32>) -> io::Result<()> {
+    let (seed, _) = word(text);
+    match played {
         None => {
             let entries = table.twin.history().len();
             println!(rt; "farm {seed}: alike, entries {entries}")
@@ -64,7 +70,10 @@ fn play_case(
 ) -> io::Result<()> {
     let (name, rest) = word(line);
     match name {
-        "random" => play_random(rt, alloc, table, tally, start, rest),
+        "random" | "closed" => {
+            let played = play_seed(alloc, table, tally, start, rest, name == "closed");
+            print_played(rt, table, rest, played)
+        }
         "script" => play_script(rt, alloc, table, start, rest),
         "tally" => tally.tell(rt),
         _ => println!(rt; "{line}"),

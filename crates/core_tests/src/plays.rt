@@ -56,8 +56,8 @@ fn show_all(table: &mut Table, tally: &mut Tally, at: Moment) -> bool {
         && table.ask(tally, &Command::ShowSearches { from: 2 }, at, true)
 }
 
-/// Plays a farm by so many steps, and then shows each search and its runs. Answers the number of the first step at which
-/// the farm and the plain program weren't alike, if there is one.
+/// Plays a farm by so many steps, and then shows each search and its runs. Answers the number of the first step at
+/// which the farm and the plain program weren't alike, if there is one.
 pub(crate) fn play(
     alloc: Global,
     table: &mut Table,

@@ -3,14 +3,18 @@
 //! each key from 1 on, and print the last answer; `pass:RUN`, `fail:RUN` and `skip:RUN` report a run, `farm` shows the
 //! totals and `page:SEARCH` the page of a search, `shown:SEARCH` says whether the list of searches and the runs of one,
 //! from several on, are what the plain program says, `entry:PLACE` prints an entry, `retract:COUNT` takes the last
-//! entries back, and `admit:PLACE` admits the entry that was first made at a place.
+//! entries back, and `admit:PLACE` admits the entry that was first made at a place. `order:KEY` asks for an order,
+//! `carry:COMMIT` carries one over from day 1, at the founding, and `close:MINUTES` closes the farm so many minutes
+//! after it.
 
 use crate::asks::{PLAIN, lease, open};
+use crate::closing::{carried, closing};
+use crate::commands::take_revert;
 use crate::moments::moment_or;
-use crate::table::{Table, admit_copy, take_back};
+use crate::table::{Table, admit_copy, admit_then, take_back};
 use crate::words::number_of;
 use farm_core::{CoreFault, Farm, Prepared};
-use farm_entry::{Command, Decision, PAGE_LINES, Reply};
+use farm_entry::{Command, Decision, Entry, PAGE_LINES, Reply};
 use farm_types::{Memory, Moment};
 use plain_farm::decide;
 use std::alloc::Global;
@@ -19,6 +23,12 @@ use weight_exact::Verdict;
 
 /// A minute in milliseconds, which is how long a lease lasts.
 const MINUTE_MS: u64 = 60_000;
+
+// So many minutes after a moment.
+fn after(start: Moment, minutes: u32) -> Moment {
+    let waited = MINUTE_MS.saturating_mul(u64::from(minutes));
+    moment_or(start.ms().saturating_add(waited), start)
+}
 
 // What comes of a command, whose entry is committed, if it makes one.
 fn call(farm: &mut Farm, command: &Command, at: Moment) -> Result<Reply, CoreFault> {
@@ -47,6 +57,7 @@ fn command_of(alloc: Global, name: &str, number: u32) -> Result<Command, Memory>
             verdict: Verdict::Fail,
         }),
         "skip" => Ok(Command::Skip { run: number }),
+        "order" => take_revert(alloc, number),
         "page" => Ok(Command::ShowSearch { search: number }),
         _ => Ok(Command::ShowFarm),
     }
@@ -60,13 +71,8 @@ fn ask(
     name: &str,
     number: u32,
 ) -> Result<Reply, CoreFault> {
-    let waited = MINUTE_MS.saturating_mul(u64::from(number));
     match command_of(alloc, name, number) {
-        Ok(command) => call(
-            farm,
-            &command,
-            moment_or(start.ms().saturating_add(waited), start),
-        ),
+        Ok(command) => call(farm, &command, after(start, number)),
         Err(_) => Err(CoreFault::Memory),
     }
 }
@@ -142,6 +148,13 @@ fn print_admitted(rt: &impl Print, table: &mut Table, place: usize) -> io::Resul
     }
 }
 
+// Admits an entry to both farms, and prints what comes of it and whether the farm is closed then.
+fn print_unasked(rt: &impl Print, table: &mut Table, entry: &Entry) -> io::Result<()> {
+    let _followed = admit_copy(&mut table.twin, entry.copy());
+    let (admitted, closed) = admit_then(&mut table.farm, entry.copy());
+    println!(rt; "{admitted:?}, closed {closed}")
+}
+
 // Plays a word.
 fn play_word(
     rt: &impl Print,
@@ -156,6 +169,8 @@ fn play_word(
     match name {
         "entry" => print_entry(rt, &table.farm, number as usize),
         "admit" => print_admitted(rt, table, number as usize),
+        "carry" => print_unasked(rt, table, &carried(number, 1, start)),
+        "close" => print_unasked(rt, table, &closing(after(start, number))),
         "shown" => {
             let alike = are_shown(alloc, &mut table.farm, number, start);
             println!(rt; "{alike}")

@@ -59,6 +59,20 @@ pub(crate) fn admit_copy(farm: &mut Farm, copy: Result<Entry, Memory>) -> Result
     }
 }
 
+/// Admits a copy of an entry, and says whether the farm is closed then.
+pub(crate) fn admit_then(
+    farm: &mut Farm,
+    copy: Result<Entry, Memory>,
+) -> (Result<(), AdmitFault>, bool) {
+    match copy {
+        Ok(entry) => {
+            let admitted = farm.admit(entry);
+            (admitted, farm.is_closed())
+        }
+        Err(_) => (Err(AdmitFault::Memory), false),
+    }
+}
+
 // Admits the entries of another farm's history that come after its own. Answers whether all were taken.
 fn admit_rest(farm: &mut Farm, other: &Farm) -> bool {
     for entry in other.history().iter().skip(farm.history().len()) {
@@ -172,12 +186,12 @@ impl Table {
         admit_copy(&mut self.twin, copy).is_ok() && has_reply(self.alloc, &self.twin, place, reply)
     }
 
-    // Admits an entry to both farms, and looks whether it may come next.
-    fn admit(&mut self, tally: &mut Tally, entry: &Entry) -> bool {
+    /// Admits an entry to both farms, if it may come next. Answers whether all came as the plain program says.
+    pub(crate) fn admit(&mut self, tally: &mut Tally, entry: &Entry) -> bool {
         let may = is_next(self.alloc, self.farm.history(), entry);
         let taken = admit_copy(&mut self.farm, entry.copy());
         let followed = admit_copy(&mut self.twin, entry.copy());
-        tally.note_admitted(taken);
+        tally.note_admitted(&entry.what, taken);
         let is_wanted = match taken {
             Ok(()) => may == Ok(true),
             Err(AdmitFault::Illegal) => may == Ok(false),

@@ -1,12 +1,12 @@
 //! How often each thing came up in plays.
 
 use farm_core::{AdmitFault, CoreFault, Prepared};
-use farm_entry::{Fate, OpenFault, Refusal, Reply, SkipFate, Standing};
+use farm_entry::{Fate, OpenFault, Refusal, Reply, SkipFate, Standing, What};
 use std::io;
 use suspect_range::RangeFault;
 
 /// How many kinds of things are counted.
-const KINDS: usize = 47;
+const KINDS: usize = 50;
 
 /// The kinds, in the order in which they are told.
 const NAMES: [&str; KINDS] = [
@@ -46,6 +46,7 @@ const NAMES: [&str; KINDS] = [
     "Width",
     "Reruns",
     "KeyClash",
+    "Closed",
     "NoRun",
     "UnknownRun",
     "UnknownSearch",
@@ -56,6 +57,8 @@ const NAMES: [&str; KINDS] = [
     "taken away",
     "admitted again",
     "admitted",
+    "carried over",
+    "closed",
     "not admitted",
 ];
 
@@ -93,10 +96,12 @@ impl Tally {
     }
 
     /// Notes whether an entry was admitted.
-    pub(crate) fn note_admitted(&mut self, admitted: Result<(), AdmitFault>) {
-        match admitted {
-            Ok(()) => self.note("admitted"),
-            Err(_) => self.note("not admitted"),
+    pub(crate) fn note_admitted(&mut self, what: &What, admitted: Result<(), AdmitFault>) {
+        match (admitted, what) {
+            (Ok(()), What::Carried { .. }) => self.note("carried over"),
+            (Ok(()), What::Closed) => self.note("closed"),
+            (Ok(()), _) => self.note("admitted"),
+            (Err(_), _) => self.note("not admitted"),
         }
     }
 
@@ -183,6 +188,7 @@ fn kind_of_refusal(refusal: Refusal) -> &'static str {
         Refusal::BadOpen(fault) => kind_of_fault(fault),
         Refusal::KeyClash(_) => "KeyClash",
         Refusal::Full => "Full",
+        Refusal::Closed => "Closed",
         Refusal::TooManySearches => "TooManySearches",
         Refusal::NoRun => "NoRun",
         Refusal::UnknownRun(_) => "UnknownRun",

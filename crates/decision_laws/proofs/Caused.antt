@@ -24,20 +24,20 @@ use Rattle.farm_entry.specs.declared.decision.Decision.{Decision}
 use Rattle.farm_entry.specs.declared.decision.Decision.TheVariants.{New, Refuse, Repeat, Show}
 use Rattle.farm_entry.specs.declared.entry.Entry.{Entry}
 use Rattle.farm_entry.specs.declared.entry.What.{What}
-use Rattle.farm_entry.specs.declared.entry.What.TheVariants.{Founded, Opened, Leased, Reported, Skipped, Cancelled, Ordered}
+use Rattle.farm_entry.specs.declared.entry.What.TheVariants.{Founded, Opened, Leased, Reported, Skipped, Cancelled, Ordered, Carried, Closed}
 use Rattle.farm_entry.specs.declared.lease.DueRun.{DueRun}
 use Rattle.farm_entry.specs.declared.lease.LeasedRun.{LeasedRun}
 use Rattle.farm_entry.specs.declared.limits.TheConstants.{MAX_SEARCHES}
 use Rattle.farm_entry.specs.declared.opening.Opening.{Opening}
 use Rattle.farm_entry.specs.declared.refusal.OpenFault.{OpenFault}
 use Rattle.farm_entry.specs.declared.refusal.Refusal.{Refusal}
-use Rattle.farm_entry.specs.declared.refusal.Refusal.TheVariants.{BadOpen, DailyLimit, Full, KeyClash, NoRevert, NoRun, SearchEnded, TooManySearches, UnknownRun, UnknownSearch}
+use Rattle.farm_entry.specs.declared.refusal.Refusal.TheVariants.{BadOpen, Closed as FarmClosed, DailyLimit, Full, KeyClash, NoRevert, NoRun, SearchEnded, TooManySearches, UnknownRun, UnknownSearch}
 use Rattle.farm_laws.proofs.Made.{is_made}
 use Rattle.farm_laws.proofs.Repeats.{all-placed}
-use Rattle.decision_laws.specs.Causes.{AsksTheSame, CauseOf, IsClash, IsFull, IsOutside, IsWhat, IsWithinLimits, run_told}
+use Rattle.decision_laws.specs.Causes.{AsksTheSame, CauseOf, IsClash, IsFull, IsOutside, IsRefusedClosed, IsWhat, IsWithinLimits, run_told}
 use Rattle.decision_laws.proofs.Held.{at-key, at-report, asked-what, report-named, what-asked}
 use Rattle.decision_laws.proofs.Own.{caused, ended-refuses, many-refused, no_lease-refused, no_revert-refused, no_run-refused, no_search-refused, over_day-refused, own-refused}
-use Rattle.decision_laws.proofs.Parts.{FullSays, KnownSays, ShapeSays, Speaks, clashes, formed, full, full-decides, full-says, full-some, is_new, is_taken, known, known-decides, known-none, known-says, own, repeats, reported, shape, shape-decides, shape-none, shape-says, speaks, taken-decides}
+use Rattle.decision_laws.proofs.Parts.{FullSays, KnownSays, ShapeSays, Speaks, clashes, closed-some, formed, full, full-decides, full-says, full-some, is_new, is_taken, known, known-decides, known-none, known-says, own, repeats, reported, says_closed, says_full, shape, shape-decides, shape-none, shape-says, speaks, taken-decides}
 
 repeat-refuse : (place : ℕ) (r : Refusal) → Repeat place ≡ Refuse r → ⊥
 repeat-refuse place r h = let b : true ≡ false = cc in true≢false b
@@ -76,15 +76,20 @@ known-caused H q m r legal s (reported run place names found is) = absurd (repea
 known-caused H q m r legal s (clashes key place keyed found asked is) =
     clash-caused H q m r key place legal s keyed found asked is
 
+full-caused : (H : List Entry) (q : Command) (m : Moment) (r : Refusal) → shape_decision q ≡ None →
+    known_decision H q ≡ None → FullSays H q (Refuse r) → CauseOf r H q m
+full-caused H q m r s k (says_full no_room adds is) =
+    caused H q m Full r (record { new = is_new H q s k; no_room = no_room; adds = adds }) is
+full-caused H q m r s k (says_closed below closed adds is) =
+    caused H q m FarmClosed r (record { new = is_new H q s k; room = below; closed = closed; adds = adds }) is
+
 speaks-caused : (H : List Entry) (q : Command) (m : Moment) (r : Refusal) → IsLegal H → Speaks H q m (Refuse r) →
     CauseOf r H q m
 speaks-caused H q m r legal (shape s) =
     let says = shape-says q (Refuse r) s in
     caused H q m (BadOpen says.fault) r (record { ask = says.ask; opens = says.opens; outside = says.outside }) says.is
 speaks-caused H q m r legal (known s k) = known-caused H q m r legal s (known-says H q (Refuse r) k)
-speaks-caused H q m r legal (full s k f) =
-    let says = full-says H q (Refuse r) f in
-    caused H q m Full r (record { new = is_new H q s k; no_room = says.no_room; adds = says.adds }) says.is
+speaks-caused H q m r legal (full s k f) = full-caused H q m r s k (full-says H q (Refuse r) f)
 speaks-caused H q m r legal (own s k f o) = own-refused H q m r (is_taken H q s k f) o
 
 pub refused-caused : (H : List Entry) (q : Command) (m : Moment) (r : Refusal) → IsLegal H →
@@ -138,11 +143,17 @@ full-refused : (H : List Entry) (q : Command) (m : Moment) → IsFull H q → de
 full-refused H q m c =
     full-decides H q m (Refuse Full) (shape-none q c.new.formed) (known-none H q c.new) (full-some H q c.no_room c.adds)
 
+closed-refused : (H : List Entry) (q : Command) (m : Moment) → IsRefusedClosed H q → decide H q m ≡ Refuse FarmClosed
+closed-refused H q m c =
+    full-decides H q m (Refuse FarmClosed) (shape-none q c.new.formed) (known-none H q c.new)
+    (closed-some H q c.room c.closed c.adds)
+
 pub caused-refused : (H : List Entry) (q : Command) (m : Moment) (r : Refusal) → IsLegal H → CauseOf r H q m →
     decide H q m ≡ Refuse r
 caused-refused H q m (BadOpen f) legal c = outside-refused H q m f c
 caused-refused H q m (KeyClash place) legal c = clash-refused H q m place legal c
 caused-refused H q m Full legal c = full-refused H q m c
+caused-refused H q m FarmClosed legal c = closed-refused H q m c
 caused-refused H q m TooManySearches legal c = taken-decides H q m c.taken ∙ many-refused H q (moment_used H m) c
 caused-refused H q m NoRun legal c = taken-decides H q m c.taken ∙ no_run-refused H q m c
 caused-refused H q m (UnknownRun run) legal c = taken-decides H q m c.taken
@@ -175,7 +186,8 @@ shape-repeat : (q : Command) (place : ℕ) → ShapeSays q (Repeat place) → �
 shape-repeat q place says = refuse-repeat place (BadOpen says.fault) says.is
 
 full-repeat : (H : List Entry) (q : Command) (place : ℕ) → FullSays H q (Repeat place) → ⊥
-full-repeat H q place says = refuse-repeat place Full says.is
+full-repeat H q place (says_full no_room adds is) = refuse-repeat place Full is
+full-repeat H q place (says_closed below closed adds is) = refuse-repeat place FarmClosed is
 
 -- A command's own case never repeats.
 
@@ -292,6 +304,8 @@ finds (Ordered k agent order commit search day) p q names same =
     let first : p ≡ command.TakeRevert k agent = sym (same_Some (command.TakeRevert k agent) p names) in
     keyed-same (command.TakeRevert k agent) q (Ordered k agent order commit search day) k refl refl
     (subst (λ (x : Command). AsksTheSame x q) first same)
+finds (Carried c t) p q names same = absurd (none-some p names)
+finds Closed p q names same = absurd (none-some p names)
 
 -- a command that asks for what was asked before is well formed
 pub open-formed : (p q : Command) → AsksTheSame p q → (ask : OpenAsk) → q ≡ command.Open ask → IsWithinLimits ask

@@ -14,7 +14,7 @@ use Rattle.farm_entry.specs.declared.command.Command.TheVariants as command
 use Rattle.farm_entry.specs.declared.command.OpenAsk.{OpenAsk}
 use Rattle.farm_entry.specs.declared.entry.Entry.{Entry}
 use Rattle.farm_entry.specs.declared.entry.What.{What}
-use Rattle.farm_entry.specs.declared.entry.What.TheVariants.{Founded, Opened, Leased, Reported, Skipped, Cancelled, Ordered}
+use Rattle.farm_entry.specs.declared.entry.What.TheVariants.{Founded, Opened, Leased, Reported, Skipped, Cancelled, Ordered, Carried, Closed}
 use Rattle.farm_entry.specs.declared.opening.Opening.{Opening}
 use Rattle.farm_entry.specs.declared.refusal.OpenFault.{OpenFault}
 use Rattle.farm_laws.proofs.Again.{all_there, under}
@@ -83,6 +83,8 @@ report-named run (Opened o) q h says = absurd (none-some run h)
 report-named run (Leased key worker r search stage position deadline) q h says = absurd (none-some run h)
 report-named run (Cancelled key search) q h says = absurd (none-some run h)
 report-named run (Ordered key agent order commit search day) q h says = absurd (none-some run h)
+report-named run (Carried c t) q h says = absurd (none-some run h)
+report-named run Closed q h says = absurd (none-some run h)
 
 -- What an entry is.
 
@@ -195,6 +197,8 @@ what-as (Ordered k agent order commit search day) p q key own holds names same =
     let first : p ≡ command.TakeRevert k agent = sym (same_Some (command.TakeRevert k agent) p names) in
     let here : command.TakeRevert k agent ≡ q = subst (λ (x : Command). AsksTheSame x q) first same in
     subst (λ (x : Command). asks_for (Ordered k agent order commit search day) x ≡ true) here (same_text agent)
+what-as (Carried c t) p q key own holds names same = absurd (none-some key holds)
+what-as Closed p q key own holds names same = absurd (none-some key holds)
 
 pub what-asked : (H : List Entry) (place : ℕ) (e : Entry) (q : Command) (key : Key) → IsLegal H →
     slice_get H place ≡ Some e →

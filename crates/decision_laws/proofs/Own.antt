@@ -1,5 +1,5 @@
 -- What a command's own case refuses, and why.
-use Rattle.std.proofs.Common.{◌≡◌, ℕ, ◌+◌, ◌≤◌, Bool, true, false, not, nat_le, nat_lt, List, [], ◌∷◌, length, map, Contains, if◌then◌else◌, Option, Some, None, Result, Ok, Err, refl, sym, ap, subst, ◌||◌, inl, inr, ◌∙◌, ⊎_elim, arith, true≢false}
+use Rattle.std.proofs.Common.{◌≡◌, ℕ, ◌+◌, ◌≤◌, Bool, true, false, not, nat_le, nat_lt, List, [], ◌∷◌, length, Contains, if◌then◌else◌, Option, Some, None, Result, Ok, Err, refl, sym, ap, subst, ◌||◌, inl, inr, ◌∙◌, ⊎_elim, arith, true≢false}
 use Rattle.std.proofs.lemmas.Bool.{false_from_ne_true, not-false, not-true}
 use Rattle.std.proofs.lemmas.Bool.Decides.{nat_tests}
 use Rattle.std.proofs.lemmas.Option.{none-some}
@@ -20,7 +20,7 @@ use Rattle.farm_entry.specs.Ask.{asked_bar, asked_miss, asked_range, asked_rate,
 use Rattle.farm_entry.specs.Decision.{add_opening, cancel_decision, lease_decision, moment_used, own_decision, page_decision, report_decision, revert_decision, runs_decision, skip_decision}
 use Rattle.farm_entry.specs.Due.{due, due_runs, next_run, soonest}
 use Rattle.farm_entry.specs.History.{daily_limit, lease_of, opening_numbered, openings, order_lines}
-use Rattle.farm_entry.specs.Orders.{confirmed_at, confirmed_searches, day_in, next_order_at, ordered, orders}
+use Rattle.farm_entry.specs.Orders.{confirmed_at, confirmed_searches, day_in, next_order_at, orders}
 use Rattle.farm_entry.specs.Setup.{commit_of}
 use Rattle.farm_entry.specs.Standing.{is_active, standing}
 use Rattle.farm_entry.specs.declared.command.Command.{Command}
@@ -33,7 +33,6 @@ use Rattle.farm_entry.specs.declared.lease.DueRun.{DueRun}
 use Rattle.farm_entry.specs.declared.lease.LeasedRun.{LeasedRun}
 use Rattle.farm_entry.specs.declared.limits.TheConstants.{MAX_SEARCHES}
 use Rattle.farm_entry.specs.declared.opening.Opening.{Opening}
-use Rattle.farm_entry.specs.declared.order_page.OrderLine.{OrderLine}
 use Rattle.farm_entry.specs.declared.refusal.OpenFault.{OpenFault}
 use Rattle.farm_entry.specs.declared.refusal.Refusal.{Refusal}
 use Rattle.farm_entry.specs.declared.refusal.Refusal.TheVariants.{DailyLimit, NoRevert, NoRun, SearchEnded, TooManySearches, UnknownRun, UnknownSearch}
@@ -202,34 +201,34 @@ or_second true b h = refl
 or_second false b h = h
 
 -- a commit has an order exactly where the rule finds one
-ordered-has : (lines : List OrderLine) (commit : CommitId) (x : OrderLine) → Contains lines x → x.commit ≡ commit →
-    has_order (map ordered lines) commit ≡ true
+ordered-has : (lines : List Ordered) (commit : CommitId) (x : Ordered) → Contains lines x → x.commit ≡ commit →
+    has_order lines commit ≡ true
 ordered-has [] commit x there same = absurd (contains-nil x there)
 ordered-has (l ∷ lines) commit x there same =
-    contains-cons l lines x (has_order (map ordered (l ∷ lines)) commit ≡ true)
-    (λ (first : l ≡ x). or_first (same_id l.commit commit) (has_order (map ordered lines) commit)
-    ((same_id-Decides l.commit commit).1 (ap (λ (y : OrderLine). y.commit) first ∙ same)))
-    (λ (later : Contains lines x). or_second (same_id l.commit commit) (has_order (map ordered lines) commit)
+    contains-cons l lines x (has_order (l ∷ lines) commit ≡ true)
+    (λ (first : l ≡ x). or_first (same_id l.commit commit) (has_order lines commit)
+    ((same_id-Decides l.commit commit).1 (ap (λ (y : Ordered). y.commit) first ∙ same)))
+    (λ (later : Contains lines x). or_second (same_id l.commit commit) (has_order lines commit)
     (ordered-has lines commit x later same))
     there
 
-has-here : (l : OrderLine) (lines : List OrderLine) (commit : CommitId) (b : Bool) → same_id l.commit commit ≡ b →
-    (has_order (map ordered lines) commit ≡ true → (x : OrderLine) × Contains lines x × (x.commit ≡ commit)) →
-    (b || has_order (map ordered lines) commit) ≡ true → (x : OrderLine) × Contains (l ∷ lines) x × (x.commit ≡ commit)
+has-here : (l : Ordered) (lines : List Ordered) (commit : CommitId) (b : Bool) → same_id l.commit commit ≡ b →
+    (has_order lines commit ≡ true → (x : Ordered) × Contains lines x × (x.commit ≡ commit)) →
+    (b || has_order lines commit) ≡ true → (x : Ordered) × Contains (l ∷ lines) x × (x.commit ≡ commit)
 has-here l lines commit true e later h = (l, contains-head lines l l refl, (same_id-Decides l.commit commit).0 e)
 has-here l lines commit false e later h =
     let x = later h in (x.0, contains-tail l lines x.0 x.1, x.2)
 
-has-ordered : (lines : List OrderLine) (commit : CommitId) → has_order (map ordered lines) commit ≡ true →
-    (x : OrderLine) × Contains lines x × (x.commit ≡ commit)
+has-ordered : (lines : List Ordered) (commit : CommitId) → has_order lines commit ≡ true →
+    (x : Ordered) × Contains lines x × (x.commit ≡ commit)
 has-ordered [] commit h = absurd (true≢false (sym h))
 has-ordered (l ∷ lines) commit h = has-here l lines commit (same_id l.commit commit) refl (has-ordered lines commit) h
 
 pub is_ordered-has : (H : List Entry) (commit : CommitId) → IsOrdered H commit → has_order (orders H) commit ≡ true
-is_ordered-has H commit o = ordered-has (order_lines H) commit o.0 o.1 o.2
+is_ordered-has H commit o = ordered-has (orders H) commit o.0 o.1 o.2
 
 pub has-is_ordered : (H : List Entry) (commit : CommitId) → has_order (orders H) commit ≡ true → IsOrdered H commit
-has-is_ordered H commit h = has-ordered (order_lines H) commit h
+has-is_ordered H commit h = has-ordered (orders H) commit h
 
 -- a confirmed search as the rule sees it, and back
 confirmed-there : (H : List Entry) (o : Opening) (culprit : ℕ) → Contains (openings H) o →
@@ -356,14 +355,14 @@ revert-refused : (H : List Entry) (key : Key) (agent : List ℕ) (m : Moment) (r
 revert-refused H key agent m r (Err none.NoRevert) t e h =
     let day : ℕ = day_in H (moment_ms (moment_used H m)) in
     let nil =
-    earliest-none (candidates (confirmed_searches H) (orders H)) (next-none _ (length (orders H) + 1) day (daily_limit H)
-    (orders_of day (orders H)) e) in
+    earliest-none (candidates (confirmed_searches H) (orders H))
+    (next-none _ (length (order_lines H) + 1) day (daily_limit H) (orders_of day (orders H)) e) in
     caused H (command.TakeRevert key agent) m NoRevert r
     (record { taken = t; key = key; agent = agent; takes = refl; all = none-left H nil }) h
 revert-refused H key agent m r (Err (none.DailyLimit on k)) t e h =
     let day : ℕ = day_in H (moment_ms (moment_used H m)) in
     let says =
-    next-full (earliest (candidates (confirmed_searches H) (orders H))) (length (orders H) + 1) day (daily_limit H)
+    next-full (earliest (candidates (confirmed_searches H) (orders H))) (length (order_lines H) + 1) day (daily_limit H)
     (orders_of day (orders H)) on k e in
     let left =
     some-left H says.candidate (earliest-contained (candidates (confirmed_searches H) (orders H)) says.candidate says.is) in
@@ -475,7 +474,9 @@ pub no_revert-refused : (H : List Entry) (q : Command) (M : Moment) → HasNoRev
 no_revert-refused H q M c =
     let day : ℕ = day_in H (moment_ms M) in
     let next : next_order_at H (moment_ms M) ≡ Err none.NoRevert =
-    ap (λ (cs : List Candidate). draft_of (earliest cs) (length (orders H) + 1) day (daily_limit H) (orders_of day (orders H)))
+    ap
+    (λ (cs : List Candidate).
+    draft_of (earliest cs) (length (order_lines H) + 1) day (daily_limit H) (orders_of day (orders H)))
     (left-none H c.all) in
     ap (λ (x : Command). own_decision H x M) c.takes ∙ ap (revert_decision c.key c.agent M) next
 
@@ -505,8 +506,9 @@ over_day-refused H q m day count c =
     (confirmed-there H c.opening c.culprit c.there c.confirmed) (ap not free) in
     let first = some-first (candidates (confirmed_searches H) (orders H)) _ left in
     let next : next_order_at H (moment_ms M) ≡ Err (none.DailyLimit today number) =
-    ap (λ (o : Option Candidate). draft_of o (length (orders H) + 1) today (daily_limit H) number) first.1
-    ∙ full-day first.0 (length (orders H) + 1) today (daily_limit H) number (subst (λ (n : ℕ). daily_limit H ≤ n) (sym same) c.limited) in
+    ap (λ (o : Option Candidate). draft_of o (length (order_lines H) + 1) today (daily_limit H) number) first.1
+    ∙ full-day first.0 (length (order_lines H) + 1) today (daily_limit H) number
+    (subst (λ (n : ℕ). daily_limit H ≤ n) (sym same) c.limited) in
     ap (λ (x : Command). own_decision H x M) c.takes
     ∙ ap (revert_decision c.key c.agent M) next
     ∙ ap (λ (d : ℕ). Refuse (DailyLimit d number)) (sym c.today)

@@ -1,13 +1,14 @@
 -- The parts of a decision, read forwards and backwards: what each part says, and what is left where it says nothing.
 use Rattle.std.proofs.Common.{◌≡◌, ℕ, ◌<◌, ◌≤◌, ◌⊎◌, Bool, true, false, not, ◌&&◌, nat_le, List, length, slice_get, if◌then◌else◌, Option, Some, None, Result, Ok, Err, refl, sym, ap, inl, inr, ◌∙◌, ⊎_elim, arith, true≢false}
 use Rattle.std.specs.Option.{option_map}
+use Rattle.std.proofs.lemmas.Bool.{leb-true}
 use Rattle.std.proofs.lemmas.Bool.Decides.{nat_tests}
 use Rattle.std.proofs.lemmas.Option.{none-some}
 use Rattle.farm_types.specs.declared.key.Key.{Key}
 use Rattle.farm_types.specs.declared.moment.Moment.{Moment}
 use Rattle.farm_entry.specs.Ask.{opening_of}
 use Rattle.farm_entry.specs.Decision.{asked_before, decide, full_decision, is_show, key_of, keyed_decision, known_decision, moment_used, or_else, own_decision, refuse_opening, repeat_or_clash, shape_decision}
-use Rattle.farm_entry.specs.History.{place_of_key, place_of_report}
+use Rattle.farm_entry.specs.History.{is_closed, place_of_key, place_of_report}
 use Rattle.farm_entry.specs.declared.command.Command.{Command}
 use Rattle.farm_entry.specs.declared.command.Command.TheVariants as command
 use Rattle.farm_entry.specs.declared.command.OpenAsk.{OpenAsk}
@@ -17,11 +18,12 @@ use Rattle.farm_entry.specs.declared.entry.Entry.{Entry}
 use Rattle.farm_entry.specs.declared.limits.TheConstants.{MAX_ENTRIES}
 use Rattle.farm_entry.specs.declared.opening.Opening.{Opening}
 use Rattle.farm_entry.specs.declared.refusal.OpenFault.{OpenFault}
-use Rattle.farm_entry.specs.declared.refusal.Refusal.TheVariants.{BadOpen, Full, KeyClash}
+use Rattle.farm_entry.specs.declared.refusal.Refusal.TheVariants.{BadOpen, Closed, Full, KeyClash}
 use Rattle.decision_laws.specs.Causes.{IsNew, IsTaken, IsWellFormed, IsWithinLimits, run_told}
 use Rattle.farm_laws.proofs.Stepped.{map-none}
 
--- Which part of a decision speaks: the shape, the key or the run, the room, or the command's own case.
+-- Which part of a decision speaks: the shape, the key or the run, that the history takes no more, or the command's own
+-- case.
 pub data Speaks (H : List Entry) (q : Command) (m : Moment) (d : Decision) : Type 0 where
   shape : shape_decision q ≡ Some d → Speaks H q m d
   known : shape_decision q ≡ None → known_decision H q ≡ Some d → Speaks H q m d
@@ -260,65 +262,83 @@ known-says H command.ShowOrders d h = absurd (none-some d h)
 known-says H (command.ShowRuns search from) d h = absurd (none-some d h)
 known-says H (command.ShowSearches from) d h = absurd (none-some d h)
 
--- The room.
+-- The room, and whether the farm is closed.
 
--- what the room says: that the history is full, to a command that would add
-pub record FullSays (H : List Entry) (q : Command) (d : Decision) : Type 0 where
-  pub no_room : MAX_ENTRIES ≤ length H
-  pub adds : is_show q ≡ false
-  pub is : Refuse Full ≡ d
+-- what is said to a command that would add: that the history is full, or else that the farm is closed
+pub data FullSays (H : List Entry) (q : Command) (d : Decision) : Type 0 where
+  says_full : MAX_ENTRIES ≤ length H → is_show q ≡ false → Refuse Full ≡ d → FullSays H q d
+  says_closed : length H < MAX_ENTRIES → is_closed H ≡ true → is_show q ≡ false → Refuse Closed ≡ d → FullSays H q d
 
-full_where : (n : ℕ) (d : Decision) (b s : Bool) → nat_le MAX_ENTRIES n ≡ b →
-    (if b && not s then Some (Refuse Full) else None) ≡ Some d →
-    (MAX_ENTRIES ≤ n) × (s ≡ false) × (Refuse Full ≡ d)
-full_where n d true false e h = (grind (arith, nat_tests), refl, cc)
-full_where n d true true e h = absurd (none-some d h)
-full_where n d false true e h = absurd (none-some d h)
-full_where n d false false e h = absurd (none-some d h)
+-- the test for room, and then the one for a closing
+abbrev shut_by : (many closed show : Bool) → Option Decision
+shut_by many closed show =
+    if many && not show then Some (Refuse Full) else (if closed && not show then Some (Refuse Closed) else None)
+
+full_where : (H : List Entry) (q : Command) (d : Decision) (b c s : Bool) → nat_le MAX_ENTRIES (length H) ≡ b →
+    is_closed H ≡ c → is_show q ≡ s → shut_by b c s ≡ Some d → FullSays H q d
+full_where H q d true c false many closed shows h = says_full (leb-true _ _ many) shows cc
+full_where H q d true true true many closed shows h = absurd (none-some d h)
+full_where H q d true false true many closed shows h = absurd (none-some d h)
+full_where H q d false true false many closed shows h =
+    says_closed (let below : length H < MAX_ENTRIES = grind (arith, nat_tests) in below) closed shows cc
+full_where H q d false true true many closed shows h = absurd (none-some d h)
+full_where H q d false false false many closed shows h = absurd (none-some d h)
+full_where H q d false false true many closed shows h = absurd (none-some d h)
 
 pub full-says : (H : List Entry) (q : Command) (d : Decision) → full_decision H q ≡ Some d → FullSays H q d
-full-says H q d h =
-    let f = full_where (length H) d (nat_le MAX_ENTRIES (length H)) (is_show q) refl h in
-    record { no_room = f.0; adds = f.1; is = f.2 }
+full-says H q d h = full_where H q d (nat_le MAX_ENTRIES (length H)) (is_closed H) (is_show q) refl refl refl h
 
-room_where : (n : ℕ) (b s : Bool) → nat_le MAX_ENTRIES n ≡ b → (if b && not s then Some
-    (Refuse Full) else None) ≡ None →
-    (n < MAX_ENTRIES) ⊎ (s ≡ true)
-room_where n true true e h = inr refl
-room_where n true false e h = absurd (none-some (Refuse Full) (sym h))
-room_where n false s e h = inl (grind (arith, nat_tests))
+-- there is room, and the farm isn't closed
+abbrev HasRoom : List Entry → Type 0
+HasRoom H = (length H < MAX_ENTRIES) × (is_closed H ≡ false)
 
--- where the room says nothing there is room, or nothing is added
-pub has-room : (H : List Entry) (q : Command) → full_decision H q ≡ None → (length H < MAX_ENTRIES) ⊎ (is_show q ≡ true)
-has-room H q h = room_where (length H) (nat_le MAX_ENTRIES (length H)) (is_show q) refl h
+room_where : (H : List Entry) (b c s : Bool) → nat_le MAX_ENTRIES (length H) ≡ b → is_closed H ≡ c →
+    shut_by b c s ≡ None → HasRoom H ⊎ (s ≡ true)
+room_where H b c true many closed h = inr refl
+room_where H true c false many closed h = absurd (none-some (Refuse Full) (sym h))
+room_where H false true false many closed h = absurd (none-some (Refuse Closed) (sym h))
+room_where H false false false many closed h =
+    let below : length H < MAX_ENTRIES = grind (arith, nat_tests) in inl (below, closed)
+
+-- where nothing of it is said there is room and the farm isn't closed, or nothing is added
+pub has-room : (H : List Entry) (q : Command) → full_decision H q ≡ None → HasRoom H ⊎ (is_show q ≡ true)
+has-room H q h = room_where H (nat_le MAX_ENTRIES (length H)) (is_closed H) (is_show q) refl refl h
 
 -- and back
-not_full : (n : ℕ) (s : Bool) → n < MAX_ENTRIES → (if nat_le MAX_ENTRIES n && not s then Some
-    (Refuse Full) else None) ≡ None
-not_full n s below =
+not_full : (n : ℕ) (c s : Bool) → n < MAX_ENTRIES → c ≡ false → shut_by (nat_le MAX_ENTRIES n) c s ≡ None
+not_full n c s below unclosed =
     let test : nat_le MAX_ENTRIES n ≡ false = grind (arith, nat_tests) in
-    ap (λ (b : Bool). if b && not s then Some (Refuse Full) else None) test
+    ap (λ (b : Bool). shut_by b c s) test ∙ ap (λ (b : Bool). shut_by false b s) unclosed
 
-shows_all : (b : Bool) → (if b && not true then Some (Refuse Full) else None) ≡ None
-shows_all true = refl
-shows_all false = refl
+shows_all : (b c : Bool) → shut_by b c true ≡ None
+shows_all true true = refl
+shows_all true false = refl
+shows_all false true = refl
+shows_all false false = refl
 
-pub full-none : (H : List Entry) (q : Command) → (length H < MAX_ENTRIES) ⊎ (is_show q ≡ true) →
-    full_decision H q ≡ None
+pub full-none : (H : List Entry) (q : Command) → HasRoom H ⊎ (is_show q ≡ true) → full_decision H q ≡ None
 full-none H q room =
     ⊎_elim
-    (λ (below : length H < MAX_ENTRIES). not_full (length H) (is_show q) below)
+    (λ (both : HasRoom H). not_full (length H) (is_closed H) (is_show q) both.0 both.1)
     (λ (shows : is_show q ≡ true).
-    ap (λ (s : Bool). if nat_le MAX_ENTRIES (length H) && not s then Some (Refuse Full) else None) shows
-    ∙ shows_all (nat_le MAX_ENTRIES (length H)))
+    ap (λ (s : Bool). shut_by (nat_le MAX_ENTRIES (length H)) (is_closed H) s) shows
+    ∙ shows_all (nat_le MAX_ENTRIES (length H)) (is_closed H))
     room
 
 pub full-some : (H : List Entry) (q : Command) → MAX_ENTRIES ≤ length H → is_show q ≡ false →
     full_decision H q ≡ Some (Refuse Full)
 full-some H q many adds =
     let test : nat_le MAX_ENTRIES (length H) ≡ true = grind (arith, nat_tests) in
-    ap (λ (s : Bool). if nat_le MAX_ENTRIES (length H) && not s then Some (Refuse Full) else None) adds
-    ∙ ap (λ (b : Bool). if b && not false then Some (Refuse Full) else None) test
+    ap (λ (s : Bool). shut_by (nat_le MAX_ENTRIES (length H)) (is_closed H) s) adds
+    ∙ ap (λ (b : Bool). shut_by b (is_closed H) false) test
+
+pub closed-some : (H : List Entry) (q : Command) → length H < MAX_ENTRIES → is_closed H ≡ true → is_show q ≡ false →
+    full_decision H q ≡ Some (Refuse Closed)
+closed-some H q below closed adds =
+    let test : nat_le MAX_ENTRIES (length H) ≡ false = grind (arith, nat_tests) in
+    ap (λ (s : Bool). shut_by (nat_le MAX_ENTRIES (length H)) (is_closed H) s) adds
+    ∙ ap (λ (b : Bool). shut_by b (is_closed H) false) test
+    ∙ ap (λ (c : Bool). shut_by false c false) closed
 
 -- Taken together: a command that is taken is decided by its own case, and one that is decided so was taken.
 

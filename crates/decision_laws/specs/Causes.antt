@@ -1,7 +1,7 @@
 -- What a history holds where a command is refused, said without the order in which the farm looks at things: the cause
 -- of each refusal.
 use Rattle.std.specs.Prelude.{◌≡◌, ℕ, ◌<◌, ◌≤◌, ◌⊎◌, true, false, List, length, slice_get, Contains, Option, Some, None, Ok, Err}
-use Rattle.farm_rules.specs.Orders.{orders_of}
+use Rattle.farm_rules.specs.Orders.{Ordered, orders_of}
 use Rattle.farm_types.specs.Moment.{moment_ms}
 use Rattle.farm_types.specs.declared.commit_id.CommitId.{CommitId}
 use Rattle.farm_types.specs.declared.key.Key.{Key}
@@ -9,7 +9,7 @@ use Rattle.farm_types.specs.declared.moment.Moment.{Moment}
 use Rattle.farm_entry.specs.Ask.{opening_of}
 use Rattle.farm_entry.specs.Decision.{is_show, key_of, moment_used}
 use Rattle.farm_entry.specs.Due.{due}
-use Rattle.farm_entry.specs.History.{daily_limit, key_in, lease_of, opening_numbered, openings, order_lines, place_of_key, place_of_report}
+use Rattle.farm_entry.specs.History.{daily_limit, is_closed, key_in, lease_of, opening_numbered, openings, place_of_key, place_of_report}
 use Rattle.farm_entry.specs.Legal.{command_of}
 use Rattle.farm_entry.specs.Orders.{day_in, orders}
 use Rattle.farm_entry.specs.Setup.{commit_of}
@@ -20,10 +20,9 @@ use Rattle.farm_entry.specs.declared.command.OpenAsk.{OpenAsk}
 use Rattle.farm_entry.specs.declared.entry.Entry.{Entry}
 use Rattle.farm_entry.specs.declared.limits.TheConstants.{MAX_ENTRIES, MAX_SEARCHES}
 use Rattle.farm_entry.specs.declared.opening.Opening.{Opening}
-use Rattle.farm_entry.specs.declared.order_page.OrderLine.{OrderLine}
 use Rattle.farm_entry.specs.declared.refusal.OpenFault.{OpenFault}
 use Rattle.farm_entry.specs.declared.refusal.Refusal.{Refusal}
-use Rattle.farm_entry.specs.declared.refusal.Refusal.TheVariants.{BadOpen, KeyClash, Full, TooManySearches, NoRun, UnknownRun, UnknownSearch, SearchEnded, NoRevert, DailyLimit}
+use Rattle.farm_entry.specs.declared.refusal.Refusal.TheVariants.{BadOpen, KeyClash, Full, Closed, TooManySearches, NoRun, UnknownRun, UnknownSearch, SearchEnded, NoRevert, DailyLimit}
 use Rattle.farm_entry.specs.declared.standing.Standing.{Standing}
 use Rattle.farm_entry.specs.declared.standing.Standing.TheVariants.{Confirmed}
 
@@ -47,10 +46,10 @@ pub record IsNew (H : List Entry) (q : Command) : Type 0 where
   pub key : (key : Key) → key_of q ≡ Some key → place_of_key H key ≡ None
   pub run : (run : ℕ) → run_told q ≡ Some run → place_of_report H run ≡ None
 
--- a command that is new comes to its own case: there is room for an entry, or it only shows
+-- a command that is new comes to its own case: there is room for an entry and the farm isn't closed, or it only shows
 pub record IsTaken (H : List Entry) (q : Command) : Type 0 where
   pub new : IsNew H q
-  pub room : (length H < MAX_ENTRIES) ⊎ (is_show q ≡ true)
+  pub room : ((length H < MAX_ENTRIES) × (is_closed H ≡ false)) ⊎ (is_show q ≡ true)
 
 -- The causes, one for each refusal.
 
@@ -87,6 +86,13 @@ pub record IsClash (H : List Entry) (q : Command) (place : ℕ) : Type 0 where
 pub record IsFull (H : List Entry) (q : Command) : Type 0 where
   pub new : IsNew H q
   pub no_room : MAX_ENTRIES ≤ length H
+  pub adds : is_show q ≡ false
+
+-- a command that would add an entry finds the farm closed, with room for one
+pub record IsRefusedClosed (H : List Entry) (q : Command) : Type 0 where
+  pub new : IsNew H q
+  pub room : length H < MAX_ENTRIES
+  pub closed : is_closed H ≡ true
   pub adds : is_show q ≡ false
 
 -- an open finds the most searches
@@ -128,9 +134,9 @@ pub record HasEnded (H : List Entry) (q : Command) (s : Standing) : Type 0 where
   pub stands : standing H opening ≡ s
   pub ended : is_active s ≡ false
 
--- a commit has an order
+-- a commit has an order, of this farm or of one before it
 abbrev pub IsOrdered : List Entry → CommitId → Type 0
-IsOrdered H commit = (x : OrderLine) × Contains (order_lines H) x × (x.commit ≡ commit)
+IsOrdered H commit = (x : Ordered) × Contains (orders H) x × (x.commit ≡ commit)
 
 -- each commit that was confirmed as a culprit has an order
 pub record HasNoRevert (H : List Entry) (q : Command) : Type 0 where
@@ -161,6 +167,7 @@ abbrev pub CauseOf : Refusal → List Entry → Command → Moment → Type 0
 CauseOf (BadOpen fault) H q m = IsOutside q fault
 CauseOf (KeyClash place) H q m = IsClash H q place
 CauseOf Full H q m = IsFull H q
+CauseOf Closed H q m = IsRefusedClosed H q
 CauseOf TooManySearches H q m = HasManySearches H q
 CauseOf NoRun H q m = HasNoRun H q m
 CauseOf (UnknownRun run) H q m = IsOfNoLease H q run

@@ -2,7 +2,7 @@
 ghost use Rattle.std.specs.Prelude.{◌≡◌, ◌↔◌, ℕ, List};
 ghost use Rattle.farm_entry.specs.Decision.{decide};
 ghost use Rattle.farm_entry.specs.Legal.{IsLegal};
-ghost use Rattle.decision_laws.specs.Causes.{CauseOf, HasEnded, HasManySearches, HasNoRevert, HasNoRun, IsClash, IsFull, IsOfNoLease, IsOfNoSearch, IsOutside, IsOverDay};
+ghost use Rattle.decision_laws.specs.Causes.{CauseOf, HasEnded, HasManySearches, HasNoRevert, HasNoRun, IsClash, IsFull, IsOfNoLease, IsOfNoSearch, IsOutside, IsOverDay, IsRefusedClosed};
 
 use farm_entry::{Command, Decision, Entry, Refusal};
 use farm_types::Moment;

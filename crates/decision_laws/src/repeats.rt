@@ -1,6 +1,7 @@
 //! When a command is answered as before.
-ghost use Rattle.std.specs.Prelude.{◌≡◌, ◌≢◌, ◌↔◌, ℕ, ◌≤◌, List, slice_get, Some};
+ghost use Rattle.std.specs.Prelude.{◌≡◌, ◌≢◌, ◌↔◌, ℕ, ◌≤◌, false, List, slice_get, Some, None};
 ghost use Rattle.farm_entry.specs.Decision.{decide};
+ghost use Rattle.farm_entry.specs.History.{carried_in, is_closing};
 ghost use Rattle.farm_entry.specs.Legal.{IsLegal, command_of};
 ghost use Rattle.decision_laws.specs.Causes.{AsksTheSame, IsWhat, run_told};
 ghost use Rattle.decision_laws.specs.Spelled.{IsSpelledOtherwise};
@@ -29,12 +30,16 @@ pub fn repeats_hold_for_all_that_ask_the_same()
         → decide H (Command.Open other) n ≡ Decision.Repeat place }
 {}
 
-/// Each entry past the founding names a command, which is answered by the entry's place at every moment. The founding
-/// is nobody's command: none is answered by its place, and no key is taken by it.
+/// Each entry past the founding names a command, which is answered by the entry's place at every moment, unless it is an
+/// order that was carried over or the closing. What names no command is nobody's command: none is answered by its
+/// place, and no key is taken by it. So it is with the founding, with carried orders and with a closing.
 pub fn entries_past_the_founding_are_repeated()
     ensures past { (H : List Entry) (place : ℕ) (e : Entry) → IsLegal H → slice_get H place ≡ Some e → 1 ≤ place
+        → carried_in e.what ≡ None → is_closing e.what ≡ false
         → (q : Command) × (command_of e.what ≡ Some q) × ((m : Moment) → decide H q m ≡ Decision.Repeat place) }
-    ensures no_repeat { (H : List Entry) (q : Command) (m : Moment) → IsLegal H → decide H q m ≢ Decision.Repeat 0 }
-    ensures no_clash { (H : List Entry) (q : Command) (m : Moment) → IsLegal H
-        → decide H q m ≢ Decision.Refuse (Refusal.KeyClash 0) }
+    ensures no_repeat { (H : List Entry) (place : ℕ) (e : Entry) (q : Command) (m : Moment) → IsLegal H
+        → slice_get H place ≡ Some e → command_of e.what ≡ None → decide H q m ≢ Decision.Repeat place }
+    ensures no_clash { (H : List Entry) (place : ℕ) (e : Entry) (q : Command) (m : Moment) → IsLegal H
+        → slice_get H place ≡ Some e → command_of e.what ≡ None
+        → decide H q m ≢ Decision.Refuse (Refusal.KeyClash place) }
 {}

@@ -8,7 +8,7 @@ use Rattle.farm_types.specs.declared.key.Key.{Key}
 use Rattle.farm_types.specs.declared.moment.Moment.{Moment}
 use Rattle.farm_entry.specs.Ask.{opening_of}
 use Rattle.farm_entry.specs.Decision.{decide, last_moment, later, moment_used}
-use Rattle.farm_entry.specs.History.{has_key, is_key, key_in, opening_in, openings, place_of_key}
+use Rattle.farm_entry.specs.History.{has_key, is_closed, is_closing, is_key, key_in, opening_in, openings, place_of_key}
 use Rattle.farm_entry.specs.declared.command.Command.TheVariants.{Open}
 use Rattle.farm_entry.specs.declared.command.OpenAsk.{OpenAsk}
 use Rattle.farm_entry.specs.declared.decision.Decision.TheVariants.{New}
@@ -40,6 +40,9 @@ opened-is n e h = ap (λ (x : Entry). opening_in x.what) h.2
 opened-at : (n : ℕ) (e : Entry) → IsOpened n e → e.at ≡ drill_moment
 opened-at n e h = ap (λ (x : Entry). x.at) h.2
 
+opened-unclosing : (n : ℕ) (e : Entry) → IsOpened n e → is_closing e.what ≡ false
+opened-unclosing n e h = ap (λ (x : Entry). is_closing x.what) h.2
+
 has-not : (n s : ℕ) (e : Entry) → IsOpened n e → n < s → has_key (record { 0 = s }) e ≡ false
 has-not n s e h below =
     let other : n == s ≡ false = grind (arith, nat_tests) in
@@ -58,6 +61,10 @@ each-opens from [] h = refl
 each-opens from (e ∷ es) h =
     ap (λ (o : Option Opening). length (cons_option o (openings es))) (opened-is from e h.0)
     ∙ ap suc (each-opens (from + 1) es h.1)
+
+none-closes : (from : ℕ) (es : List Entry) → AreOpened from es → is_closed es ≡ false
+none-closes from [] h = refl
+none-closes from (e ∷ es) h = rw (opened-unclosing from e h.0) (none-closes (from + 1) es h.1)
 
 all-then : (m : Moment) (from : ℕ) (es : List Entry) → AreOpened from es → m ≡ drill_moment → last_moment m es ≡ drill_moment
 all-then m from [] h is = is
@@ -83,12 +90,13 @@ later-same last is = ap (λ (m : Moment). later m drill_moment) is
 moment-same : (H : List Entry) → last_moment drill_moment H ≡ drill_moment → moment_used H drill_moment ≡ drill_moment
 moment-same H is = later-same (last_moment drill_moment H) is
 
--- The decision on an open whose key is new, while there is room.
+-- The decision on an open whose key is new, while there is room and the farm isn't closed.
 decided : (H : List Entry) (ask : OpenAsk) (m : Moment) (shaped o : Opening) → opening_of ask 0 ≡ Ok shaped
-    → place_of_key H ask.key ≡ None → nat_le MAX_ENTRIES (length H) ≡ false
+    → place_of_key H ask.key ≡ None → nat_le MAX_ENTRIES (length H) ≡ false → is_closed H ≡ false
     → nat_le MAX_SEARCHES (length (openings H)) ≡ false → moment_used H m ≡ m
     → opening_of ask (length (openings H) + 1) ≡ Ok o → decide H (Open ask) m ≡ New (record { at = m; what = Opened o })
-decided H ask m shaped o shape key entries searches at is = rw (shape, key, entries, searches, at, is) refl
+decided H ask m shaped o shape key entries unclosed searches at is =
+    rw (shape, key, entries, unclosed, searches, at, is) refl
 
 record IsTaken (before : ℕ) (H : List Entry) : Type 0 where
   pub entry : Entry
@@ -117,7 +125,8 @@ taken-at before es opened all few =
     record {
       entry = entry;
       opened = made;
-      taken = decided H (planned_ask s) drill_moment a.opening b.opening a.is none entries searches at is;
+      taken = decided H (planned_ask s) drill_moment a.opening b.opening a.is none entries
+          (none-closes 1 es opened) searches at is;
       start = record {
         openings = es ++ entry ∷ [];
         opened = one-more 1 es entry opened (moved s (1 + length es) entry (omega arith) made);

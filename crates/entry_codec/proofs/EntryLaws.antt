@@ -13,13 +13,13 @@ use Rattle.farm_entry.specs.declared.entry.Entry.{Entry}
 use Rattle.farm_entry.specs.declared.entry.Fate.{Fate}
 use Rattle.farm_entry.specs.declared.entry.SkipFate.{SkipFate}
 use Rattle.farm_entry.specs.declared.entry.What.{What}
-use Rattle.farm_entry.specs.declared.entry.What.TheVariants.{Founded, Opened, Leased, Reported, Skipped, Cancelled, Ordered}
+use Rattle.farm_entry.specs.declared.entry.What.TheVariants.{Founded, Opened, Leased, Reported, Skipped, Cancelled, Ordered, Carried, Closed}
 use Rattle.farm_entry.specs.declared.opening.Opening.{Opening}
 use Rattle.farm_entry.specs.declared.settings.Settings.{Settings}
 use Rattle.entry_codec.specs.Grammar.{HasSpelling, IsOpening}
 use Rattle.entry_codec.specs.Spelling.{entry_bytes, fate_mark, fields_of, name_bytes, number_bytes, opening_bytes, opening_tag, settings_bytes, skip_fate_mark, stage_mark, tag_of, verdict_mark}
-use Rattle.entry_codec.specs.Reading.{cancelled_at, entry_at, founded_at, leased_at, opened_at, ordered_at, reported_at, skipped_at, what_at}
-use Rattle.entry_codec.specs.declared.marks.TheConstants.{CANCELLED_TAG, FOUNDED_TAG, LEASED_TAG, OPENED_TAG, OPENED_WITH_MISS_TAG, ORDERED_TAG, REPORTED_TAG, SKIPPED_TAG}
+use Rattle.entry_codec.specs.Reading.{cancelled_at, carried_at, closed_at, entry_at, founded_at, leased_at, opened_at, ordered_at, reported_at, skipped_at, what_at}
+use Rattle.entry_codec.specs.declared.marks.TheConstants.{CANCELLED_TAG, CARRIED_TAG, CLOSED_TAG, FOUNDED_TAG, LEASED_TAG, OPENED_TAG, OPENED_WITH_MISS_TAG, ORDERED_TAG, REPORTED_TAG, SKIPPED_TAG}
 use Rattle.entry_codec.proofs.FieldLaws.{IsRead, Took, after, joined, number-again, number_is_read, some_is, step}
 use Rattle.entry_codec.proofs.PartLaws.{fate_is_read, id_is_read, key_is_read, moment_is_read, name_is_read, settings_is_read, skip_fate_is_read, stage_is_read, verdict_is_read}
 use Rattle.entry_codec.proofs.OpeningLaws.{IsOpeningAt, opening_is_read}
@@ -241,6 +241,35 @@ ordered-again key agent order commit search day rest fits =
       number-again 4 day rest fits.4,
     ) refl
 
+carried-take : (bytes : List ℕ) (what : What) (rest : List ℕ) → IsBytes bytes → carried_at bytes ≡ Some (what, rest) →
+    Read CARRIED_TAG bytes what rest
+unfolding carried_at
+carried-take bytes what rest fits e =
+    after (step id_is_read fits e) (λ commit r1 t1 e1.
+    after (step (number_is_read 4) t1.rest_bytes e1) (λ day r2 t2 e2.
+    let p2 = joined bytes _ r1 _ r2 t1.parts t2.parts in
+    subst (λ (p : What × List ℕ). Read CARRIED_TAG bytes p.0 p.1) (some_is _ _ e2)
+    (record { fits = record { spelled = t2.fits; tag_is = refl }; parts = p2; rest_bytes = t2.rest_bytes })))
+
+carried-again : (commit : CommitId) (day : ℕ) (rest : List ℕ) → day < 2 ^ 32 →
+    carried_at (fields_of (Carried commit day) ++ rest) ≡ Some (Carried commit day, rest)
+unfolding carried_at
+carried-again commit day rest fits =
+    let day_on : List ℕ = number_bytes 4 day ++ rest in
+    ap carried_at (append_assoc (id_bytes commit) (number_bytes 4 day) rest)
+    ∙ rw (id_is_read.again commit day_on tt, number-again 4 day rest fits) refl
+
+closed-take : (bytes : List ℕ) (what : What) (rest : List ℕ) → IsBytes bytes → closed_at bytes ≡ Some (what, rest) →
+    Read CLOSED_TAG bytes what rest
+unfolding closed_at
+closed-take bytes what rest fits e =
+    subst (λ (p : What × List ℕ). Read CLOSED_TAG bytes p.0 p.1) (some_is _ _ e)
+    (record { fits = record { spelled = tt; tag_is = refl }; parts = refl; rest_bytes = fits })
+
+closed-again : (rest : List ℕ) → closed_at rest ≡ Some (Closed, rest)
+unfolding closed_at
+closed-again rest = refl
+
 -- what stands after a tag
 
 -- a choice, by its test
@@ -274,7 +303,13 @@ what-take tag bytes what rest fits e = elim (chosen (nat_eq tag FOUNDED_TAG) _ _
               | inl h ↦ of_kind tag OPENED_WITH_MISS_TAG bytes what rest h.0 (opened-take true bytes what rest fits h.1)
               | inr h ↦ elim (chosen (nat_eq tag SKIPPED_TAG) _ _ _ h.1) [
                 | inl k ↦ of_kind tag SKIPPED_TAG bytes what rest k.0 (skipped-take bytes what rest fits k.1)
-                | inr k ↦ absurd (cc)
+                | inr k ↦ elim (chosen (nat_eq tag CLOSED_TAG) _ _ _ k.1) [
+                  | inl l ↦ of_kind tag CLOSED_TAG bytes what rest l.0 (closed-take bytes what rest fits l.1)
+                  | inr l ↦ elim (chosen (nat_eq tag CARRIED_TAG) _ _ _ l.1) [
+                    | inl m ↦ of_kind tag CARRIED_TAG bytes what rest m.0 (carried-take bytes what rest fits m.1)
+                    | inr m ↦ absurd (cc)
+                  ]
+                ]
               ]
             ]
           ]
@@ -312,6 +347,8 @@ what_of-again (Skipped run outcome) rest fits = skipped-again run outcome rest f
 what_of-again (Cancelled key search) rest fits = cancelled-again key search rest fits
 what_of-again (Ordered key agent order commit search day) rest fits =
     ordered-again key agent order commit search day rest fits
+what_of-again (Carried commit day) rest fits = carried-again commit day rest fits
+what_of-again Closed rest fits = closed-again rest
 
 what-again : (tag : ℕ) (what : What) (rest : List ℕ) → IsTagged tag what →
     what_at tag (fields_of what ++ rest) ≡ Some (what, rest)
@@ -355,6 +392,8 @@ small-tag (Reported run verdict _) = omega arith
 small-tag (Skipped run _) = omega arith
 small-tag (Cancelled key search) = omega arith
 small-tag (Ordered key agent order commit search day) = omega arith
+small-tag (Carried commit day) = omega arith
+small-tag Closed = omega arith
 
 entry-again : (entry : Entry) (rest : List ℕ) → IsSpelled entry →
     entry_at (entry_bytes entry ++ rest) ≡ Some (entry, rest)

@@ -5,7 +5,7 @@ use Rattle.std.proofs.lemmas.List.Elements.{All-from_recursion, Contains-get_or,
 use Rattle.farm_entry.specs.History.{opening_in, openings}
 use Rattle.farm_entry.specs.declared.entry.Entry.{Entry}
 use Rattle.farm_entry.specs.declared.entry.What.{What}
-use Rattle.farm_entry.specs.declared.entry.What.TheVariants.{Founded, Opened, Leased, Reported, Skipped, Cancelled, Ordered}
+use Rattle.farm_entry.specs.declared.entry.What.TheVariants.{Founded, Opened, Leased, Reported, Skipped, Cancelled, Ordered, Carried, Closed}
 use Rattle.farm_entry.specs.declared.opening.Opening.{Opening}
 use Rattle.entry_codec.specs.Grammar.{AreSpelled, HasSpelling, IsOpenedWithin, IsWithinLimits}
 
@@ -19,6 +19,8 @@ split (Reported run verdict _) others h = (tt, h)
 split (Skipped run _) others h = (tt, h)
 split (Cancelled key search) others h = (tt, h)
 split (Ordered key agent order commit search day) others h = (tt, h)
+split (Carried commit day) others h = (tt, h)
+split Closed others h = (tt, h)
 
 tell : (entries : List Entry) → AllByRecursion IsOpenedWithin (openings entries) →
     AllByRecursion (λ (entry : Entry). IsWithinLimits entry.what) entries
@@ -42,6 +44,8 @@ within (Reported run verdict _) h = tt
 within (Skipped run _) h = tt
 within (Cancelled key search) h = tt
 within (Ordered key agent order commit search day) h = tt
+within (Carried commit day) h = tt
+within Closed h = tt
 
 pub within-from_spelled : (entries : List Entry) → AreSpelled entries → All (λ (entry : Entry). IsWithinLimits entry.what) entries
 within-from_spelled entries h = λ k d lt. within (slice_index_or entries k d).what (h k d lt)

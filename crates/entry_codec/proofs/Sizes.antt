@@ -1,5 +1,5 @@
 -- How many bytes entries have.
-use Rattle.std.proofs.Common.{◌≡◌, ℕ, ◌+◌, ◌*◌, ◌≤◌, nat_eq, List, [], ◌∷◌, ◌++◌, length, refl, arith, inl, inr}
+use Rattle.std.proofs.Common.{◌≡◌, ℕ, ◌+◌, ◌*◌, ◌≤◌, nat_eq, List, [], ◌∷◌, ◌++◌, length, refl, ◌∙◌, arith, inl, inr}
 use Rattle.std.specs.List.{AllByRecursion, flat_map}
 use Rattle.std.proofs.lemmas.Bool.{cases_Bool}
 use Rattle.std.proofs.lemmas.List.{length-append}
@@ -12,8 +12,9 @@ use Rattle.farm_types.specs.declared.commit_id.CommitId.{CommitId}
 use Rattle.suspect_range.specs.declared.suspect.Suspect.{Suspect}
 use Rattle.farm_entry.specs.declared.entry.Entry.{Entry}
 use Rattle.farm_entry.specs.declared.entry.What.{What}
-use Rattle.farm_entry.specs.declared.entry.What.TheVariants.{Founded, Opened, Leased, Reported, Skipped, Cancelled, Ordered}
+use Rattle.farm_entry.specs.declared.entry.What.TheVariants.{Founded, Opened, Leased, Reported, Skipped, Cancelled, Ordered, Carried, Closed}
 use Rattle.farm_entry.specs.declared.opening.Opening.{Opening}
+use Rattle.farm_entry.specs.declared.settings.Settings.{Settings}
 use Rattle.entry_codec.specs.Grammar.{AreSpelled, HasSpelling, IsOpening}
 use Rattle.entry_codec.specs.Spelling.{entry_bytes, fields_of, miss_bytes, number_bytes, opening_bytes, spelling, suspect_bytes, tag_of}
 use Rattle.entry_codec.specs.declared.limits.TheConstants.{MAX_ENTRY_BYTES}
@@ -56,16 +57,8 @@ fields-short (Skipped run _) h = simp (length-append, length-number_bytes) (omeg
 fields-short (Cancelled key search) h = simp (length-append, length-number_bytes) (omega arith)
 fields-short (Ordered key agent order commit search day) h =
     simp (length-append, length-number_bytes, length-id_bytes) (omega (arith, h.1.few))
-
-fields-long : (what : What) → 5 ≤ length (fields_of what)
-fields-long (Founded settings) = simp (length-append, length-number_bytes) (omega arith)
-fields-long (Opened o) = simp (length-append, length-number_bytes) (omega arith)
-fields-long (Leased key worker run search stage position deadline) =
-    simp (length-append, length-number_bytes) (omega arith)
-fields-long (Reported run verdict _) = simp (length-append, length-number_bytes) (omega arith)
-fields-long (Skipped run _) = simp (length-append, length-number_bytes) (omega arith)
-fields-long (Cancelled key search) = simp (length-append, length-number_bytes) (omega arith)
-fields-long (Ordered key agent order commit search day) = simp (length-append, length-number_bytes) (omega arith)
+fields-short (Carried commit day) h = simp (length-append, length-number_bytes, length-id_bytes) (omega arith)
+fields-short Closed h = omega arith
 
 length-entry_bytes : (e : Entry) → length (entry_bytes e) ≡ 9 + length (fields_of e.what)
 length-entry_bytes e =
@@ -79,8 +72,18 @@ length-entry_bytes e =
       length-number_bytes 1 (tag_of e.what),
     )
 
-pub entry-long : (e : Entry) → 14 ≤ length (entry_bytes e)
-entry-long e = omega (arith, length-entry_bytes e, fields-long e.what)
+pub entry-long : (e : Entry) → 9 ≤ length (entry_bytes e)
+entry-long e = omega (arith, length-entry_bytes e)
+
+-- a founding, and an order that was carried over
+pub founded-length : (e : Entry) (settings : Settings) → e.what ≡ Founded settings → length (entry_bytes e) ≡ 17
+founded-length e settings is =
+    length-entry_bytes e ∙ rw is (simp (length-append, length-number_bytes) refl)
+
+pub carried-length : (e : Entry) (commit : CommitId) (day : ℕ) → e.what ≡ Carried commit day →
+    length (entry_bytes e) ≡ 33
+carried-length e commit day is =
+    length-entry_bytes e ∙ rw is (simp (length-append, length-number_bytes, length-id_bytes) refl)
 
 pub entry-short : (e : Entry) → IsSpelled e → length (entry_bytes e) ≤ MAX_ENTRY_BYTES
 entry-short e h = omega (arith, length-entry_bytes e, fields-short e.what h)

@@ -5,7 +5,7 @@ use Rattle.farm_types.specs.Limits.{IsName}
 use Rattle.suspect_range.specs.Range.{IsSuspectRange}
 use Rattle.farm_entry.specs.declared.entry.Entry.{Entry}
 use Rattle.farm_entry.specs.declared.entry.What.{What}
-use Rattle.farm_entry.specs.declared.entry.What.TheVariants.{Founded, Opened, Leased, Reported, Skipped, Cancelled, Ordered}
+use Rattle.farm_entry.specs.declared.entry.What.TheVariants.{Founded, Opened, Leased, Reported, Skipped, Cancelled, Ordered, Carried, Closed}
 use Rattle.weight_exact.specs.declared.limits.TheConstants.{MAX_WIDTH}
 use Rattle.farm_entry.specs.declared.limits.TheConstants.{MAX_RERUNS}
 use Rattle.farm_entry.specs.declared.opening.Opening.{Opening}
@@ -43,6 +43,8 @@ HasSpelling (Skipped run _) = run < 2 ^ 32
 HasSpelling (Cancelled key search) = (key.0 < 2 ^ 128) × (search < 2 ^ 32)
 HasSpelling (Ordered key agent order commit search day) =
     (key.0 < 2 ^ 128) × IsName agent × (order < 2 ^ 32) × (search < 2 ^ 32) × (day < 2 ^ 32)
+HasSpelling (Carried commit day) = day < 2 ^ 32
+HasSpelling Closed = ⊤
 
 -- entries that have a spelling
 abbrev pub AreSpelled : List Entry → Type 0

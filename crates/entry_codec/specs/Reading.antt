@@ -18,13 +18,13 @@ use Rattle.farm_entry.specs.declared.entry.Entry.{Entry}
 use Rattle.farm_entry.specs.declared.entry.Fate.{Fate}
 use Rattle.farm_entry.specs.declared.entry.SkipFate.{SkipFate}
 use Rattle.farm_entry.specs.declared.entry.What.{What}
-use Rattle.farm_entry.specs.declared.entry.What.TheVariants.{Founded, Opened, Leased, Reported, Skipped, Cancelled, Ordered}
+use Rattle.farm_entry.specs.declared.entry.What.TheVariants.{Founded, Opened, Leased, Reported, Skipped, Cancelled, Ordered, Carried, Closed}
 use Rattle.weight_exact.specs.declared.limits.TheConstants.{MAX_WIDTH}
 use Rattle.farm_entry.specs.declared.limits.TheConstants.{MAX_RERUNS}
 use Rattle.farm_entry.specs.declared.opening.Opening.{Opening}
 use Rattle.farm_entry.specs.declared.settings.Settings.{Settings}
 use Rattle.entry_codec.specs.Values.{fate_of, fitting_miss, id_of, lowest_miss, lowest_rate, moment_of, name_of, range_of, settings_of, skip_fate_of, stage_of, up_to, verdict_of}
-use Rattle.entry_codec.specs.declared.marks.TheConstants.{CANCELLED_TAG, FOUNDED_TAG, LEASED_TAG, OPENED_TAG, OPENED_WITH_MISS_TAG, ORDERED_TAG, REPORTED_TAG, SKIPPED_TAG}
+use Rattle.entry_codec.specs.declared.marks.TheConstants.{CANCELLED_TAG, CARRIED_TAG, CLOSED_TAG, FOUNDED_TAG, LEASED_TAG, OPENED_TAG, OPENED_WITH_MISS_TAG, ORDERED_TAG, REPORTED_TAG, SKIPPED_TAG}
 
 -- what is read of some bytes, and what is made of that
 infixl 10 ◌>>=◌
@@ -224,6 +224,16 @@ ordered_at bytes = do
   day ← number_at 4 search.1
   Some (Ordered key.0 agent.0 order.0 commit.0 search.0 day.0, day.1)
 
+unfoldable pub carried_at : List ℕ → Option (What × List ℕ)
+carried_at bytes = do
+  commit ← id_at bytes
+  day ← number_at 4 commit.1
+  Some (Carried commit.0 day.0, day.1)
+
+-- (a closing has no fields)
+unfoldable pub closed_at : List ℕ → Option (What × List ℕ)
+closed_at bytes = Some (Closed, bytes)
+
 -- what stands after a tag
 unfoldable pub what_at : (tag : ℕ) → List ℕ → Option (What × List ℕ)
 what_at tag bytes =
@@ -235,6 +245,8 @@ what_at tag bytes =
     else if tag == ORDERED_TAG then ordered_at bytes
     else if tag == OPENED_WITH_MISS_TAG then opened_at true bytes
     else if tag == SKIPPED_TAG then skipped_at bytes
+    else if tag == CLOSED_TAG then closed_at bytes
+    else if tag == CARRIED_TAG then carried_at bytes
     else None
 
 unfoldable pub entry_at : List ℕ → Option (Entry × List ℕ)

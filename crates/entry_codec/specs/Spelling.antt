@@ -25,10 +25,10 @@ use Rattle.farm_entry.specs.declared.entry.Fate.TheVariants.{Counted, Late, Over
 use Rattle.farm_entry.specs.declared.entry.SkipFate.{SkipFate}
 use Rattle.farm_entry.specs.declared.entry.SkipFate.TheVariants as skip
 use Rattle.farm_entry.specs.declared.entry.What.{What}
-use Rattle.farm_entry.specs.declared.entry.What.TheVariants.{Founded, Opened, Leased, Reported, Skipped, Cancelled, Ordered}
+use Rattle.farm_entry.specs.declared.entry.What.TheVariants.{Founded, Opened, Leased, Reported, Skipped, Cancelled, Ordered, Carried, Closed}
 use Rattle.farm_entry.specs.declared.opening.Opening.{Opening}
 use Rattle.farm_entry.specs.declared.settings.Settings.{Settings}
-use Rattle.entry_codec.specs.declared.marks.TheConstants.{CANCELLED_TAG, COUNTED_MARK, FAIL_MARK, FOUNDED_TAG, LATE_MARK, LEASED_TAG, OPENED_TAG, OPENED_WITH_MISS_TAG, ORDERED_TAG, OVER_MARK, PASS_MARK, REPORTED_TAG, SEARCH_MARK, SKIPPED_TAG, TAKEN_MARK, VERIFY_MARK}
+use Rattle.entry_codec.specs.declared.marks.TheConstants.{CANCELLED_TAG, CARRIED_TAG, CLOSED_TAG, COUNTED_MARK, FAIL_MARK, FOUNDED_TAG, LATE_MARK, LEASED_TAG, OPENED_TAG, OPENED_WITH_MISS_TAG, ORDERED_TAG, OVER_MARK, PASS_MARK, REPORTED_TAG, SEARCH_MARK, SKIPPED_TAG, TAKEN_MARK, VERIFY_MARK}
 
 -- a number as so many bytes
 unfoldable pub number_bytes : (bytes number : ℕ) → List ℕ
@@ -109,6 +109,8 @@ tag_of (Reported run verdict _) = REPORTED_TAG
 tag_of (Skipped run _) = SKIPPED_TAG
 tag_of (Cancelled key search) = CANCELLED_TAG
 tag_of (Ordered key agent order commit search day) = ORDERED_TAG
+tag_of (Carried commit day) = CARRIED_TAG
+tag_of Closed = CLOSED_TAG
 
 -- what stands after the tag
 abbrev pub fields_of : What → List ℕ
@@ -125,6 +127,8 @@ fields_of (Cancelled key search) = number_bytes 16 key.0 ++ number_bytes 4 searc
 fields_of (Ordered key agent order commit search day) =
     number_bytes 16 key.0 ++ name_bytes agent ++ number_bytes 4 order ++ id_bytes commit ++ number_bytes 4 search
     ++ number_bytes 4 day
+fields_of (Carried commit day) = id_bytes commit ++ number_bytes 4 day
+fields_of Closed = []
 
 -- an entry: its moment in milliseconds, its tag, its fields
 abbrev pub entry_bytes : Entry → List ℕ

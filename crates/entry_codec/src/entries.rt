@@ -2,14 +2,14 @@
 
 ghost use Rattle.std.specs.Prelude.{◌≡◌};
 ghost use Rattle.entry_codec.specs.Gives.{Gives};
-ghost use Rattle.entry_codec.specs.Reading.{cancelled_at, entry_at, founded_at, leased_at, opened_at, opening_at, ordered_at};
+ghost use Rattle.entry_codec.specs.Reading.{cancelled_at, carried_at, entry_at, founded_at, leased_at, opened_at, opening_at, ordered_at};
 ghost use Rattle.entry_codec.specs.Reading.{reported_at, skipped_at, what_at};
 
 use crate::fault::Unread;
 use crate::fields::{u8_at, u16_at, u32_at, u64_at};
 use crate::marks::{
-    CANCELLED_TAG, FOUNDED_TAG, LEASED_TAG, OPENED_TAG, OPENED_WITH_MISS_TAG, ORDERED_TAG,
-    REPORTED_TAG, SKIPPED_TAG,
+    CANCELLED_TAG, CARRIED_TAG, CLOSED_TAG, FOUNDED_TAG, LEASED_TAG, OPENED_TAG,
+    OPENED_WITH_MISS_TAG, ORDERED_TAG, REPORTED_TAG, SKIPPED_TAG,
 };
 use crate::parts::{
     bar_at, fate_at, id_at, key_at, miss_at, moment_at, name_at, range_at, rate_at, settings_at,
@@ -137,8 +137,17 @@ fn ordered_at(alloc: Global, bytes: &[u8]) -> Result<(What, &[u8]), Unread>
     Ok((what, rest))
 }
 
+#[tactic(auto, unfolding(crate::specs::Reading::carried_at))]
+fn carried_at(bytes: &[u8]) -> Result<(What, &[u8]), Unread>
+    ensures { Gives (λ x. (x.0, x.1.now)) result (carried_at bytes.now) }
+{
+    let (commit, rest) = id_at(bytes)?;
+    let (day, rest) = u32_at(rest)?;
+    Ok((What::Carried { commit, day }, rest))
+}
+
 /// What stands after a tag.
-#[tactic(auto, unfolding(crate::specs::Reading::what_at))]
+#[tactic(auto, unfolding(crate::specs::Reading::what_at, crate::specs::Reading::closed_at))]
 fn what_at(alloc: Global, tag: u8, bytes: &[u8]) -> Result<(What, &[u8]), Unread>
     ensures { Gives (λ x. (x.0, x.1.now)) result (what_at tag bytes.now) }
 {
@@ -151,6 +160,8 @@ fn what_at(alloc: Global, tag: u8, bytes: &[u8]) -> Result<(What, &[u8]), Unread
         ORDERED_TAG => ordered_at(alloc, bytes),
         OPENED_WITH_MISS_TAG => opened_at(alloc, true, bytes),
         SKIPPED_TAG => skipped_at(bytes),
+        CLOSED_TAG => Ok((What::Closed, bytes)),
+        CARRIED_TAG => carried_at(bytes),
         _ => Err(Unread::Malformed),
     }
 }

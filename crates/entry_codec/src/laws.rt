@@ -7,9 +7,11 @@ ghost use Rattle.entry_codec.specs.Reading.{entry_at};
 ghost use Rattle.entry_codec.specs.Spelling.{entry_bytes, spelling};
 ghost use Rattle.entry_codec.specs.declared.limits.TheConstants.{MAX_ENTRY_BYTES};
 ghost use Rattle.farm_entry.specs.History.{openings};
+ghost use Rattle.farm_entry.specs.declared.entry.What.TheVariants.{Carried, Founded};
 ghost use Rattle.hex.specs.Hex.{IsBytes};
 
-use farm_entry::{Entry, Opening};
+use farm_entry::{Entry, Opening, Settings};
+use farm_types::CommitId;
 
 /// Reading and spelling are each other's inverse: what was spelled is read again, whatever stands after it, and what is
 /// read of some bytes is spelled there.
@@ -36,12 +38,17 @@ pub fn faults_are_unique()
         → bytes ≡ spelling entries → ⊥ }
 {}
 
-/// An entry has 14 to [`MAX_ENTRY_BYTES`](crate::MAX_ENTRY_BYTES) bytes, and entries at most as many times that.
+/// An entry has 9 to [`MAX_ENTRY_BYTES`](crate::MAX_ENTRY_BYTES) bytes, and entries at most as many times that. A
+/// founding has exactly 17, and an order that was carried over exactly 33.
 pub fn entries_are_short()
     ensures entry { (entry : Entry) → HasSpelling entry.what
-        → (14 ≤ length (entry_bytes entry)) × (length (entry_bytes entry) ≤ MAX_ENTRY_BYTES) }
+        → (9 ≤ length (entry_bytes entry)) × (length (entry_bytes entry) ≤ MAX_ENTRY_BYTES) }
     ensures entries { (entries : List Entry) → AreSpelled entries
         → length (spelling entries) ≤ length entries * MAX_ENTRY_BYTES }
+    ensures founded { (entry : Entry) (settings : Settings) → entry.what ≡ Founded settings
+        → length (entry_bytes entry) ≡ 17 }
+    ensures carried { (entry : Entry) (commit : CommitId) (day : ℕ) → entry.what ≡ Carried commit day
+        → length (entry_bytes entry) ≡ 33 }
 {}
 
 /// What a log page holds is the longest front that fits, of the entries from the first one that it is to hold.

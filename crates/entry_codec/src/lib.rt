@@ -6,7 +6,7 @@
 //! none.
 //!
 //! Where some bytes are no list of entries, the fault tells the exact offset at which they stop being one. An entry has
-//! 14 to `MAX_ENTRY_BYTES` bytes.
+//! 9 to `MAX_ENTRY_BYTES` bytes.
 //!
 //! The crate stands on `farm_entry` for the entries, on the crates of the values that these hold, whose own calls test
 //! each limit, on `byteorder` for the numbers, on `hex` for the word for bytes, and on `thiserror` for the texts of its
@@ -31,9 +31,9 @@ mod writing;
 pub use fault::CodecFault;
 pub use limits::{LOG_PAGE_BYTES, MAX_ENTRY_BYTES};
 pub use marks::{
-    CANCELLED_TAG, COUNTED_MARK, FAIL_MARK, FOUNDED_TAG, LATE_MARK, LEASED_TAG, OPENED_TAG,
-    OPENED_WITH_MISS_TAG, ORDERED_TAG, OVER_MARK, PASS_MARK, REPORTED_TAG, SEARCH_MARK,
-    SKIPPED_TAG, TAKEN_MARK, VERIFY_MARK,
+    CANCELLED_TAG, CARRIED_TAG, CLOSED_TAG, COUNTED_MARK, FAIL_MARK, FOUNDED_TAG, LATE_MARK,
+    LEASED_TAG, OPENED_TAG, OPENED_WITH_MISS_TAG, ORDERED_TAG, OVER_MARK, PASS_MARK, REPORTED_TAG,
+    SEARCH_MARK, SKIPPED_TAG, TAKEN_MARK, VERIFY_MARK,
 };
 pub use page::write_log_page;
 pub use reading::read_entries;

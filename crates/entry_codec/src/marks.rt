@@ -24,6 +24,12 @@ pub const OPENED_WITH_MISS_TAG: u8 = 7;
 /// The tag of a report of a run whose tree can't be tested.
 pub const SKIPPED_TAG: u8 = 8;
 
+/// The tag of the farm's closing.
+pub const CLOSED_TAG: u8 = 9;
+
+/// The tag of an order that was carried over from a farm before.
+pub const CARRIED_TAG: u8 = 10;
+
 /// A run that is to find the culprit.
 pub const SEARCH_MARK: u8 = 1;
 

@@ -10,9 +10,9 @@ ghost use Rattle.farm_types.specs.Limits.{IsName};
 ghost use Rattle.suspect_range.specs.Range.{IsSuspectRange};
 
 use crate::marks::{
-    CANCELLED_TAG, COUNTED_MARK, FAIL_MARK, FOUNDED_TAG, LATE_MARK, LEASED_TAG, OPENED_TAG,
-    OPENED_WITH_MISS_TAG, ORDERED_TAG, OVER_MARK, PASS_MARK, REPORTED_TAG, SEARCH_MARK,
-    SKIPPED_TAG, TAKEN_MARK, VERIFY_MARK,
+    CANCELLED_TAG, CARRIED_TAG, CLOSED_TAG, COUNTED_MARK, FAIL_MARK, FOUNDED_TAG, LATE_MARK,
+    LEASED_TAG, OPENED_TAG, OPENED_WITH_MISS_TAG, ORDERED_TAG, OVER_MARK, PASS_MARK, REPORTED_TAG,
+    SEARCH_MARK, SKIPPED_TAG, TAKEN_MARK, VERIFY_MARK,
 };
 use farm_entry::{Entry, Fate, Opening, Settings, SkipFate, What};
 use farm_types::{CommitId, Memory, Name, Stage, ZONE_MIN_MINUTES};
@@ -226,6 +226,8 @@ fn tag_of(what: &What) -> u8
         What::Skipped { .. } => SKIPPED_TAG,
         What::Cancelled { .. } => CANCELLED_TAG,
         What::Ordered { .. } => ORDERED_TAG,
+        What::Carried { .. } => CARRIED_TAG,
+        What::Closed => CLOSED_TAG,
     }
 }
 
@@ -283,6 +285,11 @@ fn put_fields(out: &mut Vec<u8>, what: &What) -> Result<(), Memory>
             put_u32(out, *search)?;
             put_u32(out, *day)
         }
+        What::Carried { commit, day } => {
+            put_id(out, *commit)?;
+            put_u32(out, *day)
+        }
+        What::Closed => Ok(()),
     }
 }
 

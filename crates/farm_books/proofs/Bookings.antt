@@ -14,7 +14,7 @@ use Rattle.farm_entry.specs.History.{all_leases, is_of_run, is_report_of, is_rep
 use Rattle.farm_entry.specs.Legal.{IsLegal}
 use Rattle.farm_entry.specs.declared.entry.Entry.{Entry}
 use Rattle.farm_entry.specs.declared.entry.What.{What}
-use Rattle.farm_entry.specs.declared.entry.What.TheVariants.{Founded, Opened, Leased, Reported, Skipped, Cancelled, Ordered}
+use Rattle.farm_entry.specs.declared.entry.What.TheVariants.{Founded, Opened, Leased, Reported, Skipped, Cancelled, Ordered, Carried, Closed}
 use Rattle.farm_entry.specs.declared.lease.LeasedRun.{LeasedRun}
 use Rattle.farm_entry.proofs.Growing.{all_leases-grow}
 use Rattle.farm_laws.proofs.EntryParts.{leased-facts, told-facts}
@@ -219,6 +219,8 @@ lease-not_told (Reported r v _) l h = absurd (none-some l h)
 lease-not_told (Skipped r _) l h = absurd (none-some l h)
 lease-not_told (Cancelled k q) l h = absurd (none-some l h)
 lease-not_told (Ordered k a n c q d) l h = absurd (none-some l h)
+lease-not_told (Carried c d) l h = absurd (none-some l h)
+lease-not_told Closed l h = absurd (none-some l h)
 
 told-not_lease : (w : What) (told : ℕ) → told_in w ≡ Some told → lease_in w ≡ None
 told-not_lease (Reported n v _) told h = refl
@@ -228,6 +230,8 @@ told-not_lease (Opened o) told h = absurd (none-some told h)
 told-not_lease (Leased k w n q t p d) told h = absurd (none-some told h)
 told-not_lease (Cancelled k q) told h = absurd (none-some told h)
 told-not_lease (Ordered k a n c q d) told h = absurd (none-some told h)
+told-not_lease (Carried c d) told h = absurd (none-some told h)
+told-not_lease Closed told h = absurd (none-some told h)
 
 -- the leases of a history with an entry that hands out none, or one
 same-leases : (H : List Entry) (e : Entry) → lease_in e.what ≡ None → all_leases (H ++ e ∷ []) ≡ all_leases H

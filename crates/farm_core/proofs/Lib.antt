@@ -2,4 +2,5 @@ pub mod Admissions
 pub mod Cuts
 pub mod Fronts
 pub mod Handed
+pub mod Named
 pub mod Crossing

@@ -1,7 +1,8 @@
 -- What preparing a command answers, by what the command comes to.
-use Rattle.std.specs.Prelude.{◌≡◌, ℕ, List, [], ◌∷◌, ◌++◌, length, Option, Some, None, Result, Ok, Err}
+use Rattle.std.specs.Prelude.{◌≡◌, ℕ, List, [], ◌∷◌, ◌++◌, length, slice_get, Option, Some, None, Result, Ok, Err}
 use Rattle.farm_types.specs.declared.moment.Moment.{Moment}
 use Rattle.farm_entry.specs.Decision.{decide}
+use Rattle.farm_entry.specs.Legal.{command_of}
 use Rattle.farm_entry.specs.Reply.{reply_at}
 use Rattle.farm_entry.specs.declared.decision.Decision.{Decision}
 use Rattle.farm_entry.specs.declared.decision.Decision.TheVariants as decision
@@ -13,6 +14,13 @@ use Rattle.farm_entry.specs.declared.reply.Reply.TheVariants.{Leased}
 use Rattle.farm_core.specs.declared.prepared.CoreFault.{CoreFault}
 use Rattle.farm_core.specs.declared.prepared.Prepared.{Prepared}
 use Rattle.farm_core.specs.declared.prepared.Prepared.TheVariants.{Repeat, Shown, New}
+
+-- the entry at a place is one that a command made
+pub record IsOfCommand (H : List Entry) (place : ℕ) : Type 0 where
+  pub entry : Entry
+  pub there : slice_get H place ≡ Some entry
+  pub command : Command
+  pub named : command_of entry.what ≡ Some command
 
 -- what a command that isn't refused is answered: the first reply to it again, what it shows, or its entry with the
 -- reply that the entry has when it comes next

@@ -58,18 +58,18 @@ impl Model for Farm {
 
 impl Farm {
     ghost use Rattle.std.specs.Prelude.{◌≡◌, ◌<◌, ◌-◌, ◌++◌, ◌∷◌, ◌↔◌, [], length, take, drop, slice_get, Some};
-    ghost use Rattle.std.specs.Prelude.{IsTrue, IfOk, IfErr, OnOk, OnErr};
+    ghost use Rattle.std.specs.Prelude.{true, is_some, IsTrue, IfOk, IfErr, OnOk, OnErr};
     ghost use Rattle.std.specs.Option.{option_map};
     ghost use Rattle.farm_entry.specs.Answer.{IsAnswer};
     ghost use Rattle.farm_entry.specs.Decision.{decide};
-    ghost use Rattle.farm_entry.specs.History.{opening_numbered};
-    ghost use Rattle.farm_entry.specs.Legal.{IsLegal, IsNext};
+    ghost use Rattle.farm_entry.specs.History.{is_closed, opening_numbered};
+    ghost use Rattle.farm_entry.specs.Legal.{IsLegal, IsNext, command_of};
     ghost use Rattle.farm_entry.specs.Pages.{totals};
     ghost use Rattle.farm_entry.specs.Playing.{after};
     ghost use Rattle.farm_entry.specs.Reply.{reply_at};
     ghost use Rattle.farm_entry.specs.Standing.{standing};
     ghost use Rattle.farm_core.specs.FarmFaults.{IsHalted, IsRefusedBy, IsUnfit};
-    ghost use Rattle.farm_core.specs.Outcome.{IsHandedOut, IsPrepared, IsRunAt, ready_after};
+    ghost use Rattle.farm_core.specs.Outcome.{IsHandedOut, IsOfCommand, IsPrepared, IsRunAt, ready_after};
 
     /// A farm that was founded with these settings at this moment: its history is that one entry.
     ///
@@ -112,6 +112,14 @@ impl Farm {
         ensures goes_on { IsLegal (self.now.history ++ self.now.ready) }
     {
         &self.kept.history()[..self.committed]
+    }
+
+    /// Whether the farm was closed, where nothing may be committed.
+    pub fn is_closed(&self) -> bool
+        requires { self.now.ready ≡ [] }
+        ensures { result ≡ is_closed self.now.history }
+    {
+        self.kept.is_closed()
     }
 
     /// What is counted of the history.
@@ -273,8 +281,8 @@ impl Farm {
         Ok(())
     }
 
-    /// Takes entries that came from elsewhere, one after the other, up to the first that may not come next. Nothing that
-    /// was ready before may be committed any more.
+    /// Takes entries that came from elsewhere, one after the other, up to the first that may not come next. Nothing
+    /// that was ready before may be committed any more.
     ///
     /// # Errors
     ///
@@ -356,21 +364,19 @@ impl Farm {
         is_next(self.alloc, &self.kept, entry)
     }
 
-    /// The reply of an entry past the founding, where nothing may be committed.
+    /// The reply of an entry that a command made, where nothing may be committed.
     fn repeat(&self, place: usize) -> Result<Reply, Memory>
         requires none_ready { self.now.ready ≡ [] }
-        requires later { 0 < place }
-        requires there { place < length self.now.history }
+        requires made { IsOfCommand self.now.history place }
         ensures { IfOk result (λ reply. reply_at self.now.history place ≡ Some reply) }
     {
         reply_of(&self.kept, place)
     }
 
-    /// The run that an entry past the founding hands out, if it does, where nothing may be committed.
+    /// The run that an entry that a command made hands out, if it does, where nothing may be committed.
     fn repeated_run(&self, place: usize) -> Option<LeasedRun>
         requires none_ready { self.now.ready ≡ [] }
-        requires later { 0 < place }
-        requires there { place < length self.now.history }
+        requires made { IsOfCommand self.now.history place }
         ensures { IsRunAt self.now.history place result }
     {
         run_at(&self.kept, place)
@@ -388,9 +394,9 @@ impl Farm {
         Ok(())
     }
 
-    /// The reply that the entry which may be committed next has then.
+    /// The reply that the entry which may be committed next has then, where a command makes it.
     fn next_reply(&self) -> Result<Reply, Memory>
-        requires { 0 < length self.now.ready }
+        requires { IsOfCommand (self.now.history ++ self.now.ready) (length self.now.history) }
         ensures { IfOk result
             (λ reply. reply_at (self.now.history ++ self.now.ready) (length self.now.history) ≡ Some reply) }
     {
@@ -401,6 +407,7 @@ impl Farm {
     fn prepare_new(&mut self, entry: Entry) -> Result<Reply, Memory>
         requires none_ready { self.old.ready ≡ [] }
         requires next { IsLegal (self.old.history ++ entry ∷ []) }
+        requires named { is_some (command_of entry.what) ≡ true }
         ensures reply { IfOk result
             (λ reply. reply_at (self.old.history ++ entry ∷ []) (length self.old.history) ≡ Some reply) }
         ensures history { self.new.history ≡ self.old.history }

@@ -2,7 +2,7 @@
 
 ghost use Rattle.std.specs.Prelude.{◌≡◌, ◌<◌, ◌≤◌, length, take, Some, IfOk};
 ghost use Rattle.farm_entry.specs.Reply.{reply_at};
-ghost use Rattle.farm_core.specs.Outcome.{IsRunAt, handed_out};
+ghost use Rattle.farm_core.specs.Outcome.{IsOfCommand, IsRunAt, handed_out};
 
 use farm_entry::{LeasedRun, Reply};
 use farm_types::Memory;
@@ -19,10 +19,9 @@ pub fn cut(kept: &mut KeptFarm, count: usize)
     }
 }
 
-/// The reply of the entry at a place past the founding.
+/// The reply of the entry at a place, which a command made.
 pub fn reply_of(kept: &KeptFarm, place: usize) -> Result<Reply, Memory>
-    requires later { 0 < place }
-    requires there { place < length kept.now }
+    requires { IsOfCommand kept.now place }
     ensures { IfOk result (λ reply. reply_at kept.now place ≡ Some reply) }
 {
     let _history = kept.history();
@@ -33,10 +32,9 @@ pub fn reply_of(kept: &KeptFarm, place: usize) -> Result<Reply, Memory>
     }
 }
 
-/// The run that the entry at a place past the founding hands out, if it does.
+/// The run that the entry at a place, which a command made, hands out, if it does.
 pub fn run_at(kept: &KeptFarm, place: usize) -> Option<LeasedRun>
-    requires later { 0 < place }
-    requires there { place < length kept.now }
+    requires { IsOfCommand kept.now place }
     ensures { IsRunAt kept.now place result }
 {
     kept.history()[place].what.lease()

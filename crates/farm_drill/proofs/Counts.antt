@@ -13,7 +13,7 @@ use Rattle.farm_entry.specs.declared.limits.TheConstants.{MAX_ENTRIES, MAX_SEARC
 use Rattle.farm_entry.specs.declared.opening.Opening.{Opening}
 use Rattle.farm_entry.specs.declared.standing.Standing.{Standing}
 use Rattle.farm_entry.specs.declared.standing.Standing.TheVariants.{Searching, Verifying, Confirmed, Vindicated, NoCulprit, Inconclusive, Cancelled}
-use Rattle.farm_laws.proofs.Bounds.{entries-bounded}
+use Rattle.farm_laws.proofs.Bounds.{parts-bounded}
 use Rattle.farm_laws.proofs.Numbered.{number-at, opening-found, openings-numbered}
 use Rattle.drill_plan.specs.declared.limits.TheConstants.{DRILL_DAILY}
 use Rattle.farm_drill.specs.Line.{IsBelow, drill_line, is_no_culprit, is_other, numbers_line, tally_of, tally_with}
@@ -21,23 +21,8 @@ use Rattle.farm_drill.specs.declared.line.Tally.{Tally}
 
 -- Orders.
 
-cons-le : {X : Type 0} (o : Option X) (xs : List X) → length (cons_option o xs) ≤ length xs + 1
-cons-le None xs = omega arith
-cons-le (Some x) xs = omega arith
-
-filter_map-le : {X Y : Type 0} (h : X → Option Y) (xs : List X) → length (filter_map h xs) ≤ length xs
-filter_map-le h [] = omega arith
-filter_map-le h (x ∷ xs) =
-    let one : length (cons_option (h x) (filter_map h xs)) ≤ length (filter_map h xs) + 1 =
-    cons-le (h x) (filter_map h xs) in
-    let rest : length (filter_map h xs) ≤ length xs = filter_map-le h xs in
-    omega arith
-
 pub orders-bounded : (H : List Entry) → IsLegal H → length (order_lines H) ≤ MAX_ENTRIES
-orders-bounded H legal =
-    let few : length H ≤ MAX_ENTRIES = entries-bounded H legal in
-    let most : length (order_lines H) ≤ length H = filter_map-le (λ (e : Entry). order_in e.what) H in
-    omega arith
+orders-bounded H legal = parts-bounded order_in H refl legal
 
 -- the days of so many orders are before the last that a moment may lie on
 pub days-few : (count daily : ℕ) → daily ≡ DRILL_DAILY → count ≤ MAX_ENTRIES → 2 + count / daily ≤ 10_000

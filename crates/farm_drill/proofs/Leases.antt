@@ -8,7 +8,7 @@ use Rattle.farm_types.specs.declared.key.Key.{Key}
 use Rattle.farm_types.specs.declared.moment.Moment.{Moment}
 use Rattle.farm_entry.specs.Decision.{decide, last_moment, later, lease_decision, moment_used}
 use Rattle.farm_entry.specs.Due.{next_run}
-use Rattle.farm_entry.specs.History.{all_leases, lease_ms, opening_numbered, place_of_key}
+use Rattle.farm_entry.specs.History.{all_leases, is_closed, lease_ms, opening_numbered, place_of_key}
 use Rattle.farm_entry.specs.Setup.{commit_of}
 use Rattle.farm_entry.specs.Legal.{IsLegal}
 use Rattle.farm_entry.specs.Playing.{after}
@@ -27,7 +27,7 @@ use Rattle.farm_entry.specs.declared.refusal.Refusal.TheVariants.{Full}
 use Rattle.farm_entry.specs.declared.reply.Reply.{Reply}
 use Rattle.farm_entry.specs.declared.reply.Reply.TheVariants as reply
 use Rattle.farm_core.specs.Outcome.{handed_out}
-use Rattle.farm_laws.proofs.Bounds.{entries-bounded}
+use Rattle.farm_laws.proofs.Bounds.{entries-unclosed}
 use Rattle.farm_laws.proofs.Moments.{moments-until_last}
 use Rattle.farm_laws.proofs.Replies.{slice_get-last}
 use Rattle.farm_entry.specs.Answer.{IsAnswer}
@@ -41,18 +41,18 @@ use Rattle.farm_drill.specs.Steps.{FindsNone, HandsOut, run_given}
 -- The decision on a lease under a new key.
 
 lease-own : (H : List Entry) (key : Key) (w : List ℕ) (at : Moment) → place_of_key H key ≡ None
-    → nat_le MAX_ENTRIES (length H) ≡ false
+    → nat_le MAX_ENTRIES (length H) ≡ false → is_closed H ≡ false
     → decide H (Lease key w) at
     ≡ lease_decision H key w (moment_used H at) (next_run H (moment_ms (moment_used H at)))
-lease-own H key w at none room = rw (none, room) refl
+lease-own H key w at none room unclosed = rw (none, room, unclosed) refl
 
 lease-full : (H : List Entry) (key : Key) (w : List ℕ) (at : Moment) → place_of_key H key ≡ None
     → nat_le MAX_ENTRIES (length H) ≡ true → decide H (Lease key w) at ≡ Refuse Full
 lease-full H key w at none full = rw (none, full) refl
 
 -- what a test of the room tells
-pub full-is : (H : List Entry) → IsLegal H → nat_le MAX_ENTRIES (length H) ≡ true → IsFull H
-full-is H legal full = let few = entries-bounded H legal in grind (arith, nat_tests)
+pub full-is : (H : List Entry) → IsLegal H → is_closed H ≡ false → nat_le MAX_ENTRIES (length H) ≡ true → IsFull H
+full-is H legal unclosed full = let few = entries-unclosed H legal unclosed in grind (arith, nat_tests)
 
 pub room-is : (H : List Entry) → nat_le MAX_ENTRIES (length H) ≡ false → length H < MAX_ENTRIES
 room-is H room = grind (arith, nat_tests)
@@ -94,13 +94,13 @@ lease-case H key w m new r (Some d) room answers is =
     }
 
 pub lease-done : (H : List Entry) (key : Key) (w : List ℕ) (at : Moment) (r : Reply) (new : List Entry)
-    → place_of_key H key ≡ None → IsDone H (Lease key w) at r new → IsLeased H key r new
-lease-done H key w at r new none done =
+    → is_closed H ≡ false → place_of_key H key ≡ None → IsDone H (Lease key w) at r new → IsLeased H key r new
+lease-done H key w at r new unclosed none done =
     ⊎_elim
     (λ (full : nat_le MAX_ENTRIES (length H) ≡ true).
     absurd (subst (λ (d : Decision). IsAnswer H d (answer.Done r)) (lease-full H key w at none full) done.answers))
     (λ (room : nat_le MAX_ENTRIES (length H) ≡ false).
-    let own = lease-own H key w at none room in
+    let own = lease-own H key w at none room unclosed in
     lease-case H key w (moment_used H at) new r (next_run H (moment_ms (moment_used H at))) (room-is H room)
     (subst (λ (d : Decision). IsAnswer H d (answer.Done r)) own done.answers)
     (done.history ∙ ap (after H) own))
@@ -114,12 +114,13 @@ no-run-case H key w m cause None same = refl
 no-run-case H key w m cause (Some d) same = cc same
 
 pub lease-refused : (H : List Entry) (key : Key) (w : List ℕ) (cause : Refusal) (new : List Entry)
-    → IsLegal H → place_of_key H key ≡ None → IsRefused H (Lease key w) drill_moment cause new → IsFull H ⊎ FindsNone H
-lease-refused H key w cause new legal none refused =
+    → IsLegal H → is_closed H ≡ false → place_of_key H key ≡ None → IsRefused H (Lease key w) drill_moment cause new
+    → IsFull H ⊎ FindsNone H
+lease-refused H key w cause new legal unclosed none refused =
     ⊎_elim
-    (λ (full : nat_le MAX_ENTRIES (length H) ≡ true). inl (full-is H legal full))
+    (λ (full : nat_le MAX_ENTRIES (length H) ≡ true). inl (full-is H legal unclosed full))
     (λ (room : nat_le MAX_ENTRIES (length H) ≡ false).
-    let own = lease-own H key w drill_moment none room in
+    let own = lease-own H key w drill_moment none room unclosed in
     inr (record {
       room = room;
       none = no-run-case H key w (moment_used H drill_moment) cause
@@ -141,14 +142,15 @@ said-run H key run lease new is handed =
 
 pub lease-says : (H : List Entry) (key : Key) (w : List ℕ) (at : Moment) (given : Result Reply Refusal)
     (new : List Entry)
-    → IsLegal H → place_of_key H key ≡ None → at ≡ drill_moment → AskSays H (Lease key w) at given new
+    → IsLegal H → is_closed H ≡ false → place_of_key H key ≡ None → at ≡ drill_moment
+    → AskSays H (Lease key w) at given new
     → IsLeaseSaid H key (run_given given) new
-lease-says H key w at (Ok r) new legal free when says =
-    let done = lease-done H key w at r new free says in
+lease-says H key w at (Ok r) new legal unclosed free when says =
+    let done = lease-done H key w at r new unclosed free says in
     said-run H key (handed_out r) done.lease new done.reply done.handed
-lease-says H key w at (Err cause) new legal free when says =
+lease-says H key w at (Err cause) new legal unclosed free when says =
     let refused = subst (λ (m : Moment). IsRefused H (Lease key w) m cause new) when says in
-    let why = lease-refused H key w cause new legal free refused in
+    let why = lease-refused H key w cause new legal unclosed free refused in
     record {
       leased = tt;
       none = (refused.history, subst (λ (G : List Entry). IsFull G ⊎ FindsNone G) (sym refused.history) why);
@@ -178,14 +180,15 @@ last-any : (m n : Moment) (H : List Entry) → IsLegal H → last_moment m H ≡
 last-any m n [] legal = absurd legal
 last-any m n (e ∷ H) legal = refl
 
-pub none-due : (H : List Entry) → IsLegal H → IsPrefix (drill_founding ∷ []) H → FindsNone H → NoneIsDue H
-none-due H legal begins finds key worker free =
+pub none-due : (H : List Entry) → IsLegal H → is_closed H ≡ false → IsPrefix (drill_founding ∷ []) H → FindsNone H
+    → NoneIsDue H
+none-due H legal unclosed begins finds key worker free =
     let last = last_moment drill_moment H in
     let m = moment_used H drill_moment in
     let same : moment_ms m ≡ moment_ms last = later-last last drill_moment _ (founded-first H legal begins)
     (λ is. grind (arith, nat_tests)) in
     let used : moment_used H last ≡ last = ap (λ (x : Moment). later x last) (last-any last drill_moment H legal)
     ∙ same-later last _ in
-    lease-own H key worker last free finds.room
+    lease-own H key worker last free finds.room unclosed
     ∙ ap (λ (x : Moment). lease_decision H key worker x (next_run H (moment_ms x))) used
     ∙ ap (lease_decision H key worker last) (ap (next_run H) (sym same) ∙ finds.none)

@@ -7,6 +7,7 @@ mod Out
 mod Growing
 mod Marks
 mod Counts
+mod Starts
 mod Steps
 mod Missing
 mod Rest

@@ -8,7 +8,7 @@ use Rattle.farm_types.specs.declared.key.Key.{Key}
 use Rattle.farm_types.specs.declared.moment.Moment.{Moment}
 use Rattle.weight_exact.specs.declared.run.Verdict.{Verdict}
 use Rattle.farm_entry.specs.Decision.{decide, fate_of, moment_used, report_decision}
-use Rattle.farm_entry.specs.History.{all_leases, has_key, is_of_run, is_report_of, is_reported, lease_of, opening_numbered, place_of_key, place_of_report, told_in, told_runs}
+use Rattle.farm_entry.specs.History.{all_leases, has_key, is_closed, is_of_run, is_report_of, is_reported, lease_of, opening_numbered, place_of_key, place_of_report, told_in, told_runs}
 use Rattle.farm_entry.specs.Legal.{IsLegal}
 use Rattle.farm_entry.specs.Playing.{after}
 use Rattle.farm_entry.specs.declared.command.Command.TheVariants.{Report}
@@ -72,9 +72,9 @@ report-again : (H : List Entry) (run : ℕ) (v : Verdict) (at : Moment) (place :
 report-again H run v at place there = rw there refl
 
 report-own : (H : List Entry) (run : ℕ) (v : Verdict) (at : Moment) → place_of_report H run ≡ None
-    → nat_le MAX_ENTRIES (length H) ≡ false
+    → nat_le MAX_ENTRIES (length H) ≡ false → is_closed H ≡ false
     → decide H (Report run v) at ≡ report_decision H run v (moment_used H at) (lease_of H run)
-report-own H run v at none room = rw (none, room) refl
+report-own H run v at none room unclosed = rw (none, room, unclosed) refl
 
 report-full : (H : List Entry) (run : ℕ) (v : Verdict) (at : Moment) → place_of_report H run ≡ None
     → nat_le MAX_ENTRIES (length H) ≡ true → decide H (Report run v) at ≡ Refuse Full
@@ -118,41 +118,41 @@ done-again H run place new at is =
     }
 
 report-by : (H : List Entry) (l : LeasedRun) (v : Verdict) (at : Moment) (r : Reply) (new : List Entry) (p : Option ℕ)
-    → place_of_report H l.run ≡ p → lease_of H l.run ≡ Some l → IsDone H (Report l.run v) at r new
+    → is_closed H ≡ false → place_of_report H l.run ≡ p → lease_of H l.run ≡ Some l → IsDone H (Report l.run v) at r new
     → IsReportedThen H l.run new
-report-by H l v at r new (Some place) is leased done =
+report-by H l v at r new (Some place) unclosed is leased done =
     done-again H l.run place new is (done.history ∙ ap (after H) (report-again H l.run v at place is))
-report-by H l v at r new None is leased done =
+report-by H l v at r new None unclosed is leased done =
     ⊎_elim
     (λ (full : nat_le MAX_ENTRIES (length H) ≡ true).
     absurd (subst (λ (d : Decision). IsAnswer H d (answer.Done r)) (report-full H l.run v at is full) done.answers))
     (λ (room : nat_le MAX_ENTRIES (length H) ≡ false).
     reported-new H l v (moment_used H at) new
     (done.history
-    ∙ ap (after H) (report-own H l.run v at is room
+    ∙ ap (after H) (report-own H l.run v at is room unclosed
     ∙ ap (report_decision H l.run v (moment_used H at)) leased)))
     (cases_Bool (nat_le MAX_ENTRIES (length H)))
 
 pub report-done : (H : List Entry) (l : LeasedRun) (v : Verdict) (at : Moment) (r : Reply) (new : List Entry)
-    → IsLegal H
+    → IsLegal H → is_closed H ≡ false
     → Contains (all_leases H) l → IsDone H (Report l.run v) at r new → IsReportedThen H l.run new
-report-done H l v at r new legal there done =
-    report-by H l v at r new (place_of_report H l.run) refl (lease-found H l legal there) done
+report-done H l v at r new legal unclosed there done =
+    report-by H l v at r new (place_of_report H l.run) unclosed refl (lease-found H l legal there) done
 
 refused-by : (H : List Entry) (l : LeasedRun) (v : Verdict) (at : Moment) (cause : Refusal) (p : Option ℕ) → IsLegal H
-    → place_of_report H l.run ≡ p → lease_of H l.run ≡ Some l → decide H (Report l.run v) at ≡ Refuse cause → IsFull H
-refused-by H l v at cause (Some place) legal is leased refused =
+    → is_closed H ≡ false → place_of_report H l.run ≡ p → lease_of H l.run ≡ Some l → decide H (Report l.run v) at ≡ Refuse cause → IsFull H
+refused-by H l v at cause (Some place) legal unclosed is leased refused =
     let both : Repeat place ≡ Refuse cause = sym (report-again H l.run v at place is) ∙ refused in cc both
-refused-by H l v at cause None legal is leased refused =
+refused-by H l v at cause None legal unclosed is leased refused =
     ⊎_elim
-    (λ (full : nat_le MAX_ENTRIES (length H) ≡ true). full-is H legal full)
+    (λ (full : nat_le MAX_ENTRIES (length H) ≡ true). full-is H legal unclosed full)
     (λ (room : nat_le MAX_ENTRIES (length H) ≡ false).
     let both : report_decision H l.run v (moment_used H at) (Some l) ≡ Refuse cause =
-    sym (report-own H l.run v at is room ∙ ap (report_decision H l.run v (moment_used H at)) leased) ∙ refused in
+    sym (report-own H l.run v at is room unclosed ∙ ap (report_decision H l.run v (moment_used H at)) leased) ∙ refused in
     cc both)
     (cases_Bool (nat_le MAX_ENTRIES (length H)))
 
 pub report-refused : (H : List Entry) (l : LeasedRun) (v : Verdict) (at : Moment) (cause : Refusal) (new : List Entry)
-    → IsLegal H → Contains (all_leases H) l → IsRefused H (Report l.run v) at cause new → IsFull H
-report-refused H l v at cause new legal there refused =
-    refused-by H l v at cause (place_of_report H l.run) legal refl (lease-found H l legal there) refused.decided
+    → IsLegal H → is_closed H ≡ false → Contains (all_leases H) l → IsRefused H (Report l.run v) at cause new → IsFull H
+report-refused H l v at cause new legal unclosed there refused =
+    refused-by H l v at cause (place_of_report H l.run) legal unclosed refl (lease-found H l legal there) refused.decided

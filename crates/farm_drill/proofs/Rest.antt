@@ -1,8 +1,8 @@
 -- One step of the caller: a run that is leased and reported, or an order.
-use Rattle.std.proofs.Common.{◌≡◌, ◌⊎◌, inl, inr, ◌+◌, ◌-◌, ◌<◌, ◌≤◌, ◌++◌, ◌∷◌, [], true, List, Contains, length, Some, None, sym, subst, ◌∙◌, ⊎_elim, append-nil, arith}
+use Rattle.std.proofs.Common.{◌≡◌, ◌⊎◌, inl, inr, ◌+◌, ◌-◌, ◌<◌, ◌≤◌, ◌++◌, ◌∷◌, [], true, false, List, Contains, length, Some, None, sym, subst, ◌∙◌, ⊎_elim, append-nil, arith}
 use Rattle.list_prefix.specs.Prefix.{IsPrefix}
 use Rattle.farm_types.specs.declared.key.Key.{Key}
-use Rattle.farm_entry.specs.History.{all_leases, is_reported, key_in, place_of_key}
+use Rattle.farm_entry.specs.History.{all_leases, is_closed, is_reported, key_in, place_of_key}
 use Rattle.farm_entry.specs.Legal.{IsLegal}
 use Rattle.farm_entry.specs.declared.entry.Entry.{Entry}
 use Rattle.farm_entry.specs.declared.lease.LeasedRun.{LeasedRun}
@@ -44,12 +44,12 @@ rest-on H mid new key lease keys all handed free longer leases stay now =
     }
 
 -- where no run is handed out, the history is full or the runs have come to their end
-pub rest-ended : (H new : List Entry) → IsLegal new → IsPrefix (drill_founding ∷ []) new → AllReported H → new ≡ H
-    → IsFull new ⊎ FindsNone new → IsFull new ⊎ AreRun new
-rest-ended H new legal founded all same why =
+pub rest-ended : (H new : List Entry) → IsLegal new → is_closed new ≡ false → IsPrefix (drill_founding ∷ []) new
+    → AllReported H → new ≡ H → IsFull new ⊎ FindsNone new → IsFull new ⊎ AreRun new
+rest-ended H new legal unclosed founded all same why =
     ⊎_elim (λ (full : IsFull new). inl full)
     (λ (finds : FindsNone new).
-    inr (record { reported = subst AllReported (sym same) all; none_due = none-due new legal founded finds }))
+    inr (record { reported = subst AllReported (sym same) all; none_due = none-due new legal unclosed founded finds }))
     why
 
 -- orders alone are added, the keys that are left are free, and there is less room

@@ -1,12 +1,12 @@
 -- What the commands of the caller come to, by what the store answered.
-use Rattle.std.proofs.Common.{◌≡◌, ◌+◌, ◌++◌, ◌∷◌, ◌≤◌, ◌<◌, [], ℕ, Bool, true, List, All, Contains, MatchBool, length, take, get_or, None, Result, Ok, Err, is_ok, is_some, append_assoc, length-append, refl, sym, ap, subst, ◌∙◌, arith, take-suc, add-one}
+use Rattle.std.proofs.Common.{◌≡◌, ◌+◌, ◌++◌, ◌∷◌, ◌≤◌, ◌<◌, [], ℕ, Bool, true, false, List, All, Contains, MatchBool, length, take, get_or, None, Result, Ok, Err, is_ok, is_some, append_assoc, length-append, refl, sym, ap, subst, ◌∙◌, arith, take-suc, add-one}
 use Rattle.std.proofs.lemmas.List.Elements.{All-push, All-weaker}
 use Rattle.list_prefix.specs.Prefix.{IsPrefix}
 use Rattle.weight_exact.specs.declared.run.Verdict.{Verdict}
 use Rattle.farm_types.specs.declared.key.Key.{Key}
 use Rattle.farm_types.specs.declared.moment.Moment.{Moment}
 use Rattle.farm_entry.specs.Decision.{decide}
-use Rattle.farm_entry.specs.History.{all_leases, is_reported, order_in, place_of_key}
+use Rattle.farm_entry.specs.History.{all_leases, is_closed, is_reported, order_in, place_of_key}
 use Rattle.farm_entry.specs.Legal.{IsLegal}
 use Rattle.farm_entry.specs.Playing.{after}
 use Rattle.farm_entry.specs.declared.command.Command.{Command}
@@ -72,13 +72,13 @@ pub record IsReportSaid (H : List Entry) (run : ℕ) (done : Bool) (new : List E
 
 pub report-says : (H : List Entry) (l : LeasedRun) (v : Verdict) (at : Moment) (given : Result Reply Refusal)
     (new : List Entry)
-    → IsLegal H → Contains (all_leases H) l → AskSays H (Report l.run v) at given new
+    → IsLegal H → is_closed H ≡ false → Contains (all_leases H) l → AskSays H (Report l.run v) at given new
     → IsReportSaid H l.run (is_ok given) new
-report-says H l v at (Ok r) new legal there says =
-    let done = report-done H l v at r new legal there says in
+report-says H l v at (Ok r) new legal unclosed there says =
+    let done = report-done H l v at r new legal unclosed there says in
     record { reported = done.reported; leases = done.leases; keys = done.keys }
-report-says H l v at (Err cause) new legal there says =
-    let full : IsFull H = report-refused H l v at cause new legal there says in
+report-says H l v at (Err cause) new legal unclosed there says =
+    let full : IsFull H = report-refused H l v at cause new legal unclosed there says in
     let same : new ≡ H = says.history in
     record {
       reported = subst IsFull (sym same) full;

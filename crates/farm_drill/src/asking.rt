@@ -1,8 +1,9 @@
 //! One command of the caller, to a store that no other thread shares.
-ghost use Rattle.std.specs.Prelude.{◌≡◌, [], IfOk, OnOk};
+ghost use Rattle.std.specs.Prelude.{◌≡◌, ◌++◌, [], IfOk, OnOk};
 ghost use Rattle.farm_drill.specs.Asked.{AskSays};
 ghost use Rattle.farm_entry.specs.Legal.{IsLegal};
 ghost use Rattle.list_prefix.specs.Prefix.{IsPrefix};
+ghost use Rattle.shared_farm.specs.Rests.{IsByCommands};
 
 use farm_disk::CalmDisk;
 use farm_entry::{Command, Refusal, Reply};
@@ -20,6 +21,8 @@ pub(crate) fn ask(
     ensures says { store.old.pending ≡ []
         → IfOk result (λ given. AskSays store.old.history command.now at given store.new.history) }
     ensures decided { OnOk result (store.new.pending ≡ []) }
+    ensures by_commands { IsByCommands (store.old.history ++ store.old.pending)
+        → OnOk result (IsByCommands store.new.history) }
     ensures longer { IsPrefix store.old.history store.new.history }
     ensures legal { IsLegal store.new.history }
 {

@@ -1,13 +1,15 @@
 //! The workers of a drill, each in a thread of its own.
-ghost use Rattle.std.specs.Prelude.{◌≡◌, ◌≤◌, IfOk};
+ghost use Rattle.std.specs.Prelude.{◌≡◌, ◌≤◌, ◌++◌, IfOk};
 ghost use Rattle.list_prefix.specs.Prefix.{IsPrefix};
+ghost use Rattle.shared_farm.specs.Rests.{IsByCommands};
 ghost use Rattle.turn_lock.specs.Known.{IsReady};
 
+use crate::farm::DrillFarm;
 use crate::worker::{Ended, work};
 use farm_disk::CalmDisk;
 use farm_store::Store;
 use farm_types::Memory;
-use shared_farm::{Pass, SharedFarm};
+use shared_farm::Pass;
 use std::alloc::Global;
 use std::snapshot::Snapshot;
 use std::sync::Wait;
@@ -31,9 +33,11 @@ pub(crate) fn run_workers<R: Threads + Wait + Sync>(
     store: Store<CalmDisk>,
     workers: u32,
 ) -> Result<Store<CalmDisk>, Memory>
-    ensures { IfOk result (λ left. IsPrefix store.history left.history) }
+    requires by_commands { IsByCommands (store.history ++ store.pending) }
+    ensures longer { IfOk result (λ left. IsPrefix store.history left.history) }
+    ensures by_commands { IfOk result (λ left. IsByCommands (left.history ++ left.pending)) }
 {
-    let Ok((farm, pass)) = SharedFarm::of(alloc, store) else {
+    let Ok((farm, pass)) = DrillFarm::of(alloc, store) else {
         return Err(Memory);
     };
     let (pass, ended) = run_all(rt, alloc, &farm, pass, workers);
@@ -48,7 +52,7 @@ pub(crate) fn run_workers<R: Threads + Wait + Sync>(
 fn run_all<R: Threads + Wait + Sync>(
     rt: &R,
     alloc: Global,
-    farm: &SharedFarm<CalmDisk>,
+    farm: &DrillFarm,
     pass: Pass,
     workers: u32,
 ) -> (Pass, Ended)
@@ -72,7 +76,7 @@ fn start_all<'s, E, R: Threads + Wait + Sync>(
     scope: &Scope<'s, E>,
     rt: &'s R,
     alloc: Global,
-    farm: &'s SharedFarm<CalmDisk>,
+    farm: &'s DrillFarm,
     pass: Pass,
     workers: u32,
 ) -> (Pass, Ended)

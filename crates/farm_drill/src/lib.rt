@@ -13,6 +13,7 @@
 
 mod asking;
 mod crew;
+mod farm;
 mod keys;
 mod line;
 mod look;

@@ -10,6 +10,7 @@ ghost use Rattle.farm_entry.specs.Playing.{after};
 ghost use Rattle.farm_entry.specs.declared.command.Command.TheVariants.{Report};
 ghost use Rattle.farm_types.specs.declared.key.Key.{Key};
 ghost use Rattle.farm_entry.specs.Legal.{IsLegal};
+ghost use Rattle.shared_farm.specs.Rests.{IsByCommands};
 ghost use Rattle.farm_drill.specs.Ends.{AllReported, IsFull};
 ghost use Rattle.farm_drill.specs.Reported.{AreRunsMarked, is_marked, unmarked};
 
@@ -32,6 +33,7 @@ pub(crate) fn report(
     requires decided { store.old.pending ≡ [] }
     requires lease { Contains (all_leases store.old.history) lease }
     requires legal { IsLegal store.old.history }
+    requires by_commands { IsByCommands store.old.history }
     ensures said { let report = Report lease.run (planned_verdict lease.search lease.position) in
         OnOk result (store.new.history ≡ after store.old.history (decide store.old.history report drill_moment)) }
     ensures reported { IfOk result
@@ -42,6 +44,7 @@ pub(crate) fn report(
     ensures decided { OnOk result (store.new.pending ≡ []) }
     ensures longer { IsPrefix store.old.history store.new.history }
     ensures legal { IsLegal store.new.history }
+    ensures by_commands { OnOk result (IsByCommands store.new.history) }
 {
     let command = Command::Report {
         run: lease.run,
@@ -56,12 +59,14 @@ pub(crate) fn report(
 pub(crate) fn report_missing(alloc: Global, store: &mut Store<CalmDisk>) -> Result<bool, Memory>
     requires decided { store.old.pending ≡ [] }
     requires legal { IsLegal store.old.history }
+    requires by_commands { IsByCommands store.old.history }
     ensures reported { IfOk result (λ all. MatchBool all (AllReported store.new.history) (IsFull store.new.history)) }
     ensures keys { OnOk result ((key : Key) → place_of_key store.old.history key ≡ None
         → place_of_key store.new.history key ≡ None) }
     ensures decided { OnOk result (store.new.pending ≡ []) }
     ensures longer { IsPrefix store.old.history store.new.history }
     ensures legal { OnOk result (IsLegal store.new.history) }
+    ensures by_commands { OnOk result (IsByCommands store.new.history) }
 {
     let marks = marks_of(alloc, store.history())?;
     let missing = unmarked(alloc, store.history(), &marks)?;

@@ -7,6 +7,7 @@ ghost use Rattle.farm_entry.specs.History.{order_lines, place_of_key};
 ghost use Rattle.farm_types.specs.Moment.{moment_ms};
 ghost use Rattle.farm_entry.specs.Legal.{IsLegal};
 ghost use Rattle.drill_plan.specs.Start.{drill_founding, revert_ms};
+ghost use Rattle.shared_farm.specs.Rests.{IsByCommands};
 ghost use Rattle.farm_drill.specs.Ends.{AreOrders, RevertsEnded};
 ghost use Rattle.farm_drill.specs.Free.{AreFree};
 ghost use Rattle.farm_drill.specs.Steps.{GivesOrder};
@@ -30,12 +31,14 @@ pub(crate) fn take_reverts(
     requires decided { store.old.pending ≡ [] }
     requires founded { IsPrefix (drill_founding ∷ []) store.old.history }
     requires legal { IsLegal store.old.history }
+    requires by_commands { IsByCommands store.old.history }
     requires free { AreFree store.old.history keys.old }
     ensures ended { OnOk result (RevertsEnded store.new.history) }
     ensures decided { OnOk result (store.new.pending ≡ []) }
     ensures orders { OnOk result
         ((orders : List Entry) × AreOrders orders × (store.new.history ≡ store.old.history ++ orders)) }
     ensures legal { OnOk result (IsLegal store.new.history) }
+    ensures by_commands { OnOk result (IsByCommands store.new.history) }
 {
     loop {
         let key = keys.fresh(alloc, store.history())?;
@@ -50,11 +53,13 @@ fn take_revert(alloc: Global, store: &mut Store<CalmDisk>, key: Key) -> Result<b
     requires decided { store.old.pending ≡ [] }
     requires founded { IsPrefix (drill_founding ∷ []) store.old.history }
     requires legal { IsLegal store.old.history }
+    requires by_commands { IsByCommands store.old.history }
     requires free { place_of_key store.old.history key ≡ None }
     ensures given { IfOk result (λ given. MatchBool given (GivesOrder store.old.history key store.new.history)
         ((store.new.history ≡ store.old.history) × RevertsEnded store.new.history)) }
     ensures decided { OnOk result (store.new.pending ≡ []) }
     ensures legal { IsLegal store.new.history }
+    ensures by_commands { OnOk result (IsByCommands store.new.history) }
 {
     let agent = caller_name(alloc)?;
     let command = Command::TakeRevert { key, agent };

@@ -4,6 +4,7 @@ ghost use Rattle.list_prefix.specs.Prefix.{IsPrefix};
 ghost use Rattle.farm_entry.specs.History.{all_leases, is_reported, place_of_key};
 ghost use Rattle.farm_entry.specs.Legal.{IsLegal};
 ghost use Rattle.drill_plan.specs.Start.{drill_founding};
+ghost use Rattle.shared_farm.specs.Rests.{IsByCommands};
 ghost use Rattle.farm_drill.specs.Ends.{AllReported, AreRun, IsFull};
 ghost use Rattle.farm_drill.specs.Free.{AreFree};
 ghost use Rattle.farm_types.specs.declared.key.Key.{Key as FarmKey};
@@ -25,11 +26,13 @@ use std::alloc::Global;
 /// history is full. It gives keys that stand in no entry.
 pub(crate) fn end_runs(alloc: Global, store: &mut Store<CalmDisk>) -> Result<Keys, Memory>
     requires founded { IsPrefix (drill_founding ∷ []) store.old.history }
+    requires by_commands { IsByCommands (store.old.history ++ store.old.pending) }
     ensures ended { OnOk result (IsFull store.new.history ⊎ AreRun store.new.history) }
     ensures free { IfOk result (λ keys. AreFree store.new.history keys) }
     ensures decided { OnOk result (store.new.pending ≡ []) }
     ensures longer { IsPrefix store.old.history store.new.history }
     ensures legal { OnOk result (IsLegal store.new.history) }
+    ensures by_commands { OnOk result (IsByCommands store.new.history) }
 {
     let _shown = ask(alloc, store, &Command::ShowFarm, drill_moment())?;
     let found = look_through(alloc, store.history())?;
@@ -48,12 +51,14 @@ fn report_rest(alloc: Global, store: &mut Store<CalmDisk>, reported: bool) -> Re
     requires decided { store.old.pending ≡ [] }
     requires reported { reported ≡ true → AllReported store.old.history }
     requires legal { IsLegal store.old.history }
+    requires by_commands { IsByCommands store.old.history }
     ensures reported { IfOk result (λ all. MatchBool all (AllReported store.new.history) (IsFull store.new.history)) }
     ensures keys { OnOk result ((key : FarmKey) → place_of_key store.old.history key ≡ None
         → place_of_key store.new.history key ≡ None) }
     ensures decided { OnOk result (store.new.pending ≡ []) }
     ensures longer { IsPrefix store.old.history store.new.history }
     ensures legal { OnOk result (IsLegal store.new.history) }
+    ensures by_commands { OnOk result (IsByCommands store.new.history) }
 {
     if reported {
         return Ok(true);
@@ -67,12 +72,14 @@ fn lease_rest(alloc: Global, store: &mut Store<CalmDisk>, keys: &mut Keys) -> Re
     requires reported { AllReported store.old.history }
     requires founded { IsPrefix (drill_founding ∷ []) store.old.history }
     requires legal { IsLegal store.old.history }
+    requires by_commands { IsByCommands store.old.history }
     requires free { AreFree store.old.history keys.old }
     ensures ended { OnOk result (IsFull store.new.history ⊎ AreRun store.new.history) }
     ensures free { OnOk result (AreFree store.new.history keys.new) }
     ensures decided { OnOk result (store.new.pending ≡ []) }
     ensures longer { IsPrefix store.old.history store.new.history }
     ensures legal { OnOk result (IsLegal store.new.history) }
+    ensures by_commands { OnOk result (IsByCommands store.new.history) }
 {
     loop {
         let key = keys.fresh(alloc, store.history())?;
@@ -92,6 +99,7 @@ fn lease(alloc: Global, store: &mut Store<CalmDisk>, key: Key) -> Result<Option<
     requires decided { store.old.pending ≡ [] }
     requires free { place_of_key store.old.history key ≡ None }
     requires legal { IsLegal store.old.history }
+    requires by_commands { IsByCommands store.old.history }
     ensures leased { IfOk result
         (λ given. IfSome given (λ lease. HandsOut store.old.history key lease store.new.history)) }
     ensures none { IfOk result (λ given. IfNone given ((store.new.history ≡ store.old.history)
@@ -99,6 +107,7 @@ fn lease(alloc: Global, store: &mut Store<CalmDisk>, key: Key) -> Result<Option<
     ensures decided { OnOk result (store.new.pending ≡ []) }
     ensures longer { IsPrefix store.old.history store.new.history }
     ensures legal { IsLegal store.new.history }
+    ensures by_commands { OnOk result (IsByCommands store.new.history) }
 {
     let worker = caller_name(alloc)?;
     let command = Command::Lease { key, worker };

@@ -1,10 +1,11 @@
 //! The drill.
-ghost use Rattle.std.specs.Prelude.{◌≡◌, ◌≤◌, ◌∷◌, ℕ, List, [], IfOk, OnOk, string_bytes};
+ghost use Rattle.std.specs.Prelude.{◌≡◌, ◌≤◌, ◌++◌, ◌∷◌, ℕ, List, [], IfOk, OnOk, string_bytes};
 ghost use Rattle.list_prefix.specs.Prefix.{IsPrefix};
 ghost use Rattle.farm_entry.specs.declared.entry.Entry.{Entry};
 ghost use Rattle.farm_entry.specs.declared.limits.TheConstants.{MAX_SEARCHES};
 ghost use Rattle.drill_plan.specs.Start.{IsStart, drill_founding};
 ghost use Rattle.drill_plan.specs.declared.limits.TheConstants.{MAX_WORKERS};
+ghost use Rattle.shared_farm.specs.Rests.{IsByCommands};
 ghost use Rattle.farm_drill.specs.Drilled.{IsDrilled};
 ghost use Rattle.farm_drill.specs.Line.{drill_line};
 
@@ -52,6 +53,7 @@ pub fn drill<R: Threads + Wait + Sync>(
 /// Does what is left once the workers have ended, and gives the line.
 fn end_drill(alloc: Global, store: &mut Store<CalmDisk>) -> Result<String, Memory>
     requires founded { IsPrefix (drill_founding ∷ []) store.old.history }
+    requires by_commands { IsByCommands (store.old.history ++ store.old.pending) }
     ensures line { IfOk result (λ line. string_bytes line ≡ drill_line store.new.history) }
     ensures drilled { OnOk result ((searches : ℕ) (start : List Entry) → IsStart searches start
         → IsPrefix start store.old.history → IsDrilled searches store.new.history) }

@@ -4,13 +4,13 @@ ghost use Rattle.turn_lock.specs.Known.{IsReady};
 ghost use Rattle.drill_plan.specs.Plan.{planned_verdict};
 ghost use Rattle.farm_drill.specs.Work.{TakesLease};
 
+use crate::farm::DrillFarm;
 use crate::names::{drill_moment, worker_name};
 use drill_plan::planned_verdict;
-use farm_disk::CalmDisk;
 use farm_entry::{Command, LeasedRun, MAX_ENTRIES, Refusal};
 use farm_store::CallFault;
 use farm_types::{Key, Memory};
-use shared_farm::{Pass, SharedFarm};
+use shared_farm::Pass;
 use std::alloc::Global;
 use std::sync::Wait;
 use worker_core::{Action, Event, Tested, WorkerCore};
@@ -79,13 +79,7 @@ impl Worker {
     }
 
     /// Leases, runs and reports until no run is due.
-    fn run<R: Wait>(
-        &mut self,
-        rt: &R,
-        alloc: Global,
-        farm: &SharedFarm<CalmDisk>,
-        pass: &mut Pass,
-    ) -> Ended
+    fn run<R: Wait>(&mut self, rt: &R, alloc: Global, farm: &DrillFarm, pass: &mut Pass) -> Ended
         requires { IsReady farm.now pass.old }
         ensures { IsReady farm.entry.now pass.new }
     {
@@ -105,7 +99,7 @@ impl Worker {
         &mut self,
         rt: &R,
         alloc: Global,
-        farm: &SharedFarm<CalmDisk>,
+        farm: &DrillFarm,
         pass: &mut Pass,
         action: Action,
     ) -> Result<Event, Ended>
@@ -132,7 +126,7 @@ impl Worker {
         &mut self,
         rt: &R,
         alloc: Global,
-        farm: &SharedFarm<CalmDisk>,
+        farm: &DrillFarm,
         pass: &mut Pass,
         key: Key,
     ) -> Result<Event, Ended>
@@ -184,7 +178,7 @@ impl Worker {
 fn report<R: Wait>(
     rt: &R,
     alloc: Global,
-    farm: &SharedFarm<CalmDisk>,
+    farm: &DrillFarm,
     pass: &mut Pass,
     run: u32,
     tested: Tested,
@@ -206,7 +200,7 @@ fn report<R: Wait>(
 pub(crate) fn work<R: Wait>(
     rt: &R,
     alloc: Global,
-    farm: &SharedFarm<CalmDisk>,
+    farm: &DrillFarm,
     pass: Pass,
     number: u32,
 ) -> (Pass, Ended)

@@ -4,7 +4,8 @@ use Rattle.std.specs.List.{cons_option, filter_map}
 use Rattle.std.proofs.lemmas.List.Elements.{filter_map-append}
 use Rattle.farm_types.specs.declared.moment.Moment.{Moment}
 use Rattle.farm_entry.specs.Decision.{last_moment}
-use Rattle.farm_entry.specs.History.{all_leases, cancellations, cancelled_in, lease_in, opening_in, openings, order_in, order_lines, report_in, reports, skip_in, skips, told_in, told_runs}
+use Rattle.farm_entry.specs.History.{all_leases, cancellations, cancelled_in, lease_in, opening_in, openings, order_in, order_lines, ordered_in, report_in, reports, skip_in, skips, told_in, told_runs}
+use Rattle.farm_entry.specs.Orders.{orders}
 use Rattle.farm_entry.specs.declared.entry.Entry.{Entry}
 use Rattle.farm_entry.specs.declared.entry.What.{What}
 
@@ -34,6 +35,9 @@ cancellations-grow H e = parts-grow cancelled_in H e
 
 pub order_lines-grow : (H : List Entry) (e : Entry) → order_lines (H ++ e ∷ []) ≡ order_lines H ++ cons_option (order_in e.what) []
 order_lines-grow H e = parts-grow order_in H e
+
+pub orders-grow : (H : List Entry) (e : Entry) → orders (H ++ e ∷ []) ≡ orders H ++ cons_option (ordered_in e.what) []
+orders-grow H e = parts-grow ordered_in H e
 
 pub last_moment-push : (m : Moment) (H : List Entry) (e : Entry) → last_moment m (H ++ e ∷ []) ≡ e.at
 last_moment-push m [] e = refl

@@ -15,7 +15,7 @@ use Rattle.farm_types.specs.declared.moment.Moment.{Moment}
 use Rattle.farm_types.specs.declared.stage.Stage.TheVariants.{Search, Verify}
 use Rattle.farm_entry.specs.Ask.{opening_of}
 use Rattle.farm_entry.specs.Due.{next_run}
-use Rattle.farm_entry.specs.History.{all_leases, lease_ms, lease_of, opening_numbered, openings, order_lines, place_of_key, place_of_report, reruns, runs, same_stage}
+use Rattle.farm_entry.specs.History.{all_leases, is_closed, lease_ms, lease_of, opening_numbered, openings, order_lines, place_of_key, place_of_report, reruns, runs, same_stage}
 use Rattle.farm_entry.specs.Orders.{next_order_at}
 use Rattle.farm_entry.specs.Pages.{page_of, totals}
 use Rattle.farm_entry.specs.RunPages.{runs_page}
@@ -39,7 +39,7 @@ use Rattle.farm_entry.specs.declared.lease.LeasedRun.{LeasedRun}
 use Rattle.farm_entry.specs.declared.limits.TheConstants.{MAX_ENTRIES, MAX_SEARCHES}
 use Rattle.farm_entry.specs.declared.opening.Opening.{Opening}
 use Rattle.farm_entry.specs.declared.refusal.OpenFault.{OpenFault}
-use Rattle.farm_entry.specs.declared.refusal.Refusal.TheVariants.{BadOpen, KeyClash, Full, TooManySearches, NoRun, UnknownRun, UnknownSearch, SearchEnded, NoRevert, DailyLimit}
+use Rattle.farm_entry.specs.declared.refusal.Refusal.TheVariants.{BadOpen, KeyClash, Full, Closed, TooManySearches, NoRun, UnknownRun, UnknownSearch, SearchEnded, NoRevert, DailyLimit}
 use Rattle.farm_entry.specs.declared.reply.Reply.TheVariants as reply
 use Rattle.farm_entry.specs.declared.standing.Standing.{Standing}
 use Rattle.farm_entry.specs.declared.standing.Standing.TheVariants.{Searching, Verifying}
@@ -115,7 +115,7 @@ known_decision H (ReportRun run verdict) = option_map Repeat (place_of_report H 
 known_decision H (SkipRun run) = option_map Repeat (place_of_report H run)
 known_decision H q = keyed_decision H q (key_of q)
 
--- Then a full history, which still shows.
+-- Then a history that takes no more, which still shows: a full one, or else a closed one.
 
 abbrev pub is_show : Command → Bool
 is_show (ShowSearch search) = true
@@ -125,8 +125,12 @@ is_show (ShowRuns search from) = true
 is_show (ShowSearches from) = true
 is_show q = false
 
+abbrev pub closed_decision : List Entry → Command → Option Decision
+closed_decision H q = if is_closed H && not (is_show q) then Some (Refuse Closed) else None
+
 abbrev pub full_decision : List Entry → Command → Option Decision
-full_decision H q = if nat_le MAX_ENTRIES (length H) && not (is_show q) then Some (Refuse Full) else None
+full_decision H q =
+    if nat_le MAX_ENTRIES (length H) && not (is_show q) then Some (Refuse Full) else closed_decision H q
 
 -- Then what each command is for, at the moment used.
 

@@ -3,6 +3,7 @@
 use Rattle.std.specs.Prelude.{ℕ, ◌+◌, ◌==◌, ℤ, pos, Bool, true, false, ◌&&◌, List, [], ◌∷◌, filter, find, position, if◌then◌else◌, Option, Some, None}
 use Rattle.std.specs.List.{filter_map, list_any}
 use Rattle.std.specs.Option.{option_and_then, option_map, unwrap_or}
+use Rattle.farm_rules.specs.Orders as rules
 use Rattle.farm_types.specs.declared.key.Key.{Key}
 use Rattle.farm_types.specs.declared.stage.Stage.{Stage}
 use Rattle.farm_types.specs.declared.stage.Stage.TheVariants.{Search, Verify}
@@ -15,7 +16,7 @@ use Rattle.farm_entry.specs.declared.entry.Fate.TheVariants.{Counted, Over}
 use Rattle.farm_entry.specs.declared.entry.SkipFate.{SkipFate}
 use Rattle.farm_entry.specs.declared.entry.SkipFate.TheVariants.{Taken}
 use Rattle.farm_entry.specs.declared.entry.What.{What}
-use Rattle.farm_entry.specs.declared.entry.What.TheVariants.{Founded, Opened, Leased, Reported, Skipped, Cancelled, Ordered}
+use Rattle.farm_entry.specs.declared.entry.What.TheVariants.{Founded, Opened, Leased, Reported, Skipped, Cancelled, Ordered, Carried, Closed}
 use Rattle.farm_entry.specs.declared.lease.LeasedRun.{LeasedRun}
 use Rattle.farm_entry.specs.declared.lease.ReportedRun.{ReportedRun}
 use Rattle.farm_entry.specs.declared.lease.SkippedRun.{SkippedRun}
@@ -62,6 +63,22 @@ order_in (Ordered key agent order commit search day) =
     Some (record { order = order; agent = agent; commit = commit; search = search; day = day })
 order_in _ = None
 
+-- the order that it stands for, as the rules see it: one of this farm, or one that was carried over
+abbrev pub ordered_in : What → Option rules.Ordered
+ordered_in (Ordered key agent order commit search day) = Some (record { commit = commit; day = day })
+ordered_in (Carried commit day) = Some (record { commit = commit; day = day })
+ordered_in _ = None
+
+-- the order that it carries over from a farm before
+abbrev pub carried_in : What → Option rules.Ordered
+carried_in (Carried commit day) = Some (record { commit = commit; day = day })
+carried_in _ = None
+
+-- whether it closes the farm
+abbrev pub is_closing : What → Bool
+is_closing Closed = true
+is_closing _ = false
+
 -- the key of the request that made it
 abbrev pub key_in : What → Option Key
 key_in (Founded settings) = None
@@ -71,6 +88,8 @@ key_in (Reported run verdict _) = None
 key_in (Skipped run _) = None
 key_in (Cancelled key search) = Some key
 key_in (Ordered key agent order commit search day) = Some key
+key_in (Carried commit day) = None
+key_in Closed = None
 
 -- What a history holds.
 
@@ -111,6 +130,10 @@ cancellations H = filter_map (λ e. cancelled_in e.what) H
 
 abbrev pub order_lines : List Entry → List OrderLine
 order_lines H = filter_map (λ e. order_in e.what) H
+
+-- whether the farm was closed
+abbrev pub is_closed : List Entry → Bool
+is_closed H = list_any (λ e. is_closing e.what) H
 
 -- the search with a number
 abbrev pub opening_numbered : List Entry → (search : ℕ) → Option Opening

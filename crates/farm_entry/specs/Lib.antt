@@ -12,5 +12,6 @@ pub mod Pages
 pub mod Reply
 pub mod Decision
 pub mod Answer
+pub mod Closing
 pub mod Legal
 pub mod Playing

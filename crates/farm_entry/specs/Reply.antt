@@ -9,7 +9,7 @@ use Rattle.farm_entry.specs.declared.entry.Entry.{Entry}
 use Rattle.farm_entry.specs.declared.entry.Fate.{Fate}
 use Rattle.farm_entry.specs.declared.entry.SkipFate.{SkipFate}
 use Rattle.farm_entry.specs.declared.entry.What.{What}
-use Rattle.farm_entry.specs.declared.entry.What.TheVariants.{Founded, Opened, Leased, Reported, Skipped, Cancelled, Ordered}
+use Rattle.farm_entry.specs.declared.entry.What.TheVariants.{Founded, Opened, Leased, Reported, Skipped, Cancelled, Ordered, Carried, Closed}
 use Rattle.farm_entry.specs.declared.lease.LeasedRun.{LeasedRun}
 use Rattle.farm_entry.specs.declared.reply.Reply.{Reply}
 use Rattle.farm_entry.specs.declared.reply.Reply.TheVariants as reply
@@ -24,7 +24,8 @@ abbrev pub reply_to_skip : List Entry → SkipFate → LeasedRun → Option Repl
 reply_to_skip H fate l =
     option_map (λ o. reply.Skipped l.run l.search fate (standing H o)) (opening_numbered H l.search)
 
--- what is replied for what an entry records, by the history up to it and with it. A founding has no reply
+-- what is replied for what an entry records, by the history up to it and with it. A founding, a carried order and a
+-- closing have no reply
 abbrev pub reply_to : List Entry → What → Option Reply
 reply_to H (Founded settings) = None
 reply_to H (Opened o) = Some (reply.Opened o.search (budget_of_search o) (standing H o))
@@ -35,6 +36,8 @@ reply_to H (Reported run verdict fate) = option_and_then (reply_to_report H verd
 reply_to H (Skipped run fate) = option_and_then (reply_to_skip H fate) (lease_of H run)
 reply_to H (Cancelled key search) = Some (reply.Cancelled search)
 reply_to H (Ordered key agent order commit search day) = Some (reply.Ordered order commit search day)
+reply_to H (Carried commit day) = None
+reply_to H Closed = None
 
 -- the reply of the entry at a place: the same whatever came later
 abbrev pub reply_at : List Entry → (place : ℕ) → Option Reply

@@ -87,6 +87,16 @@ pub enum What {
         /// The day of the order in the farm's time zone, in days since 1970-01-01.
         day: u32,
     },
+    /// An order of a farm before this one. Its commit is ordered no more, and it counts on its day. Such entries stand
+    /// right behind the founding, at its moment, and have no number.
+    Carried {
+        /// The commit that was ordered.
+        commit: CommitId,
+        /// The day of that order, in days since 1970-01-01.
+        day: u32,
+    },
+    /// The farm was closed: from then on it only shows, and repeats what it answered before. It is the last entry.
+    Closed,
 }
 
 /// What a report did to its search.
@@ -176,6 +186,11 @@ impl What {
                 search: *search,
                 day: *day,
             }),
+            What::Carried { commit, day } => Ok(What::Carried {
+                commit: *commit,
+                day: *day,
+            }),
+            What::Closed => Ok(What::Closed),
         }
     }
 }

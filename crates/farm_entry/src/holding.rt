@@ -2,9 +2,10 @@
 
 ghost use Rattle.std.specs.Prelude.{◌≡◌, is_some, IfOk};
 ghost use Rattle.std.specs.Option.{option_copied};
-ghost use Rattle.farm_entry.specs.History.{cancelled_in, key_in, lease_in, opening_in, order_in, report_in, settings_in, skip_in, told_in};
+ghost use Rattle.farm_entry.specs.History.{cancelled_in, is_closing, key_in, lease_in, opening_in, order_in, ordered_in, report_in, settings_in, skip_in, told_in};
 
 use crate::{LeasedRun, Opening, OrderLine, ReportedRun, Settings, SkippedRun, What};
+use farm_rules::OrderedCommit;
 use farm_types::{Key, Memory};
 use std::ops::Deref;
 
@@ -122,12 +123,31 @@ impl What {
         }
     }
 
+    /// The order that the entry stands for, of this farm or of one before it: its commit and its day.
+    pub fn ordered(&self) -> Option<OrderedCommit>
+        ensures { result ≡ ordered_in self.now }
+    {
+        match self {
+            What::Ordered { commit, day, .. } | What::Carried { commit, day } => {
+                Some(OrderedCommit {
+                    commit: *commit,
+                    day: *day,
+                })
+            }
+            _ => None,
+        }
+    }
+
     /// The key of the request that made the entry.
     pub fn key(&self) -> Option<Key>
         ensures { result ≡ key_in self.now }
     {
         match self {
-            What::Founded { .. } | What::Reported { .. } | What::Skipped { .. } => None,
+            What::Founded { .. }
+            | What::Reported { .. }
+            | What::Skipped { .. }
+            | What::Carried { .. }
+            | What::Closed => None,
             What::Opened(opening) => Some(opening.deref().key),
             What::Leased { key, .. } | What::Cancelled { key, .. } | What::Ordered { key, .. } => {
                 Some(*key)
@@ -141,6 +161,16 @@ impl What {
     {
         match self {
             What::Opened(_) => true,
+            _ => false,
+        }
+    }
+
+    /// Whether the entry closes the farm.
+    pub fn is_closing(&self) -> bool
+        ensures { result ≡ is_closing self.now }
+    {
+        match self {
+            What::Closed => true,
             _ => false,
         }
     }

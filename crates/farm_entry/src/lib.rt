@@ -11,11 +11,11 @@
 //!
 //! The definitions stand in `specs/`, to be read in this order: `Ask` (the search that a request asks for), `Setup`
 //! (from an opening to its weights), `History` (what a list of entries holds), `Standing`, `Due`, `Orders`, `RunPages`,
-//! `SearchLines`, `Pages`, `Reply`, `Decision`, `Answer`, `Legal` and `Playing` (what becomes of a history as commands
-//! are decided). They compute. Their laws stand in a crate above this one, `farm_laws`, and farms that are played by
-//! evaluating them in `farm_worked`. The layers above may cite the lemmas of `proofs/Growing` (what a history holds
-//! after appending an entry, and its last moment), `proofs/Asked` (what is made of the numbers of an ask) and
-//! `proofs/SameSettings`. Its tests stand in `entry_tests`.
+//! `SearchLines`, `Pages`, `Reply`, `Decision`, `Answer`, `Closing` (when a farm may be closed, and what it may carry
+//! over), `Legal` and `Playing` (what becomes of a history as commands are decided). They compute. Their laws stand in
+//! a crate above this one, `farm_laws`, and farms that are played by evaluating them in `farm_worked`. The layers above
+//! may cite the lemmas of `proofs/Growing` (what a history holds after appending an entry, and its last moment),
+//! `proofs/Asked` (what is made of the numbers of an ask) and `proofs/SameSettings`. Its tests stand in `entry_tests`.
 #![tactic(auto)]
 
 mod answer;
@@ -44,7 +44,7 @@ pub use command::{Command, OpenAsk, Suspects};
 pub use decision::Decision;
 pub use entry::{Entry, Fate, SkipFate, What};
 pub use lease::{DueRun, LeasedRun, ReportedRun, SkippedRun};
-pub use limits::{MAX_ENTRIES, MAX_RERUNS, MAX_SEARCHES, PAGE_LINES};
+pub use limits::{MAX_CARRIED, MAX_ENTRIES, MAX_RERUNS, MAX_SEARCHES, PAGE_LINES};
 pub use moments::{last_moment, later, moment_used};
 pub use opening::{BoxedOpening, Opening};
 pub use order_page::{OrderLine, OrderPage};

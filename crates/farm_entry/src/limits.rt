@@ -1,5 +1,9 @@
-/// The most entries of a history. A full one still answers what only shows, and repeats what it answered before.
+/// The most entries of a history, its closing aside. A full one still answers what only shows, and repeats what it
+/// answered before.
 pub const MAX_ENTRIES: usize = 1_000_000;
+
+/// The most orders that a farm is founded with: its founding and they fit one record of a journal.
+pub const MAX_CARRIED: usize = 30_000;
 
 /// The most searches of a farm, ended ones among them.
 pub const MAX_SEARCHES: u32 = 2_000;

@@ -41,12 +41,13 @@ impl Opening {
 }
 
 impl What {
-    /// The command that the entry names, by its kind, key and contents. A founding names none.
+    /// The command that the entry names, by its kind, key and contents. A founding, a carried order and a closing name
+    /// none.
     pub fn command(&self, alloc: Global) -> Result<Option<Command>, Memory>
         ensures { IfOk result (λ command. command ≡ command_of self.now) }
     {
         match self {
-            What::Founded { .. } => Ok(None),
+            What::Founded { .. } | What::Carried { .. } | What::Closed => Ok(None),
             What::Opened(opening) => Ok(Some(Command::Open(opening.deref().ask(alloc)?))),
             What::Leased { key, worker, .. } => Ok(Some(Command::Lease {
                 key: *key,

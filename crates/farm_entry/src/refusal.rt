@@ -18,6 +18,9 @@ pub enum Refusal {
     /// The history holds [`MAX_ENTRIES`] entries.
     #[error("the history is full, with {max} entries", max = MAX_ENTRIES)]
     Full,
+    /// The farm was closed.
+    #[error("the farm is closed")]
+    Closed,
     /// The farm has [`MAX_SEARCHES`] searches.
     #[error("the farm has {max} searches, and takes no more", max = MAX_SEARCHES)]
     TooManySearches,

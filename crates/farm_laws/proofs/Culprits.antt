@@ -62,7 +62,7 @@ best-from : (H : List Entry) (m : ℕ) (d : Draft) → next_order_at H m ≡ Ok 
     MadeFrom (λ (o : Opening). confirmed_at (standing H o) o) (openings H) (record { search = d.search; commit = d.commit })
 best-from H m d h =
     made-from (λ (o : Opening). confirmed_at (standing H o) o) (openings H) (record { search = d.search; commit = d.commit })
-    (next_draft-ok (confirmed_searches H) (orders H) (day_in H m) (daily_limit H) d h).confirmed
+    (next_draft-ok (confirmed_searches H) (orders H) (length (order_lines H)) (day_in H m) (daily_limit H) d h).confirmed
 
 -- What an order is for.
 

@@ -1,5 +1,8 @@
 pub mod Again
+pub mod Begun
 pub mod Bounds
+pub mod CarriedOver
+pub mod Closings
 pub mod Counts
 pub mod Culprits
 pub mod DueRooms
@@ -24,6 +27,7 @@ pub mod Opened
 pub mod OrderDays
 pub mod OrdersOnce
 pub mod OutBounds
+pub mod OwnWays
 pub mod Pairs
 pub mod Recorded
 pub mod Repeats

@@ -1,5 +1,5 @@
 -- Lists: what is left out of one, and what stands in what is made of one.
-use Rattle.std.proofs.Common.{◌≡◌, ℕ, zero, suc, Bool, true, false, if◌then◌else◌, List, [], ◌∷◌, filter, slice_get, Contains, Option, Some, None, refl, sym, ap, ◌∙◌, arith, true≢false}
+use Rattle.std.proofs.Common.{◌≡◌, ℕ, zero, suc, ◌+◌, ◌≤◌, Bool, true, false, if◌then◌else◌, List, [], ◌∷◌, length, filter, slice_get, Contains, Option, Some, None, refl, sym, ap, ◌∙◌, arith, true≢false}
 use Rattle.std.specs.List.{cons_option, filter_map}
 use Rattle.std.proofs.lemmas.Option.{none-some}
 
@@ -18,8 +18,22 @@ pub contains-cons : {X : Type 0} (y : X) (xs : List X) (x : X) (P : Type 0) → 
 contains-cons y xs x P first rest (zero, below, is) = first is
 contains-cons y xs x P first rest (suc k, below, is) = rest (k, omega arith, is)
 
-nil-cons : {X : Type 0} (x : X) (xs : List X) → x ∷ xs ≡ [] → ⊥
+pub nil-cons : {X : Type 0} (x : X) (xs : List X) → x ∷ xs ≡ [] → ⊥
 nil-cons x xs h = let b : true ≡ false = cc in true≢false b
+
+-- at most one element
+pub length-cons_option-le : {X : Type 0} (o : Option X) → length (cons_option o []) ≤ 1
+length-cons_option-le None = omega arith
+length-cons_option-le (Some x) = omega arith
+
+-- what is made of the members is no more than they are
+length-put : {Y : Type 0} (o : Option Y) (rest : List Y) → length (cons_option o rest) ≤ length rest + 1
+length-put None rest = omega arith
+length-put (Some y) rest = omega arith
+
+pub length-filter_map-le : {X Y : Type 0} (f : X → Option Y) (xs : List X) → length (filter_map f xs) ≤ length xs
+length-filter_map-le f [] = omega arith
+length-filter_map-le f (x ∷ xs) = omega (arith, length-put (f x) (filter_map f xs), length-filter_map-le f xs)
 
 -- Of what is made nothing is there exactly where nothing is made of each member.
 

@@ -10,7 +10,7 @@ use Rattle.farm_entry.specs.History.{all_leases, lease_in, lease_of, opening_in,
 use Rattle.farm_entry.specs.Legal.{IsFounding, IsLegal, ask_of}
 use Rattle.farm_entry.specs.declared.entry.Entry.{Entry}
 use Rattle.farm_entry.specs.declared.entry.What.{What}
-use Rattle.farm_entry.specs.declared.entry.What.TheVariants.{Founded, Opened, Leased, Reported, Skipped, Cancelled, Ordered}
+use Rattle.farm_entry.specs.declared.entry.What.TheVariants.{Founded, Opened, Leased, Reported, Skipped, Cancelled, Ordered, Carried, Closed}
 use Rattle.farm_entry.specs.declared.lease.LeasedRun.{LeasedRun}
 use Rattle.farm_entry.specs.declared.opening.Opening.{Opening}
 use Rattle.farm_entry.specs.declared.order_page.OrderLine.{OrderLine}
@@ -71,6 +71,8 @@ no_opening (Reported r v _) h = absurd h
 no_opening (Skipped r _) h = absurd h
 no_opening (Cancelled k q) h = absurd h
 no_opening (Ordered k a n c q d) h = absurd h
+no_opening (Carried c t) h = absurd h
+no_opening Closed h = absurd h
 
 pub no_lease : (w : What) → IsFounding w → lease_in w ≡ None
 no_lease (Founded s) h = refl
@@ -80,6 +82,8 @@ no_lease (Reported r v _) h = absurd h
 no_lease (Skipped r _) h = absurd h
 no_lease (Cancelled k q) h = absurd h
 no_lease (Ordered k a n c q d) h = absurd h
+no_lease (Carried c t) h = absurd h
+no_lease Closed h = absurd h
 
 pub no_report : (w : What) → IsFounding w → report_in w ≡ None
 no_report (Founded s) h = refl
@@ -89,6 +93,8 @@ no_report (Reported r v _) h = absurd h
 no_report (Skipped r _) h = absurd h
 no_report (Cancelled k q) h = absurd h
 no_report (Ordered k a n c q d) h = absurd h
+no_report (Carried c t) h = absurd h
+no_report Closed h = absurd h
 
 pub no_skip : (w : What) → IsFounding w → skip_in w ≡ None
 no_skip (Founded s) h = refl
@@ -98,6 +104,8 @@ no_skip (Reported r v _) h = absurd h
 no_skip (Skipped r _) h = absurd h
 no_skip (Cancelled k q) h = absurd h
 no_skip (Ordered k a n c q d) h = absurd h
+no_skip (Carried c t) h = absurd h
+no_skip Closed h = absurd h
 
 pub no_told : (w : What) → IsFounding w → told_in w ≡ None
 no_told (Founded s) h = refl
@@ -107,6 +115,8 @@ no_told (Reported r v _) h = absurd h
 no_told (Skipped r _) h = absurd h
 no_told (Cancelled k q) h = absurd h
 no_told (Ordered k a n c q d) h = absurd h
+no_told (Carried c t) h = absurd h
+no_told Closed h = absurd h
 
 pub no_order : (w : What) → IsFounding w → order_in w ≡ None
 no_order (Founded s) h = refl
@@ -116,6 +126,8 @@ no_order (Reported r v _) h = absurd h
 no_order (Skipped r _) h = absurd h
 no_order (Cancelled k q) h = absurd h
 no_order (Ordered k a n c q d) h = absurd h
+no_order (Carried c t) h = absurd h
+no_order Closed h = absurd h
 
 pub openings-numbered : (H : List Entry) → IsLegal H → AreNumbered (λ (o : Opening). o.search) (openings H)
 openings-numbered =

@@ -12,7 +12,7 @@ use Rattle.farm_entry.specs.History.{all_leases, counted, counted_run, is_counte
 use Rattle.farm_entry.specs.Legal.{IsLegal}
 use Rattle.farm_entry.specs.declared.entry.Entry.{Entry}
 use Rattle.farm_entry.specs.declared.entry.What.{What}
-use Rattle.farm_entry.specs.declared.entry.What.TheVariants.{Founded, Opened, Leased, Reported, Skipped, Cancelled, Ordered}
+use Rattle.farm_entry.specs.declared.entry.What.TheVariants.{Founded, Opened, Leased, Reported, Skipped, Cancelled, Ordered, Carried, Closed}
 use Rattle.farm_entry.specs.declared.lease.LeasedRun.{LeasedRun}
 use Rattle.farm_entry.specs.declared.lease.ReportedRun.{ReportedRun}
 use Rattle.farm_entry.specs.declared.opening.Opening.{Opening}
@@ -119,6 +119,8 @@ no-report-opened (Reported r v _) o h = absurd (none-some o h)
 no-report-opened (Skipped r _) o h = absurd (none-some o h)
 no-report-opened (Cancelled k q) o h = refl
 no-report-opened (Ordered k a n c q d) o h = refl
+no-report-opened (Carried c t) o h = refl
+no-report-opened Closed o h = refl
 
 pub fresh-counted : (H : List Entry) (e : Entry) (o : Opening) (stage : Stage) → IsLegal H → Stepped H e.at e.what →
     opening_in e.what ≡ Some o → counted (H ++ e ∷ []) o.search stage ≡ []

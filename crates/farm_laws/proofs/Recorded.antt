@@ -1,7 +1,11 @@
 -- The entry that a command makes may come next: what it says is enough to make it again.
-use Rattle.std.proofs.Common.{◌≡◌, ℕ, ◌+◌, nat_le, Bool, true, false, List, [], ◌∷◌, length, if◌then◌else◌, Option, Some, None, Result, Ok, Err, refl, sym, ap, subst, ◌∙◌, true≢false}
+use Rattle.std.proofs.Common.{◌≡◌, ℕ, ◌+◌, nat_le, Bool, true, false, List, [], ◌∷◌, ◌++◌, length, if◌then◌else◌, Option, Some, None, Result, Ok, Err, refl, sym, ap, subst, ◌∙◌, append-nil, true≢false}
+use Rattle.std.specs.List.{cons_option}
 use Rattle.std.specs.Option.{option_map}
+use Rattle.std.proofs.lemmas.Bool.{or_from}
+use Rattle.std.proofs.lemmas.Option.{none-some}
 use Rattle.weight_exact.specs.declared.run.Verdict.{Verdict}
+use Rattle.farm_rules.specs.Orders as rules
 use Rattle.farm_rules.specs.declared.orders.Draft.{Draft}
 use Rattle.farm_rules.specs.declared.orders.NoOrder.{NoOrder}
 use Rattle.farm_rules.specs.declared.orders.NoOrder.TheVariants as none
@@ -10,17 +14,19 @@ use Rattle.farm_types.specs.declared.key.Key.{Key}
 use Rattle.farm_types.specs.declared.moment.Moment.{Moment}
 use Rattle.farm_entry.specs.Decision.{add_at, add_opening, decide, cancel_decision, full_decision, known_decision, last_moment, later, lease_decision, moment_used, or_else, own_decision, page_decision, refuse_opening, repeat_or_clash, report_decision, revert_decision, runs_decision, shape_decision, skip_decision}
 use Rattle.farm_entry.specs.Ask.{opening_of}
-use Rattle.farm_entry.specs.History.{openings, place_of_key}
+use Rattle.farm_entry.specs.History.{carried_in, is_closed, is_closing, openings, place_of_key}
 use Rattle.farm_entry.specs.Legal.{IsAddedBy, IsNext, ask_of, command_of}
+use Rattle.farm_entry.specs.Orders.{carried}
+use Rattle.farm_entry.specs.Playing.{after, played}
 use Rattle.farm_entry.specs.Standing.{is_active, standing}
 use Rattle.farm_entry.specs.declared.decision.Decision.{Decision}
-use Rattle.farm_entry.specs.declared.decision.Decision.TheVariants.{New, Refuse, Show}
+use Rattle.farm_entry.specs.declared.decision.Decision.TheVariants.{New, Refuse, Repeat, Show}
 use Rattle.farm_entry.specs.declared.command.Command.{Command}
 use Rattle.farm_entry.specs.declared.command.Command.TheVariants as command
 use Rattle.farm_entry.specs.declared.command.OpenAsk.{OpenAsk}
 use Rattle.farm_entry.specs.declared.entry.Entry.{Entry}
 use Rattle.farm_entry.specs.declared.entry.What.{What}
-use Rattle.farm_entry.specs.declared.entry.What.TheVariants.{Opened, Cancelled}
+use Rattle.farm_entry.specs.declared.entry.What.TheVariants.{Opened, Cancelled, Carried, Closed}
 use Rattle.farm_entry.specs.declared.lease.DueRun.{DueRun}
 use Rattle.farm_entry.specs.declared.lease.LeasedRun.{LeasedRun}
 use Rattle.farm_entry.specs.declared.limits.TheConstants.{MAX_SEARCHES}
@@ -29,6 +35,8 @@ use Rattle.farm_entry.specs.declared.refusal.OpenFault.{OpenFault}
 use Rattle.farm_entry.specs.declared.refusal.Refusal.TheVariants.{SearchEnded, TooManySearches}
 use Rattle.farm_entry.specs.declared.reply.Reply.{Reply}
 use Rattle.farm_laws.proofs.Again.{made_again, under}
+use Rattle.farm_laws.proofs.CarriedOver.{carried-grow}
+use Rattle.farm_laws.proofs.Closings.{is_closed-grow}
 use Rattle.farm_laws.proofs.Made.{is_made}
 use Rattle.farm_laws.proofs.Stepped.{passed, refused-adds, unused}
 
@@ -198,3 +206,86 @@ recorded H (command.ShowRuns search from) m e h =
     absurd (runs-adds H search from _ e (passed H (command.ShowRuns search from) m e h).own)
 recorded H (command.ShowSearches from) m e h =
     absurd (shown-adds _ e (passed H (command.ShowSearches from) m e h).own)
+
+-- What it adds names a command, so it is neither a closing nor a carried order.
+
+-- an entry names a command
+abbrev pub IsNamed : What → Type 0
+IsNamed w = (q : Command) × (command_of w ≡ Some q)
+
+says-named : (q : Command) (m : Moment) (e : Entry) → Says q m e → IsNamed e.what
+says-named q m e s = (q, s.named)
+
+pub added-named : (H : List Entry) (q : Command) (m : Moment) (e : Entry) → decide H q m ≡ New e → IsNamed e.what
+added-named H (command.Open ask) m e h =
+    let p = passed H (command.Open ask) m e h in
+    let adds =
+    open-adds (nat_le MAX_SEARCHES (length (openings H))) (opening_of ask (length (openings H) + 1)) (moment_used H m) e
+    p.own in
+    (command.Open (ask_of adds.opening), ap (λ (x : Entry). command_of x.what) (sym adds.is))
+added-named H (command.Lease key worker) m e h =
+    says-named _ _ e (lease-says H key worker (moment_used H m) _ e (passed H (command.Lease key worker) m e h).own)
+added-named H (command.Report run verdict) m e h =
+    says-named _ _ e (report-says H run verdict (moment_used H m) _ e (passed H (command.Report run verdict) m e h).own)
+added-named H (command.Skip run) m e h =
+    says-named _ _ e (skip-says H run (moment_used H m) _ e (passed H (command.Skip run) m e h).own)
+added-named H (command.Cancel key search) m e h =
+    says-named _ _ e (cancel-says H key search (moment_used H m) _ e (passed H (command.Cancel key search) m e h).own)
+added-named H (command.TakeRevert key agent) m e h =
+    says-named _ _ e (revert-says key agent (moment_used H m) _ e (passed H (command.TakeRevert key agent) m e h).own)
+added-named H (command.ShowSearch search) m e h =
+    absurd (page-adds H search _ e (passed H (command.ShowSearch search) m e h).own)
+added-named H command.ShowFarm m e h = absurd (shown-adds _ e (passed H command.ShowFarm m e h).own)
+added-named H command.ShowOrders m e h = absurd (shown-adds _ e (passed H command.ShowOrders m e h).own)
+added-named H (command.ShowRuns search from) m e h =
+    absurd (runs-adds H search from _ e (passed H (command.ShowRuns search from) m e h).own)
+added-named H (command.ShowSearches from) m e h =
+    absurd (shown-adds _ e (passed H (command.ShowSearches from) m e h).own)
+
+pub named-unclosing : (w : What) → IsNamed w → is_closing w ≡ false
+named-unclosing Closed named = absurd (none-some named.0 named.1)
+named-unclosing w named = refl
+
+pub named-uncarried : (w : What) → IsNamed w → carried_in w ≡ None
+named-uncarried (Carried commit day) named = absurd (none-some named.0 named.1)
+named-uncarried w named = refl
+
+-- what is decided to be new is no closing, and carries nothing over
+pub asked-unclosing : (H : List Entry) (q : Command) (m : Moment) (e : Entry) → decide H q m ≡ New e →
+    (is_closing e.what ≡ false) × (carried_in e.what ≡ None)
+asked-unclosing H q m e h =
+    let named = added-named H q m e h in (named-unclosing e.what named, named-uncarried e.what named)
+
+-- so a history that isn't closed stays so as commands are decided, and what was carried over stays the same
+pub unclosed-after : (H : List Entry) (q : Command) (m : Moment) → is_closed H ≡ false →
+    is_closed (after H (decide H q m)) ≡ false
+unclosed-after H q m unclosed = by (decide H q m) refl
+  where
+    by : (d : Decision) → decide H q m ≡ d → is_closed (after H d) ≡ false
+    by (Refuse cause) is = unclosed
+    by (Repeat place) is = unclosed
+    by (Show page) is = unclosed
+    by (New e) is = is_closed-grow H e ∙ or_from _ _ unclosed (asked-unclosing H q m e is).0
+
+pub carried-after : (H : List Entry) (q : Command) (m : Moment) → carried (after H (decide H q m)) ≡ carried H
+carried-after H q m = by (decide H q m) refl
+  where
+    by : (d : Decision) → decide H q m ≡ d → carried (after H d) ≡ carried H
+    by (Refuse cause) is = refl
+    by (Repeat place) is = refl
+    by (Show page) is = refl
+    by (New e) is =
+        carried-grow H e
+        ∙ ap (λ (o : Option rules.Ordered). carried H ++ cons_option o []) (asked-unclosing H q m e is).1
+        ∙ append-nil (carried H)
+
+pub unclosed-played : (H : List Entry) (asks : List (Command × Moment)) → is_closed H ≡ false →
+    is_closed (played H asks) ≡ false
+unclosed-played H [] unclosed = unclosed
+unclosed-played H (asked ∷ more) unclosed =
+    unclosed-played (after H (decide H asked.0 asked.1)) more (unclosed-after H asked.0 asked.1 unclosed)
+
+pub carried-played : (H : List Entry) (asks : List (Command × Moment)) → carried (played H asks) ≡ carried H
+carried-played H [] = refl
+carried-played H (asked ∷ more) =
+    carried-played (after H (decide H asked.0 asked.1)) more ∙ carried-after H asked.0 asked.1

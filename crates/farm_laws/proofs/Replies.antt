@@ -1,18 +1,20 @@
--- Each entry after the founding has a reply, which stays.
-use Rattle.std.proofs.Common.{◌≡◌, ℕ, zero, suc, ◌+◌, ◌<◌, ◌≤◌, List, [], ◌∷◌, ◌++◌, length, take, slice_get, length-append, Option, Some, refl, sym, ap, subst, ◌∙◌, ⊎_elim, arith}
+-- Each entry that a command made has a reply, which stays.
+use Rattle.std.proofs.Common.{◌≡◌, ℕ, zero, suc, ◌+◌, ◌<◌, ◌≤◌, List, [], ◌∷◌, ◌++◌, length, take, slice_get, length-append, Option, Some, None, refl, sym, ap, subst, ◌∙◌, ⊎_elim, arith}
 use Rattle.std.specs.Option.{option_and_then, option_map}
 use Rattle.std.proofs.lemmas.Bool.{cases_lt}
 use Rattle.std.proofs.lemmas.List.{take-append-le, take_all}
 use Rattle.std.proofs.lemmas.List.Elements.{All-contains}
+use Rattle.std.proofs.lemmas.Option.{none-some, slice_get_within}
 use Rattle.farm_types.specs.Moment.{moment_ms}
 use Rattle.farm_types.specs.declared.moment.Moment.{Moment}
 use Rattle.farm_entry.specs.History.{all_leases, lease_of, opening_numbered, settings_in, settings_of}
-use Rattle.farm_entry.specs.Legal.{IsFounding, IsLegal}
+use Rattle.farm_entry.specs.Legal.{IsFounding, IsLegal, command_of}
 use Rattle.farm_entry.specs.Reply.{reply_at, reply_to, reply_to_report, reply_to_skip}
 use Rattle.farm_entry.specs.Standing.{standing}
+use Rattle.farm_entry.specs.declared.command.Command.{Command}
 use Rattle.farm_entry.specs.declared.entry.Entry.{Entry}
 use Rattle.farm_entry.specs.declared.entry.What.{What}
-use Rattle.farm_entry.specs.declared.entry.What.TheVariants.{Founded, Opened, Leased, Reported, Skipped, Cancelled, Ordered}
+use Rattle.farm_entry.specs.declared.entry.What.TheVariants.{Founded, Opened, Leased, Reported, Skipped, Cancelled, Ordered, Carried, Closed}
 use Rattle.farm_entry.specs.declared.lease.LeasedRun.{LeasedRun}
 use Rattle.farm_entry.specs.declared.opening.Opening.{Opening}
 use Rattle.farm_entry.specs.declared.reply.Reply.{Reply}
@@ -63,25 +65,28 @@ reply-of_lease H e run l make legal known =
     let opened = All-contains (λ (x : LeasedRun). HasOpening H x.search) (all_leases H) l (leases-known H legal) there.0 in
     replied make (opening_numbered (H ++ e ∷ []) l.search) opened.0 (opening_numbered-stays H e l.search opened.0 opened.1)
 
--- the reply to an entry that may come next
-reply-new : (H : List Entry) (e : Entry) (m : Moment) (what : What) → IsLegal H → KindFacts H m what → IsReplied (reply_to (H ++ e ∷ []) what)
-reply-new H e m (Founded settings) legal facts = absurd facts
-reply-new H e m (Opened o) legal facts = (_, refl)
-reply-new H e m (Leased key worker run search stage position deadline) legal facts =
+-- the reply to an entry that may come next and that a command makes
+reply-new : (H : List Entry) (e : Entry) (m : Moment) (what : What) (q : Command) → IsLegal H → KindFacts H m what →
+    command_of what ≡ Some q → IsReplied (reply_to (H ++ e ∷ []) what)
+reply-new H e m (Founded settings) q legal facts named = absurd facts
+reply-new H e m (Opened o) q legal facts named = (_, refl)
+reply-new H e m (Leased key worker run search stage position deadline) q legal facts named =
     let due_in = next_run-due H (moment_ms m) _ facts.due in
     let o = due_in.opening in
     let found : opening_numbered H search ≡ Some o = ap (opening_numbered H) due_in.of_search ∙ opening-found H o legal due_in.there in
     replied _ (opening_numbered (H ++ e ∷ []) search) o (opening_numbered-stays H e search o found)
-reply-new H e m (Reported run verdict fate) legal facts =
+reply-new H e m (Reported run verdict fate) q legal facts named =
     let l = facts.lease in
     let of_lease = reply-of_lease H e run l (λ o. reply.Reported l.run l.search verdict fate (standing (H ++ e ∷ []) o)) legal facts.known in
     (of_lease.0, ap (option_and_then (reply_to_report (H ++ e ∷ []) verdict fate)) (lease_of-stays H e run l facts.known) ∙ of_lease.1)
-reply-new H e m (Skipped run fate) legal facts =
+reply-new H e m (Skipped run fate) q legal facts named =
     let l = facts.lease in
     let of_lease = reply-of_lease H e run l (λ o. reply.Skipped l.run l.search fate (standing (H ++ e ∷ []) o)) legal facts.known in
     (of_lease.0, ap (option_and_then (reply_to_skip (H ++ e ∷ []) fate)) (lease_of-stays H e run l facts.known) ∙ of_lease.1)
-reply-new H e m (Cancelled key search) legal facts = (_, refl)
-reply-new H e m (Ordered key agent order commit search day) legal facts = (_, refl)
+reply-new H e m (Cancelled key search) q legal facts named = (_, refl)
+reply-new H e m (Ordered key agent order commit search day) q legal facts named = (_, refl)
+reply-new H e m (Carried c t) q legal facts named = absurd (none-some q named)
+reply-new H e m Closed q legal facts named = absurd (none-some q named)
 
 -- the reply at the last place
 reply-last : (H : List Entry) (e : Entry) → reply_at (H ++ e ∷ []) (length H) ≡ reply_to (H ++ e ∷ []) e.what
@@ -91,22 +96,49 @@ reply-last H e =
     ap (λ (o : Option Entry). option_and_then (λ x. reply_to (take (length H + 1) (H ++ e ∷ [])) x.what) o) (slice_get-last H e)
     ∙ ap (λ (G : List Entry). reply_to G e.what) whole
 
--- each entry after the founding has a reply
-pub reply-there : (H : List Entry) (place : ℕ) → IsLegal H → 1 ≤ place → place < length H → IsReplied (reply_at H place)
-reply-there H place legal later below =
-    each_legal (λ (G : List Entry). (k : ℕ) → 1 ≤ k → k < length G → IsReplied (reply_at G k))
-    (λ e founding k some inside. absurd (omega arith))
-    (λ G e legal' there step k some inside.
-    let longer : length (G ++ e ∷ []) ≡ length G + 1 = length-append G (e ∷ []) in
+-- a founding names no command
+pub no_command : (w : What) → IsFounding w → command_of w ≡ None
+no_command (Founded settings) founding = refl
+no_command (Opened o) founding = absurd founding
+no_command (Leased key worker run search stage position deadline) founding = absurd founding
+no_command (Reported run verdict _) founding = absurd founding
+no_command (Skipped run _) founding = absurd founding
+no_command (Cancelled key search) founding = absurd founding
+no_command (Ordered key agent order commit search day) founding = absurd founding
+no_command (Carried commit day) founding = absurd founding
+no_command Closed founding = absurd founding
+
+founded-unnamed : (f : Entry) (k : ℕ) (x : Entry) (q : Command) → IsFounding f.what → slice_get (f ∷ []) k ≡ Some x →
+    command_of x.what ≡ Some q → ⊥
+founded-unnamed f zero x q founding is named =
+    let same : f ≡ x = cc in
+    none-some q (sym (no_command f.what founding) ∙ ap (λ (y : Entry). command_of y.what) same ∙ named)
+founded-unnamed f (suc k) x q founding is named = none-some x is
+
+-- each entry that names a command has a reply
+pub reply-there : (H : List Entry) (place : ℕ) (e : Entry) (q : Command) → IsLegal H → slice_get H place ≡ Some e →
+    command_of e.what ≡ Some q → IsReplied (reply_at H place)
+reply-there H place e q legal there named =
+    each_legal
+    (λ (G : List Entry). (k : ℕ) (x : Entry) (p : Command) → slice_get G k ≡ Some x → command_of x.what ≡ Some p →
+    IsReplied (reply_at G k))
+    (λ f founding k x p is says. absurd (founded-unnamed f k x p founding is says))
+    (λ G new legal' all step k x p is says.
+    let longer : length (G ++ new ∷ []) ≡ length G + 1 = length-append G (new ∷ []) in
+    let inside : k < length (G ++ new ∷ []) = slice_get_within (G ++ new ∷ []) k x is in
     ⊎_elim
     (λ (before : k < length G).
-    subst IsReplied (sym (reply-same G (e ∷ []) k before)) (there k some before))
+    subst IsReplied (sym (reply-same G (new ∷ []) k before))
+    (all k x p (sym (slice_get-first G (new ∷ []) k before) ∙ is) says))
     (λ (past : length G ≤ k).
     let last : length G ≡ k = omega arith in
-    subst (λ (i : ℕ). IsReplied (reply_at (G ++ e ∷ []) i)) last
-    (subst IsReplied (sym (reply-last G e)) (reply-new G e e.at e.what legal' step.facts)))
+    let both : Some new ≡ Some x = sym (slice_get-last G new) ∙ ap (slice_get (G ++ new ∷ [])) last ∙ is in
+    let same : new ≡ x = cc in
+    let mine : command_of new.what ≡ Some p = ap (λ (y : Entry). command_of y.what) same ∙ says in
+    subst (λ (i : ℕ). IsReplied (reply_at (G ++ new ∷ []) i)) last
+    (subst IsReplied (sym (reply-last G new)) (reply-new G new new.at new.what p legal' step.facts mine)))
     (cases_lt k (length G)))
-    H legal place later below
+    H legal place e q there named
 
 -- Settings.
 
@@ -118,6 +150,8 @@ founded-with (Reported run verdict _) founding = absurd founding
 founded-with (Skipped run _) founding = absurd founding
 founded-with (Cancelled key search) founding = absurd founding
 founded-with (Ordered key agent order commit search day) founding = absurd founding
+founded-with (Carried c t) founding = absurd founding
+founded-with Closed founding = absurd founding
 
 -- what a farm was founded with is there, and stays
 pub settings-there : (H K : List Entry) → IsLegal H → (s : Settings) × (settings_of (H ++ K) ≡ Some s) × (settings_of H ≡ Some s)

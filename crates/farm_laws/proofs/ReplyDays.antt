@@ -1,39 +1,36 @@
 -- The days that a farm's replies show, and those that its refusals name, are at most the last one.
-use Rattle.std.proofs.Common.{◌≡◌, ◌+◌, ◌≤◌, ℕ, Bool, true, false, if◌then◌else◌, List, slice_get, slice_index_or, take, Option, Some, None, Result, Ok, Err, refl, subst}
+use Rattle.std.proofs.Common.{◌≡◌, ◌+◌, ◌≤◌, ℕ, nat_le, Bool, true, false, not, ◌&&◌, if◌then◌else◌, List, length, slice_get, slice_index_or, take, Option, Some, None, Result, Ok, Err, refl, sym, subst, true≢false}
 use Rattle.std.specs.Option.{option_and_then, option_map}
 use Rattle.std.proofs.lemmas.List.Elements.{All-contains_itself}
 use Rattle.std.proofs.lemmas.Option.{none-some}
-use Rattle.farm_rules.specs.declared.orders.Draft.{Draft}
-use Rattle.farm_rules.specs.declared.orders.NoOrder.{NoOrder}
-use Rattle.farm_rules.specs.declared.orders.NoOrder.TheVariants as none
 use Rattle.farm_types.specs.declared.key.Key.{Key}
 use Rattle.farm_types.specs.declared.moment.Moment.{Moment}
 use Rattle.farm_types.specs.declared.moment.TheConstants.{LAST_DAY}
-use Rattle.weight_exact.specs.declared.run.Verdict.{Verdict}
-use Rattle.farm_entry.specs.Decision.{add_at, add_opening, asked_before, cancel_decision, decide, full_decision, keyed_decision, known_decision, lease_decision, moment_used, or_else, own_decision, page_decision, refuse_opening, repeat_or_clash, report_decision, revert_decision, runs_decision, shape_decision, skip_decision}
-use Rattle.farm_entry.specs.History.{lease_of, opening_numbered, order_in, order_lines, place_of_key, place_of_report}
+use Rattle.farm_entry.specs.Decision.{asked_before, closed_decision, decide, is_show, full_decision, keyed_decision, known_decision, moment_used, or_else, own_decision, page_decision, refuse_opening, repeat_or_clash, runs_decision, shape_decision}
+use Rattle.farm_entry.specs.History.{is_closed, lease_of, opening_numbered, order_in, order_lines, place_of_key, place_of_report}
 use Rattle.farm_entry.specs.Legal.{IsLegal}
 use Rattle.farm_entry.specs.Reply.{reply_at, reply_to, reply_to_report, reply_to_skip}
 use Rattle.farm_entry.specs.Setup.{budget_of_search}
-use Rattle.farm_entry.specs.Standing.{is_active, standing}
+use Rattle.farm_entry.specs.Standing.{standing}
 use Rattle.farm_entry.specs.declared.command.Command.{Command}
 use Rattle.farm_entry.specs.declared.command.Command.TheVariants as command
 use Rattle.farm_entry.specs.declared.decision.Decision.{Decision}
 use Rattle.farm_entry.specs.declared.decision.Decision.TheVariants.{Refuse, Repeat, Show}
 use Rattle.farm_entry.specs.declared.entry.Entry.{Entry}
 use Rattle.farm_entry.specs.declared.entry.What.{What}
-use Rattle.farm_entry.specs.declared.entry.What.TheVariants.{Founded, Opened, Leased, Reported, Skipped, Cancelled, Ordered}
-use Rattle.farm_entry.specs.declared.lease.DueRun.{DueRun}
+use Rattle.farm_entry.specs.declared.entry.What.TheVariants.{Founded, Opened, Leased, Reported, Skipped, Cancelled, Ordered, Carried, Closed}
 use Rattle.farm_entry.specs.declared.lease.LeasedRun.{LeasedRun}
+use Rattle.farm_entry.specs.declared.limits.TheConstants.{MAX_ENTRIES}
 use Rattle.farm_entry.specs.declared.opening.Opening.{Opening}
 use Rattle.farm_entry.specs.declared.order_page.OrderLine.{OrderLine}
 use Rattle.farm_entry.specs.declared.refusal.OpenFault.{OpenFault}
-use Rattle.farm_entry.specs.declared.refusal.Refusal.TheVariants.{Full, KeyClash, SearchEnded, TooManySearches}
+use Rattle.farm_entry.specs.declared.refusal.Refusal.TheVariants.{Full, Closed as FarmClosed, KeyClash}
 use Rattle.farm_entry.specs.declared.reply.Reply.{Reply}
 use Rattle.farm_entry.specs.declared.reply.Reply.TheVariants as reply
 use Rattle.farm_laws.specs.Days.{HasDays}
 use Rattle.farm_laws.proofs.Lists.{filter_map-at}
 use Rattle.farm_laws.proofs.OrderDays.{order-day}
+use Rattle.farm_laws.proofs.OwnWays.{either-way, own-way}
 
 -- Replies of entries.
 
@@ -71,6 +68,8 @@ replied-days H (Cancelled key search) r few is = let same : reply.Cancelled sear
 replied-days H (Ordered key agent order commit search day) r few is =
     let same : reply.Ordered order commit search day ≡ r = cc in
     subst HasDays same (few (record { order = order; agent = agent; commit = commit; search = search; day = day }) refl)
+replied-days H (Carried c t) r few is = absurd (none-some r is)
+replied-days H Closed r few is = absurd (none-some r is)
 
 at-days : (H : List Entry) (place : ℕ) (r : Reply) (o : Option Entry) → IsLegal H → slice_get H place ≡ o
     → option_and_then (λ (e : Entry). reply_to (take (place + 1) H) e.what) o ≡ Some r → HasDays r
@@ -92,40 +91,6 @@ abbrev ShowsDaysIn : Option Decision → Type 0
 ShowsDaysIn None = Unit {0}
 ShowsDaysIn (Some d) = ShowsDays d
 
-either-days : (b : Bool) (x y : Decision) → ShowsDays x → ShowsDays y → ShowsDays (if b then x else y)
-either-days true x y first second = first
-either-days false x y first second = second
-
-opening-days : (m : Moment) (made : Result Opening OpenFault) → ShowsDays (add_opening m made)
-opening-days m (Ok o) = tt
-opening-days m (Err f) = tt
-
-lease-days : (H : List Entry) (key : Key) (worker : List ℕ) (m : Moment) (due : Option DueRun) →
-    ShowsDays (lease_decision H key worker m due)
-lease-days H key worker m None = tt
-lease-days H key worker m (Some d) = tt
-
-report-days : (H : List Entry) (run : ℕ) (verdict : Verdict) (m : Moment) (l : Option LeasedRun) →
-    ShowsDays (report_decision H run verdict m l)
-report-days H run verdict m None = tt
-report-days H run verdict m (Some l) = tt
-
-skip-days : (H : List Entry) (run : ℕ) (m : Moment) (l : Option LeasedRun) → ShowsDays (skip_decision H run m l)
-skip-days H run m None = tt
-skip-days H run m (Some l) = tt
-
-cancel-days : (H : List Entry) (key : Key) (search : ℕ) (m : Moment) (o : Option Opening) →
-    ShowsDays (cancel_decision H key search m o)
-cancel-days H key search m None = tt
-cancel-days H key search m (Some o) =
-    either-days (is_active (standing H o)) (add_at m (Cancelled key search)) (Refuse (SearchEnded (standing H o))) tt tt
-
-revert-days : (key : Key) (agent : List ℕ) (m : Moment) (next : Result Draft NoOrder) →
-    ShowsDays (revert_decision key agent m next)
-revert-days key agent m (Ok d) = tt
-revert-days key agent m (Err none.NoRevert) = tt
-revert-days key agent m (Err (none.DailyLimit day count)) = tt
-
 page-days : (H : List Entry) (search : ℕ) (o : Option Opening) → ShowsDays (page_decision H search o)
 page-days H search None = tt
 page-days H search (Some o) = tt
@@ -134,19 +99,23 @@ runs-days : (H : List Entry) (search from : ℕ) (o : Option Opening) → ShowsD
 runs-days H search from None = tt
 runs-days H search from (Some o) = tt
 
-own-days : (H : List Entry) (q : Command) (m : Moment) → IsLegal H → ShowsDays (own_decision H q m)
-own-days H (command.Open ask) m legal = either-days _ (Refuse TooManySearches) (add_opening m _) tt (opening-days m _)
-own-days H (command.Lease key worker) m legal = lease-days H key worker m _
-own-days H (command.Report run verdict) m legal = report-days H run verdict m _
-own-days H (command.Skip run) m legal = skip-days H run m _
-own-days H (command.Cancel key search) m legal = cancel-days H key search m _
-own-days H (command.TakeRevert key agent) m legal = revert-days key agent m _
-own-days H (command.ShowSearch search) m legal = page-days H search _
-own-days H command.ShowFarm m legal = tt
-own-days H command.ShowOrders m legal = λ k d below.
+-- of a command that only shows
+show-days : (H : List Entry) (q : Command) (m : Moment) → IsLegal H → is_show q ≡ true → ShowsDays (own_decision H q m)
+show-days H (command.ShowSearch search) m legal shows = page-days H search _
+show-days H command.ShowFarm m legal shows = tt
+show-days H command.ShowOrders m legal shows = λ k d below.
     order-day H (slice_index_or (order_lines H) k d) legal (All-contains_itself (order_lines H) k d below)
-own-days H (command.ShowRuns search from) m legal = runs-days H search from _
-own-days H (command.ShowSearches from) m legal = tt
+show-days H (command.ShowRuns search from) m legal shows = runs-days H search from _
+show-days H (command.ShowSearches from) m legal shows = tt
+show-days H (command.Open ask) m legal shows = absurd (true≢false (sym shows))
+show-days H (command.Lease key worker) m legal shows = absurd (true≢false (sym shows))
+show-days H (command.Report run verdict) m legal shows = absurd (true≢false (sym shows))
+show-days H (command.Skip run) m legal shows = absurd (true≢false (sym shows))
+show-days H (command.Cancel key search) m legal shows = absurd (true≢false (sym shows))
+show-days H (command.TakeRevert key agent) m legal shows = absurd (true≢false (sym shows))
+
+own-days : (H : List Entry) (q : Command) (m : Moment) → IsLegal H → ShowsDays (own_decision H q m)
+own-days H q m legal = own-way ShowsDays (λ e. tt) (λ cause. tt) H q m (show-days H q m legal)
 
 refused-days : (made : Result Opening OpenFault) → ShowsDaysIn (refuse_opening made)
 refused-days (Ok o) = tt
@@ -173,7 +142,7 @@ keyed-days : (H : List Entry) (q : Command) (key : Option Key) → ShowsDaysIn (
 keyed-days H q None = tt
 keyed-days H q (Some key) =
     placed-days (repeat_or_clash H q)
-    (λ place. either-days (asked_before (slice_get H place) q) (Repeat place) (Refuse (KeyClash place)) tt tt)
+    (λ place. either-way ShowsDays (asked_before (slice_get H place) q) (Repeat place) (Refuse (KeyClash place)) tt tt)
     (place_of_key H key)
 
 known-days : (H : List Entry) (q : Command) → ShowsDaysIn (known_decision H q)
@@ -189,9 +158,14 @@ known-days H command.ShowOrders = keyed-days H command.ShowOrders None
 known-days H (command.ShowRuns search from) = keyed-days H (command.ShowRuns search from) None
 known-days H (command.ShowSearches from) = keyed-days H (command.ShowSearches from) None
 
-maybe-days : (b : Bool) (d : Decision) → ShowsDays d → ShowsDaysIn (if b then Some d else None)
-maybe-days true d dates = dates
-maybe-days false d dates = tt
+either-days-in : (b : Bool) (x y : Option Decision) → ShowsDaysIn x → ShowsDaysIn y → ShowsDaysIn (if b then x else y)
+either-days-in true x y first second = first
+either-days-in false x y first second = second
+
+full-days : (H : List Entry) (q : Command) → ShowsDaysIn (full_decision H q)
+full-days H q =
+    either-days-in (nat_le MAX_ENTRIES (length H) && not (is_show q)) (Some (Refuse Full)) (closed_decision H q) tt
+    (either-days-in (is_closed H && not (is_show q)) (Some (Refuse FarmClosed)) None tt tt)
 
 first-days : (o : Option Decision) (d : Decision) → ShowsDaysIn o → ShowsDays d → ShowsDays (or_else o d)
 first-days None d first second = second
@@ -201,7 +175,7 @@ decide-days : (H : List Entry) (q : Command) (m : Moment) → IsLegal H → Show
 decide-days H q m legal =
     first-days (shape_decision q) _ (shape-days q)
     (first-days (known_decision H q) _ (known-days H q)
-    (first-days (full_decision H q) _ (maybe-days _ (Refuse Full) tt) (own-days H q (moment_used H m) legal)))
+    (first-days (full_decision H q) _ (full-days H q) (own-days H q (moment_used H m) legal)))
 
 -- the days of what a command shows
 pub shown-days : (H : List Entry) (q : Command) (m : Moment) (r : Reply) → IsLegal H → decide H q m ≡ Show r → HasDays r

@@ -1,5 +1,5 @@
 -- `==` decides whether openings and entries are equal, field by field.
-use Rattle.std.proofs.Common.{◌≡◌, ◌==◌, Decides, ap, rules}
+use Rattle.std.proofs.Common.{◌≡◌, ◌==◌, Decides, ap, refl, rules}
 use Rattle.std.proofs.lemmas.Bool.Decides.{Decides-and, Decides-eqb, Decides-like}
 use Rattle.std.proofs.lemmas.Slice.Eq.{bytes_eq-Decides}
 use Rattle.farm_types.specs.declared.key.Key.{Key}
@@ -13,7 +13,7 @@ use Rattle.farm_entry.specs.declared.entry.Entry.{Entry}
 use Rattle.farm_entry.specs.declared.entry.Fate.{Fate}
 use Rattle.farm_entry.specs.declared.entry.SkipFate.{SkipFate}
 use Rattle.farm_entry.specs.declared.entry.What.{What}
-use Rattle.farm_entry.specs.declared.entry.What.TheVariants.{Founded, Opened, Leased, Reported, Skipped, Cancelled, Ordered}
+use Rattle.farm_entry.specs.declared.entry.What.TheVariants.{Founded, Opened, Leased, Reported, Skipped, Cancelled, Ordered, Carried, Closed}
 use Rattle.farm_entry.specs.declared.opening.Opening.{Opening}
 use Rattle.farm_entry.specs.contracts.entry.EntryPartialEq.TheImpl as entry_eq
 use Rattle.farm_entry.specs.contracts.entry.FatePartialEq.TheImpl as fate_eq
@@ -85,6 +85,9 @@ same_what-Decides (Ordered k w o c s d) (Ordered k' w' o' c' s' d') =
     (Decides-and _ _ (Decides-eqb o o')
     (Decides-and _ _ (same_id-Decides c c')
     (Decides-and _ _ (Decides-eqb s s') (Decides-eqb d d'))))))
+same_what-Decides (Carried c d) (Carried c' d') =
+    Decides-like _ (λ same. cc) (λ e. (cc, cc)) (Decides-and _ _ (same_id-Decides c c') (Decides-eqb d d'))
+same_what-Decides Closed Closed = (λ h. refl, λ e. refl)
 same_what-Decides a b = (λ h. cc, λ e. cc)
 
 pub same_entry-Decides : (a b : Entry) → Decides (entry_eq.ghosts.eq a b) (a ≡ b)

@@ -1,10 +1,12 @@
 -- What it says of an entry that it may come next: one set of facts for each kind of entry.
-use Rattle.std.proofs.Common.{◌≡◌, ℕ, ◌+◌, ◌<◌, Bool, true, false, not, ◌&&◌, nat_le, List, length, slice_get, if◌then◌else◌, Option, Some, None, Result, Ok, Err, refl, ap, subst, ◌∙◌, arith, true≢false}
+use Rattle.std.proofs.Common.{◌≡◌, ℕ, ◌+◌, ◌<◌, ◌≤◌, Bool, true, false, not, ◌&&◌, nat_le, nat_lt, List, length, slice_get, if◌then◌else◌, Option, Some, None, Result, Ok, Err, refl, sym, ap, subst, arith, true≢false}
+use Rattle.std.specs.List.{list_all}
 use Rattle.std.specs.Option.{option_map}
+use Rattle.std.proofs.lemmas.Bool.{and_parts, leb-true, ltb-true, not-true}
 use Rattle.std.proofs.lemmas.Bool.Decides.{nat_tests}
-use Rattle.std.proofs.lemmas.List.{length-map}
 use Rattle.std.proofs.lemmas.Option.{none-some}
 use Rattle.weight_exact.specs.declared.run.Verdict.{Verdict}
+use Rattle.farm_rules.specs.Orders.{has_order}
 use Rattle.farm_rules.specs.declared.orders.Draft.{Draft}
 use Rattle.farm_rules.specs.declared.orders.NoOrder.{NoOrder}
 use Rattle.farm_rules.specs.declared.orders.NoOrder.TheVariants as none
@@ -12,13 +14,15 @@ use Rattle.farm_types.specs.Moment.{moment_ms}
 use Rattle.farm_types.specs.declared.commit_id.CommitId.{CommitId}
 use Rattle.farm_types.specs.declared.key.Key.{Key}
 use Rattle.farm_types.specs.declared.moment.Moment.{Moment}
+use Rattle.farm_types.specs.declared.moment.TheConstants.{LAST_DAY}
 use Rattle.farm_rules.proofs.Drafts.{next_draft-ok}
-use Rattle.farm_entry.specs.Decision.{add_at, add_opening, decide, asked_before, fate_of, full_decision, is_show, keyed_decision, known_decision, lease_decision, moment_used, or_else, own_decision, refuse_opening, repeat_or_clash, report_decision, cancel_decision, revert_decision, shape_decision, skip_decision, skip_fate_of}
+use Rattle.farm_entry.specs.Decision.{add_at, add_opening, decide, asked_before, fate_of, full_decision, is_show, keyed_decision, known_decision, lease_decision, moment_used, or_else, own_decision, refuse_opening, repeat_or_clash, report_decision, cancel_decision, closed_decision, last_moment, revert_decision, shape_decision, skip_decision, skip_fate_of}
 use Rattle.farm_entry.specs.Ask.{opening_of}
+use Rattle.farm_entry.specs.Closing.{begins_at, is_busy}
 use Rattle.farm_entry.specs.Due.{next_run}
-use Rattle.farm_entry.specs.History.{all_leases, daily_limit, key_in, lease_ms, lease_of, opening_numbered, openings, order_lines, place_of_key, place_of_report}
+use Rattle.farm_entry.specs.History.{all_leases, daily_limit, is_closed, is_closing, key_in, lease_ms, lease_of, opening_numbered, openings, order_lines, place_of_key, place_of_report}
 use Rattle.farm_entry.specs.Legal.{IsAddedBy, IsNext, ask_of, command_of}
-use Rattle.farm_entry.specs.Orders.{confirmed_searches, day_in, next_order_at, ordered, orders}
+use Rattle.farm_entry.specs.Orders.{confirmed_searches, day_in, next_order_at, orders}
 use Rattle.farm_entry.specs.Standing.{is_active, standing}
 use Rattle.farm_entry.specs.declared.decision.Decision.{Decision}
 use Rattle.farm_entry.specs.declared.decision.Decision.TheVariants.{New, Refuse, Repeat, Show}
@@ -30,12 +34,13 @@ use Rattle.farm_entry.specs.declared.entry.Entry.{Entry}
 use Rattle.farm_entry.specs.declared.entry.Fate.{Fate}
 use Rattle.farm_entry.specs.declared.entry.SkipFate.{SkipFate}
 use Rattle.farm_entry.specs.declared.entry.What.{What}
-use Rattle.farm_entry.specs.declared.entry.What.TheVariants.{Founded, Opened, Leased, Reported, Skipped, Cancelled, Ordered}
+use Rattle.farm_entry.specs.declared.entry.What.TheVariants.{Founded, Opened, Leased, Reported, Skipped, Cancelled, Ordered, Carried, Closed}
 use Rattle.farm_entry.specs.declared.limits.TheConstants.{MAX_ENTRIES, MAX_SEARCHES}
 use Rattle.farm_entry.specs.declared.opening.Opening.{Opening}
 use Rattle.farm_entry.specs.declared.refusal.OpenFault.{OpenFault}
 use Rattle.farm_entry.specs.declared.refusal.Refusal.{Refusal}
-use Rattle.farm_entry.specs.declared.refusal.Refusal.TheVariants.{Full, KeyClash, SearchEnded, TooManySearches}
+use Rattle.farm_entry.specs.declared.refusal.Refusal.TheVariants.{Full, Closed as FarmClosed, KeyClash, SearchEnded, TooManySearches}
+use Rattle.farm_laws.proofs.Begun.{is_closed-begun, later-second, moment_used-begun}
 
 -- The facts of each kind, at a history and the moment of the entry.
 
@@ -82,6 +87,17 @@ pub record OrderedNext (H : List Entry) (m : Moment) (order : ℕ) (commit : Com
   pub number : order ≡ length (order_lines H) + 1
   pub dated : day ≡ day_in H (moment_ms m)
 
+-- an order was carried over: only the founding and such orders stand there, all at this moment, none is for its commit,
+-- and its day is one
+pub record CarriedNext (H : List Entry) (m : Moment) (commit : CommitId) (day : ℕ) : Type 0 where
+  pub begun : list_all (begins_at m) H ≡ true
+  pub free : has_order (orders H) commit ≡ false
+  pub dated : day ≤ LAST_DAY
+
+-- the farm was closed: it wasn't busy
+pub record ClosedNext (H : List Entry) : Type 0 where
+  pub idle : is_busy H ≡ false
+
 abbrev pub KindFacts : List Entry → Moment → What → Type 0
 KindFacts H m (Founded settings) = ⊥
 KindFacts H m (Opened o) = OpenedNext H o
@@ -91,12 +107,15 @@ KindFacts H m (Reported run verdict fate) = ReportedNext H run verdict fate
 KindFacts H m (Skipped run fate) = SkippedNext H run fate
 KindFacts H m (Cancelled key search) = CancelledNext H search
 KindFacts H m (Ordered key agent order commit search day) = OrderedNext H m order commit search day
+KindFacts H m (Carried commit day) = CarriedNext H m commit day
+KindFacts H m Closed = ClosedNext H
 
--- an entry may come next: its moment is not before the last one, there is room, its key is unused, and the facts of
--- its kind
+-- an entry may come next: its moment is not before the last one, the farm isn't closed, there is room, which a closing
+-- doesn't need, its key is unused, and the facts of its kind
 pub record Stepped (H : List Entry) (m : Moment) (what : What) : Type 0 where
   pub at : moment_used H m ≡ m
-  pub room : length H < MAX_ENTRIES
+  pub unclosed : is_closed H ≡ false
+  pub room : is_closing what ≡ false → length H < MAX_ENTRIES
   pub fresh : (key : Key) → key_in what ≡ Some key → place_of_key H key ≡ None
   pub facts : KindFacts H m what
 
@@ -150,9 +169,16 @@ known-adds H command.ShowOrders = refl
 known-adds H (command.ShowRuns search from) = refl
 known-adds H (command.ShowSearches from) = refl
 
+closed-adds : (H : List Entry) (q : Command) → adds (closed_decision H q) ≡ false
+closed-adds H q =
+    elim (is_closed H && not (is_show q)) as (λ b. adds (if b then Some (Refuse FarmClosed) else None) ≡ false)
+    [ true ↦ refl | false ↦ refl ]
+
 full-adds : (H : List Entry) (q : Command) → adds (full_decision H q) ≡ false
 full-adds H q =
-    elim (nat_le MAX_ENTRIES (length H) && not (is_show q)) as (λ b. adds (if b then Some (Refuse Full) else None) ≡ false) [ true ↦ refl | false ↦ refl ]
+    elim (nat_le MAX_ENTRIES (length H) && not (is_show q)) as
+    (λ b. adds (if b then Some (Refuse Full) else closed_decision H q) ≡ false)
+    [ true ↦ refl | false ↦ closed-adds H q ]
 
 -- what an added entry passed: the shape, the key or the run, the room, and its own case
 pub record Passed (H : List Entry) (q : Command) (m : Moment) (e : Entry) : Type 0 where
@@ -168,9 +194,24 @@ passed H q m e h =
     let third = rest-adds (full_decision H q) _ e (full-adds H q) second.1 in
     record { shape = first.0; known = second.0; full = third.0; own = third.1 }
 
--- a list that is not full has room
-room_of : (H : List Entry) → (if nat_le MAX_ENTRIES (length H) && true then Some (Refuse Full) else None) ≡ None → length H < MAX_ENTRIES
-room_of H h = grind (arith, nat_tests)
+few_of : (n most : ℕ) → nat_le most n ≡ false → n < most
+few_of n most h = grind (arith, nat_tests)
+
+-- where nothing is refused, a command that doesn't only show finds neither of two tests to hold
+taken-both : (full closed show : Bool) → show ≡ false →
+    (if full && not show then Some (Refuse Full) else (if closed && not show then Some (Refuse FarmClosed) else None))
+    ≡ None → (full ≡ false) × (closed ≡ false)
+taken-both full closed true plain h = absurd (true≢false plain)
+taken-both true closed false plain h = absurd (none-some _ (sym h))
+taken-both false true false plain h = absurd (none-some _ (sym h))
+taken-both false false false plain h = (refl, refl)
+
+-- a history that takes a command which doesn't only show has room, and isn't closed
+pub room_both : (H : List Entry) (q : Command) → full_decision H q ≡ None → is_show q ≡ false →
+    (length H < MAX_ENTRIES) × (is_closed H ≡ false)
+room_both H q h plain =
+    let both = taken-both (nat_le MAX_ENTRIES (length H)) (is_closed H) (is_show q) plain h in
+    (few_of (length H) MAX_ENTRIES both.0, both.1)
 
 -- an option of which nothing is made holds nothing
 pub map-none : {X Y : Type 0} (f : X → Y) (o : Option X) → option_map f o ≡ None → o ≡ None
@@ -275,65 +316,94 @@ next_facts : (H : List Entry) (m : Moment) (order : ℕ) (commit : CommitId) (s 
     next_order_at H (moment_ms m) ≡ Ok (record { order = order; commit = commit; search = s; day = day }) →
     OrderedNext H m order commit s day
 next_facts H m order commit s day h =
-    let next = next_draft-ok (confirmed_searches H) (orders H) (day_in H (moment_ms m)) (daily_limit H) _ h in
-    record {
-      next = h;
-      number = next.numbered ∙ ap (λ (n : ℕ). n + 1) (length-map (order_lines H) ordered);
-      dated = next.dated;
-    }
-
-few_of : (n most : ℕ) → nat_le most n ≡ false → n < most
-few_of n most h = grind (arith, nat_tests)
+    let next =
+    next_draft-ok (confirmed_searches H) (orders H) (length (order_lines H)) (day_in H (moment_ms m)) (daily_limit H) _
+    h in
+    record { next = h; number = next.numbered; dated = next.dated }
 
 -- an entry that may come next
 stepped_as : (H : List Entry) (m : Moment) (what : What) → IsAddedBy H (record { at = m; what = what }) (command_of what) → Stepped H m what
 stepped_as H m (Founded settings) h = absurd h
 stepped_as H m (Opened o) h =
     let p = passed H (command.Open (ask_of o)) m _ h in
+    let both = room_both H (command.Open (ask_of o)) p.full refl in
     let own = from_open (nat_le MAX_SEARCHES (length (openings H))) (opening_of (ask_of o) (length (openings H) + 1)) _ m o p.own in
     record {
       at = own.2;
-      room = room_of H p.full;
+      unclosed = both.1;
+      room = λ plain. both.0;
       fresh = λ key e. still_unused H o.key key e (unused H (command.Open (ask_of o)) o.key p.known);
       facts = record { few = few_of _ _ own.0; made = own.1 };
     }
 stepped_as H m (Leased key worker run s stage position deadline) h =
     let p = passed H (command.Lease key worker) m _ h in
+    let both = room_both H (command.Lease key worker) p.full refl in
     let own = from_lease H key worker (moment_used H m) m (next_run H (moment_ms (moment_used H m)))
     (record { run = run; search = s; stage = stage; position = position; deadline = deadline }) p.own in
     record {
       at = own.3;
-      room = room_of H p.full;
+      unclosed = both.1;
+      room = λ plain. both.0;
       fresh = λ k e. still_unused H key k e (unused H (command.Lease key worker) key p.known);
       facts = subst (λ (M : Moment). LeasedNext H M (record { run = run; search = s; stage = stage; position = position; deadline = deadline })) own.3 (record { due = own.0; number = own.1; until = own.2 });
     }
 stepped_as H m (Reported run verdict f) h =
     let p = passed H (command.Report run verdict) m _ h in
+    let both = room_both H (command.Report run verdict) p.full refl in
     let first : place_of_report H run ≡ None = map-none Repeat (place_of_report H run) p.known in
     let own = from_report H run verdict (moment_used H m) m f (lease_of H run) refl first p.own in
-    record { at = own.1; room = room_of H p.full; fresh = λ k e. absurd (none-some k e); facts = own.0 }
+    record { at = own.1; unclosed = both.1; room = λ plain. both.0; fresh = λ k e. absurd (none-some k e); facts = own.0 }
 stepped_as H m (Skipped run f) h =
     let p = passed H (command.Skip run) m _ h in
+    let both = room_both H (command.Skip run) p.full refl in
     let first : place_of_report H run ≡ None = map-none Repeat (place_of_report H run) p.known in
     let own = from_skip H run (moment_used H m) m f (lease_of H run) refl first p.own in
-    record { at = own.1; room = room_of H p.full; fresh = λ k e. absurd (none-some k e); facts = own.0 }
+    record { at = own.1; unclosed = both.1; room = λ plain. both.0; fresh = λ k e. absurd (none-some k e); facts = own.0 }
 stepped_as H m (Cancelled key s) h =
     let p = passed H (command.Cancel key s) m _ h in
+    let both = room_both H (command.Cancel key s) p.full refl in
     let own = from_cancel H key s (moment_used H m) m (opening_numbered H s) refl p.own in
     record {
       at = own.1;
-      room = room_of H p.full;
+      unclosed = both.1;
+      room = λ plain. both.0;
       fresh = λ k e. still_unused H key k e (unused H (command.Cancel key s) key p.known);
       facts = own.0;
     }
 stepped_as H m (Ordered key agent order commit s day) h =
     let p = passed H (command.TakeRevert key agent) m _ h in
+    let both = room_both H (command.TakeRevert key agent) p.full refl in
     let own = from_revert key agent (moment_used H m) m (next_order_at H (moment_ms (moment_used H m))) order commit s day p.own in
     record {
       at = own.1;
-      room = room_of H p.full;
+      unclosed = both.1;
+      room = λ plain. both.0;
       fresh = λ k e. still_unused H key k e (unused H (command.TakeRevert key agent) key p.known);
       facts = subst (λ (M : Moment). OrderedNext H M order commit s day) own.1 (next_facts H (moment_used H m) order commit s day own.0);
+    }
+stepped_as H m (Carried commit day) h =
+    let dated =
+    and_parts (nat_lt (length H) MAX_ENTRIES && list_all (begins_at m) H && not (has_order (orders H) commit))
+    (nat_le day LAST_DAY) h in
+    let free =
+    and_parts (nat_lt (length H) MAX_ENTRIES && list_all (begins_at m) H) (not (has_order (orders H) commit)) dated.0 in
+    let begun = and_parts (nat_lt (length H) MAX_ENTRIES) (list_all (begins_at m) H) free.0 in
+    record {
+      at = moment_used-begun H m begun.1;
+      unclosed = is_closed-begun H m begun.1;
+      room = λ plain. ltb-true _ _ begun.0;
+      fresh = λ k e. absurd (none-some k e);
+      facts = record { begun = begun.1; free = not-true _ free.1; dated = leb-true _ _ dated.1 };
+    }
+stepped_as H m Closed h =
+    let last = and_parts (not (is_closed H) && not (is_busy H)) (nat_le (moment_ms (last_moment m H)) (moment_ms m)) h in
+    let idle = and_parts (not (is_closed H)) (not (is_busy H)) last.0 in
+    record {
+      at = later-second (last_moment m H) m (leb-true _ _ last.1);
+      unclosed = not-true _ idle.0;
+      room = λ opens. absurd (true≢false opens);
+      fresh = λ k e. absurd (none-some k e);
+      facts = record { idle = not-true _ idle.1 };
     }
 
 pub stepped : (H : List Entry) (e : Entry) → IsNext H e → Stepped H e.at e.what

@@ -1,6 +1,6 @@
 //! Laws of the decisions: what is decided can be recorded, and what was done is known again.
 
-ghost use Rattle.std.specs.Prelude.{◌≡◌, ℕ, ◌<◌, ◌≤◌, List, ◌++◌, length, slice_get, Some};
+ghost use Rattle.std.specs.Prelude.{◌≡◌, ℕ, ◌<◌, List, ◌++◌, length, slice_get, Some};
 ghost use Rattle.farm_entry.specs.Decision.{decide};
 ghost use Rattle.farm_entry.specs.History.{settings_of};
 ghost use Rattle.farm_entry.specs.Legal.{IsLegal, IsNext, command_of};
@@ -21,10 +21,10 @@ pub fn repeats_are_known()
         → slice_get H place ≡ Some e → command_of e.what ≡ Some q → decide H q m ≡ Decision.Repeat place }
 {}
 
-/// Each entry after the founding has a reply, which stays the same whatever comes later.
+/// Each entry that a command made has a reply, which stays the same whatever comes later.
 pub fn replies_stay()
-    ensures there { (H : List Entry) (place : ℕ) → IsLegal H → 1 ≤ place → place < length H
-        → (r : Reply) × (reply_at H place ≡ Some r) }
+    ensures there { (H : List Entry) (place : ℕ) (e : Entry) (q : Command) → IsLegal H → slice_get H place ≡ Some e
+        → command_of e.what ≡ Some q → (r : Reply) × (reply_at H place ≡ Some r) }
     ensures same { (H K : List Entry) (place : ℕ) → place < length H → reply_at (H ++ K) place ≡ reply_at H place }
 {}
 

@@ -10,7 +10,7 @@ use Rattle.farm_entry.specs.History.{all_leases, lease_in, leases, opening_in, o
 use Rattle.farm_entry.specs.Legal.{IsLegal}
 use Rattle.farm_entry.specs.declared.entry.Entry.{Entry}
 use Rattle.farm_entry.specs.declared.entry.What.{What}
-use Rattle.farm_entry.specs.declared.entry.What.TheVariants.{Founded, Opened, Leased, Reported, Skipped, Cancelled, Ordered}
+use Rattle.farm_entry.specs.declared.entry.What.TheVariants.{Founded, Opened, Leased, Reported, Skipped, Cancelled, Ordered, Carried, Closed}
 use Rattle.farm_entry.specs.declared.lease.LeasedRun.{LeasedRun}
 use Rattle.farm_entry.specs.declared.opening.Opening.{Opening}
 use Rattle.farm_laws.specs.Openings.{HasOpening}
@@ -171,6 +171,8 @@ opening-not_lease (Reported r v _) h = refl
 opening-not_lease (Skipped r _) h = refl
 opening-not_lease (Cancelled k q) h = refl
 opening-not_lease (Ordered k a n c q d) h = refl
+opening-not_lease (Carried c d) h = refl
+opening-not_lease Closed h = refl
 
 popped-by : (G : List Entry) (e : Entry) (rows : List Row) (is_opening : Bool) → IsLegal G →
     is_some (opening_in e.what) ≡ is_opening → length rows ≡ length (openings (G ++ e ∷ [])) →

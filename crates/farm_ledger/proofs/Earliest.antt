@@ -1,6 +1,7 @@
 -- The first search that waits for an order is the earliest of all that do.
-use Rattle.std.proofs.Common.{◌≡◌, ℕ, zero, suc, ◌+◌, ◌<◌, ◌≤◌, Bool, true, false, not, if◌then◌else◌, List, [], ◌∷◌, length, map, get_or, All, Contains, Option, Some, None, Result, refl, sym, ap, ◌∙◌, arith}
+use Rattle.std.proofs.Common.{◌≡◌, ℕ, zero, suc, ◌+◌, ◌<◌, ◌≤◌, Bool, true, false, not, ◌&&◌, nat_lt, if◌then◌else◌, List, [], ◌∷◌, length, map, get_or, All, Contains, Option, Some, None, Result, refl, sym, ap, ◌∙◌, arith, lt-ltb}
 use Rattle.std.specs.List.{cons_option, filter_map, range_with_len}
+use Rattle.std.specs.Option.{is_some}
 use Rattle.std.proofs.lemmas.List.Elements.{All-contains_itself, All-nil}
 use Rattle.farm_rules.specs.Orders.{Ordered, candidates, draft_of, earliest, has_order, next_draft, orders_of}
 use Rattle.farm_rules.specs.declared.orders.Candidate.{Candidate}
@@ -8,7 +9,8 @@ use Rattle.farm_rules.proofs.Earliest.{earliest-first}
 use Rattle.revert_orders.proofs.Earliest.{earliest-free}
 use Rattle.farm_rules.specs.declared.orders.Draft.{Draft}
 use Rattle.farm_rules.specs.declared.orders.NoOrder.{NoOrder}
-use Rattle.farm_entry.specs.History.{daily_limit}
+use Rattle.farm_entry.specs.Closing.{has_order_to_take}
+use Rattle.farm_entry.specs.History.{daily_limit, order_lines}
 use Rattle.farm_entry.specs.Orders.{confirmed_searches, day_in, next_order_at, orders}
 use Rattle.farm_entry.specs.declared.entry.Entry.{Entry}
 use Rattle.farm_entry.specs.declared.opening.Opening.{Opening}
@@ -89,19 +91,38 @@ alone-earliest os None free = refl
 alone-earliest os (Some c) free =
     ap (λ (b : Bool). earliest (if not b then c ∷ [] else [])) (free c refl)
 
-pub next-alone : (searches : List Candidate) (os : List Ordered) (day limit : ℕ) (x : Option Candidate) →
-    x ≡ earliest (candidates searches os) → next_draft (alone x) os day limit ≡ next_draft searches os day limit
-next-alone searches os day limit x is =
-    ap (λ (m : Option Candidate). draft_of m (length os + 1) day limit (orders_of day os))
+pub next-alone : (searches : List Candidate) (os : List Ordered) (given day limit : ℕ) (x : Option Candidate) →
+    x ≡ earliest (candidates searches os) → next_draft (alone x) os given day limit ≡ next_draft searches os given day limit
+next-alone searches os given day limit x is =
+    ap (λ (m : Option Candidate). draft_of m (given + 1) day limit (orders_of day os))
     (alone-earliest os x (λ c best. earliest-free searches os c (sym is ∙ best)) ∙ is)
 
-pub next-order : (H X : List Entry) (os : List Ordered) (day limit m : ℕ) (first x : Option Candidate)
-    (r : Result Draft NoOrder) → X ≡ H → os ≡ orders H →
-    first ≡ earliest (candidates (confirmed_searches H) (orders H)) → first ≡ x → r ≡ next_draft (alone x) os day limit →
+pub next-order : (H X : List Entry) (os : List Ordered) (given day limit m : ℕ) (first x : Option Candidate)
+    (r : Result Draft NoOrder) → X ≡ H → os ≡ orders H → given ≡ length (order_lines H) →
+    first ≡ earliest (candidates (confirmed_searches H) (orders H)) → first ≡ x → r ≡ next_draft (alone x) os given day limit →
     day ≡ day_in X m → limit ≡ daily_limit X → r ≡ next_order_at H m
-next-order H X os day limit m first x r same book best is made dated limited =
+next-order H X os given day limit m first x r same book numbers best is made dated limited =
     made
-    ∙ ap (λ (l : List Ordered). next_draft (alone x) l day limit) book
-    ∙ ap (λ (d : ℕ). next_draft (alone x) (orders H) d limit) (dated ∙ ap (λ (Y : List Entry). day_in Y m) same)
-    ∙ ap (λ (n : ℕ). next_draft (alone x) (orders H) (day_in H m) n) (limited ∙ ap daily_limit same)
-    ∙ next-alone (confirmed_searches H) (orders H) (day_in H m) (daily_limit H) x (sym is ∙ best)
+    ∙ ap (λ (l : List Ordered). next_draft (alone x) l given day limit) book
+    ∙ ap (λ (n : ℕ). next_draft (alone x) (orders H) n day limit) numbers
+    ∙ ap (λ (d : ℕ). next_draft (alone x) (orders H) (length (order_lines H)) d limit)
+    (dated ∙ ap (λ (Y : List Entry). day_in Y m) same)
+    ∙ ap (λ (n : ℕ). next_draft (alone x) (orders H) (length (order_lines H)) (day_in H m) n)
+    (limited ∙ ap daily_limit same)
+    ∙ next-alone (confirmed_searches H) (orders H) (length (order_lines H)) (day_in H m) (daily_limit H) x
+    (sym is ∙ best)
+
+-- Whether there is one.
+
+some-earliest : (xs : List Candidate) → is_some (earliest xs) ≡ nat_lt 0 (length xs)
+some-earliest [] = refl
+some-earliest (c ∷ cs) = sym (lt-ltb 0 (length (c ∷ cs)) (omega arith))
+
+-- one is still to be taken where the limit allows any and some search waits
+pub order-to_take : (H : List Entry) (limit : ℕ) (first : Option Candidate) → limit ≡ daily_limit H →
+    first ≡ earliest (candidates (confirmed_searches H) (orders H)) →
+    (nat_lt 0 limit && is_some first) ≡ has_order_to_take H
+order-to_take H limit first limited best =
+    ap (λ (n : ℕ). nat_lt 0 n && is_some first) limited
+    ∙ ap (λ (b : Bool). nat_lt 0 (daily_limit H) && b)
+    (ap (λ (x : Option Candidate). is_some x) best ∙ some-earliest (candidates (confirmed_searches H) (orders H)))

@@ -18,12 +18,12 @@ use Rattle.farm_entry.specs.Setup.{commit_of}
 use Rattle.farm_entry.specs.Standing.{is_confirmed, standing}
 use Rattle.farm_entry.specs.declared.entry.Entry.{Entry}
 use Rattle.farm_entry.specs.declared.entry.What.{What}
-use Rattle.farm_entry.specs.declared.entry.What.TheVariants.{Founded, Opened, Leased, Reported, Skipped, Cancelled, Ordered}
+use Rattle.farm_entry.specs.declared.entry.What.TheVariants.{Founded, Opened, Leased, Reported, Skipped, Cancelled, Ordered, Carried, Closed}
 use Rattle.farm_entry.specs.declared.lease.LeasedRun.{LeasedRun}
 use Rattle.farm_entry.specs.declared.opening.Opening.{Opening}
 use Rattle.farm_entry.specs.declared.standing.Standing.{Standing}
 use Rattle.farm_entry.specs.declared.standing.Standing.TheVariants as standings
-use Rattle.farm_entry.proofs.Growing.{openings-grow}
+use Rattle.farm_entry.proofs.Growing.{openings-grow, orders-grow}
 use Rattle.farm_laws.proofs.EntryParts.{told-facts}
 use Rattle.farm_laws.proofs.Filters.{lease_of-stays, opening_numbered-stays}
 use Rattle.farm_laws.proofs.Numbered.{number-at, opening-found, opening-there, openings-numbered}
@@ -34,7 +34,6 @@ use Rattle.search_state.specs.SearchView.{SearchView, standing_in}
 use Rattle.state_laws.specs.Seen.{seen}
 use Rattle.state_laws.proofs.Changes.{cancelled-seen}
 use Rattle.farm_ledger.specs.Waiting.{IsLowest, IsServed, low_after, low_at, low_leased, unordered, waiting, waiting_numbered}
-use Rattle.farm_ledger.proofs.Bookings.{orders-grow}
 use Rattle.farm_ledger.proofs.Counts.{IsUnopened, opened-number}
 use Rattle.farm_ledger.proofs.Earliest.{candidates-each, first-earliest, none-earliest}
 use Rattle.farm_ledger.proofs.Found.{opened-at, unopened-none}
@@ -277,6 +276,10 @@ kind-waiting H m (Leased k w n q t p d) low o legal step there none some found s
     quiet-waiting H _ o legal step (λ h. h) none
 kind-waiting H m (Ordered k a n c q d) low o legal step there none some found small =
     quiet-waiting H _ o legal step (λ h. h) none
+kind-waiting H m (Carried c d) low o legal step there none some found small =
+    quiet-waiting H _ o legal step (λ h. h) none
+kind-waiting H m Closed low o legal step there none some found small =
+    quiet-waiting H _ o legal step (λ h. h) none
 kind-waiting H m (Cancelled k q) low o legal step there none some found small =
     ⊎_elim
     (λ (same : q ≡ o.search). cancelled-waiting H _ o legal step (ap Some same))
@@ -336,6 +339,8 @@ leased-waiting H m (Reported run v f) o legal step is = absurd (true≢false (sy
 leased-waiting H m (Skipped run f) o legal step is = absurd (true≢false (sym is))
 leased-waiting H m (Cancelled k q) o legal step is = absurd (true≢false (sym is))
 leased-waiting H m (Ordered k a n c q d) o legal step is = absurd (true≢false (sym is))
+leased-waiting H m (Carried c d) o legal step is = absurd (true≢false (sym is))
+leased-waiting H m Closed o legal step is = absurd (true≢false (sym is))
 
 -- and opens none
 leased-openings : (H : List Entry) (m : Moment) (w : What) → is_some (lease_in w) ≡ true →
@@ -348,6 +353,8 @@ leased-openings H m (Reported run v f) is = absurd (true≢false (sym is))
 leased-openings H m (Skipped run f) is = absurd (true≢false (sym is))
 leased-openings H m (Cancelled k q) is = absurd (true≢false (sym is))
 leased-openings H m (Ordered k a n c q d) is = absurd (true≢false (sym is))
+leased-openings H m (Carried c d) is = absurd (true≢false (sym is))
+leased-openings H m Closed is = absurd (true≢false (sym is))
 
 -- so that as many searches stand before the first one that waits
 pub leased-lowest : (H : List Entry) (e : Entry) (low : ℕ) → IsLegal H → Stepped H e.at e.what →

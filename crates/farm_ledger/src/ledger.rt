@@ -3,16 +3,18 @@
 ghost use Rattle.std.specs.Prelude.{◌≡◌, ◌<◌, ◌+◌, ◌-◌, ◌++◌, ◌∷◌, [], true, length, take, Contains, IfSome, IfOk, OnOk, OnErr};
 ghost use Rattle.std.specs.Option.{option_copied};
 ghost use Rattle.farm_types.specs.Moment.{moment_ms};
+ghost use Rattle.farm_rules.specs.Orders.{has_order};
+ghost use Rattle.farm_entry.specs.Closing.{has_order_to_take};
 ghost use Rattle.farm_entry.specs.History.{leases, opening_numbered, openings};
 ghost use Rattle.farm_entry.specs.Legal.{IsLegal};
-ghost use Rattle.farm_entry.specs.Orders.{next_order_at};
+ghost use Rattle.farm_entry.specs.Orders.{carried, next_order_at, orders};
 ghost use Rattle.farm_ledger.specs.Waiting.{IsLowest, IsServed, low_after};
 
 use crate::register::Register;
 use farm_entry::{Entry, Opening, Settings, What};
 use farm_rules::{Draft, NoOrder};
 use farm_turns::FarmTurns;
-use farm_types::{Memory, Moment};
+use farm_types::{CommitId, Memory, Moment};
 use std::alloc::Global;
 use std::marker::Model;
 
@@ -84,6 +86,28 @@ impl Ledger {
         let low = self.lows[self.lows.len() - 1];
         let first = self.register.waiting(low + 1);
         self.register.next_order(first, moment)
+    }
+
+    /// Whether some order is still to be taken. With a daily limit of 0 none ever is.
+    pub fn has_order_to_take(&self) -> bool
+        ensures { result ≡ has_order_to_take self.now }
+    {
+        let low = self.lows[self.lows.len() - 1];
+        self.register.daily_limit() > 0 && self.register.waiting(low + 1).is_some()
+    }
+
+    /// How many orders were carried over.
+    pub fn carried_count(&self) -> u32
+        ensures { result ≡ length (carried self.now) }
+    {
+        self.register.carried_count()
+    }
+
+    /// Whether a commit has an order, of this farm or of one before it.
+    pub fn has_order(&self, commit: CommitId) -> bool
+        ensures { result ≡ has_order (orders self.now) commit }
+    {
+        self.register.has_order(commit)
     }
 
     // One entry more, and one less.

@@ -1,15 +1,16 @@
 //! What is read of an entry and of a history, and what one entry writes into the register.
 
-ghost use Rattle.std.specs.Prelude.{◌≡◌, ◌≤◌, ◌<◌, ◌+◌, ◌-◌, ◌^◌, true, false, length, get_or, IfSome};
+ghost use Rattle.std.specs.Prelude.{◌≡◌, ◌≤◌, ◌<◌, ◌+◌, ◌-◌, ◌^◌, true, false, is_some, length, get_or, IfNone, IfSome};
 ghost use Rattle.std.specs.Vec.{vec_capacity};
 ghost use Rattle.farm_types.specs.Moment.{moment_ms};
+ghost use Rattle.farm_entry.specs.History.{carried_in};
 ghost use Rattle.farm_entry.specs.Orders.{confirmed_at, day_in};
 ghost use Rattle.farm_rules.specs.Orders.{has_order};
-ghost use Rattle.farm_ledger.specs.Booked.{draft_in, with_order, without_order};
+ghost use Rattle.farm_ledger.specs.Booked.{draft_in, one_if, with_carried, with_order, without_order};
 ghost use Rattle.farm_ledger.specs.Rows.{blank, row_numbered, with_lease, with_row, without_lease, without_row};
 
 use farm_entry::{Entry, LeasedRun, Opening, Standing, What};
-use farm_rules::{Candidate, Draft};
+use farm_rules::{Candidate, Draft, OrderedCommit};
 use farm_types::Moment;
 use plain_history::zone_minutes;
 use revert_orders::{Orders, day_of};
@@ -39,6 +40,19 @@ pub(crate) fn draft_in(what: &What) -> Option<Draft>
             order: *order,
             commit: *commit,
             search: *search,
+            day: *day,
+        }),
+        _ => None,
+    }
+}
+
+/// The order that an entry carries over.
+pub(crate) fn carried_in(what: &What) -> Option<OrderedCommit>
+    ensures { result ≡ carried_in what.now }
+{
+    match what {
+        What::Carried { commit, day } => Some(OrderedCommit {
+            commit: *commit,
             day: *day,
         }),
         _ => None,
@@ -122,21 +136,40 @@ pub(crate) fn take_lease(rows: &mut Vec<Row>, lease: Option<LeasedRun>)
 
 // Orders.
 
-/// Books an order.
+/// Books an order that is given.
 pub(crate) fn put_order(orders: &mut Orders, draft: Option<Draft>)
     requires room { 1 ≤ orders.old.room }
-    requires number { IfSome draft (λ d. d.order ≡ length orders.old.orders + 1) }
+    requires few { length orders.old.orders + 1 < 2 ^ 32 }
+    requires number { IfSome draft (λ d. d.order ≡ orders.old.given + 1) }
     requires free { IfSome draft (λ d. has_order orders.old.orders d.commit ≡ false) }
-    ensures { orders.new.orders ≡ with_order orders.old.orders draft }
+    ensures orders { orders.new.orders ≡ with_order orders.old.orders draft }
+    ensures given { orders.new.given ≡ orders.old.given + one_if (is_some draft) }
+    ensures same { IfNone draft (orders.new ≡ orders.old) }
 {
     if let Some(draft) = draft {
         orders.add(draft);
     }
 }
 
-/// Takes the last order out, where it is to go.
+/// Books an order that is carried over, which comes before any is given.
+pub(crate) fn put_carried(orders: &mut Orders, carried: Option<OrderedCommit>)
+    requires room { IfSome carried (λ o. 1 ≤ orders.old.room) }
+    requires few { IfSome carried (λ o. length orders.old.orders + 1 < 2 ^ 32) }
+    requires none_given { IfSome carried (λ o. orders.old.given ≡ 0) }
+    requires free { IfSome carried (λ o. has_order orders.old.orders o.commit ≡ false) }
+    ensures orders { orders.new.orders ≡ with_carried orders.old.orders carried }
+    ensures given { orders.new.given ≡ orders.old.given }
+{
+    if let Some(carried) = carried {
+        orders.carry(carried);
+    }
+}
+
+/// Takes the last order out, given or carried over, where it is to go.
 pub(crate) fn take_order(orders: &mut Orders, is_order: bool)
-    ensures { orders.new.orders ≡ without_order orders.old.orders is_order }
+    requires { is_order ≡ true → 0 < length orders.old.orders }
+    ensures orders { orders.new.orders ≡ without_order orders.old.orders is_order }
+    ensures given { orders.new.given ≡ orders.old.given - one_if is_order }
 {
     if is_order {
         let _last = orders.take_last();

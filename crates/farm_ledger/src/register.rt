@@ -3,21 +3,21 @@
 ghost use Rattle.std.specs.Prelude.{◌≡◌, ◌<◌, ◌-◌, ◌++◌, ◌∷◌, [], length, take, Contains, IfSome, IfOk, OnOk, OnErr};
 ghost use Rattle.std.specs.Option.{option_copied};
 ghost use Rattle.farm_types.specs.Moment.{moment_ms};
-ghost use Rattle.farm_rules.specs.Orders.{candidates, earliest};
-ghost use Rattle.farm_entry.specs.History.{leases, opening_numbered, openings};
+ghost use Rattle.farm_rules.specs.Orders.{candidates, earliest, has_order};
+ghost use Rattle.farm_entry.specs.History.{daily_limit, leases, opening_numbered, openings};
 ghost use Rattle.farm_entry.specs.Legal.{IsLegal};
-ghost use Rattle.farm_entry.specs.Orders.{confirmed_searches, next_order_at, orders};
+ghost use Rattle.farm_entry.specs.Orders.{carried, confirmed_searches, next_order_at, orders};
 ghost use Rattle.farm_ledger.specs.Waiting.{waiting_numbered};
 
 use crate::notes::{
-    Row, confirmed_at, day_in, draft_in, put_lease, put_order, put_row, row_of, take_lease,
-    take_order, take_row,
+    Row, carried_in, confirmed_at, day_in, draft_in, put_carried, put_lease, put_order, put_row,
+    row_of, take_lease, take_order, take_row,
 };
 use farm_entry::{Entry, Opening, Settings, What};
 use farm_rules::{Candidate, Draft, NoOrder};
 use farm_state::FarmState;
 use farm_turns::FarmTurns;
-use farm_types::{Memory, Moment};
+use farm_types::{CommitId, Memory, Moment};
 use plain_history::daily_limit;
 use revert_orders::Orders;
 use std::alloc::Global;
@@ -131,6 +131,27 @@ impl Register {
         Some(candidate)
     }
 
+    /// How many orders were carried over.
+    pub(crate) fn carried_count(&self) -> u32
+        ensures { result ≡ length (carried self.now) }
+    {
+        self.orders.len() - self.orders.given()
+    }
+
+    /// Whether a commit has an order, of this farm or of one before it.
+    pub(crate) fn has_order(&self, commit: CommitId) -> bool
+        ensures { result ≡ has_order (orders self.now) commit }
+    {
+        self.orders.has_order(commit)
+    }
+
+    /// How many orders a day may have.
+    pub(crate) fn daily_limit(&self) -> u32
+        ensures { result ≡ daily_limit self.now }
+    {
+        daily_limit(self.history())
+    }
+
     /// What the next request for an order comes to at a moment, where this is the first search that waits for one, or
     /// none does.
     pub(crate) fn next_order(
@@ -166,12 +187,14 @@ impl Register {
         let is_opening = entry.what.is_opening();
         let lease = entry.what.lease();
         let draft = draft_in(&entry.what);
+        let carried = carried_in(&entry.what);
         self.rows.reserve(1)?;
         self.orders.reserve(1)?;
         self.turns.push(alloc, entry)?;
         put_lease(&mut self.rows, lease);
         put_row(&mut self.rows, is_opening, place);
         put_order(&mut self.orders, draft);
+        put_carried(&mut self.orders, carried);
         Ok(())
     }
 
@@ -184,7 +207,7 @@ impl Register {
         let what = &history[history.len() - 1].what;
         let is_opening = what.is_opening();
         let lease = what.lease();
-        let is_order = what.is_order();
+        let is_order = what.ordered().is_some();
         self.turns.pop();
         take_lease(&mut self.rows, lease);
         take_row(&mut self.rows, is_opening);

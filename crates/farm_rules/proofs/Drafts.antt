@@ -1,5 +1,5 @@
 -- What it says of a request for the next order that it is answered so.
-use Rattle.std.proofs.Common.{◌≡◌, ℕ, ◌+◌, ◌<◌, ◌≤◌, Bool, true, false, not, nat_lt, List, length, Option, Some, None, Ok, Err, if◌then◌else◌, refl, subst}
+use Rattle.std.proofs.Common.{◌≡◌, ℕ, ◌+◌, ◌<◌, ◌≤◌, Bool, true, false, not, nat_lt, List, Option, Some, None, Ok, Err, if◌then◌else◌, refl, subst}
 use Rattle.std.proofs.lemmas.Bool.{ltb-true, ltb-false, not-true}
 use Rattle.std.proofs.lemmas.List.Elements.{All-contains_itself, All-filter, filter_passes}
 use Rattle.std.specs.List.{Contains}
@@ -32,12 +32,12 @@ draft_of-ok (Some c) order day limit count d is = by (nat_lt count limit) refl i
 
 -- the search that gets an order is a confirmed one without an order, none of these has a smaller number, and its day
 -- has room
-pub next_draft-ok : (searches : List Candidate) (orders : List Ordered) (day limit : ℕ) (d : Draft) →
-    next_draft searches orders day limit ≡ Ok d → IsNextOrder searches orders day limit d
-next_draft-ok searches orders day limit d is =
+pub next_draft-ok : (searches : List Candidate) (orders : List Ordered) (given day limit : ℕ) (d : Draft) →
+    next_draft searches orders given day limit ≡ Ok d → IsNextOrder searches orders given day limit d
+next_draft-ok searches orders given day limit d is =
     let left = candidates searches orders in
     let free : Candidate → Bool = λ c. not (has_order orders c.commit) in
-    let found = draft_of-ok (earliest left) (length orders + 1) day limit (orders_of day orders) d is in
+    let found = draft_of-ok (earliest left) (given + 1) day limit (orders_of day orders) d is in
     let best : Candidate = record { search = d.search; commit = d.commit } in
     record {
       confirmed = earliest-all (Contains searches) left best (All-filter free (Contains searches) searches (All-contains_itself searches)) found.is;
@@ -59,10 +59,10 @@ draft_of-full (Some c) order day limit count day' count' is = by (nat_lt count l
     by false test same = (cc, cc, ltb-false count limit test)
 
 -- a day whose orders are as many as its limit
-pub next_draft-full : (searches : List Candidate) (orders : List Ordered) (day limit day' count : ℕ) →
-    next_draft searches orders day limit ≡ Err (DailyLimit day' count) → (day' ≡ day) × (count ≡ orders_of day orders) × (limit ≤ orders_of day orders)
-next_draft-full searches orders day limit day' count is =
-    draft_of-full (earliest (candidates searches orders)) (length orders + 1) day limit (orders_of day orders) day' count is
+pub next_draft-full : (searches : List Candidate) (orders : List Ordered) (given day limit day' count : ℕ) →
+    next_draft searches orders given day limit ≡ Err (DailyLimit day' count) → (day' ≡ day) × (count ≡ orders_of day orders) × (limit ≤ orders_of day orders)
+next_draft-full searches orders given day limit day' count is =
+    draft_of-full (earliest (candidates searches orders)) (given + 1) day limit (orders_of day orders) day' count is
 
 draft_of-none : (best : Option Candidate) (order day limit count : ℕ) → draft_of best order day limit count ≡ Err NoRevert → best ≡ None
 draft_of-none None order day limit count is = refl
@@ -73,7 +73,7 @@ draft_of-none (Some c) order day limit count is = by (nat_lt count limit) is
     by false same = cc
 
 -- no confirmed search is left without an order
-pub next_draft-none : (searches : List Candidate) (orders : List Ordered) (day limit : ℕ) →
-    next_draft searches orders day limit ≡ Err NoRevert → earliest (candidates searches orders) ≡ None
-next_draft-none searches orders day limit is =
-    draft_of-none (earliest (candidates searches orders)) (length orders + 1) day limit (orders_of day orders) is
+pub next_draft-none : (searches : List Candidate) (orders : List Ordered) (given day limit : ℕ) →
+    next_draft searches orders given day limit ≡ Err NoRevert → earliest (candidates searches orders) ≡ None
+next_draft-none searches orders given day limit is =
+    draft_of-none (earliest (candidates searches orders)) (given + 1) day limit (orders_of day orders) is

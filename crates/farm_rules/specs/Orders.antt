@@ -1,5 +1,5 @@
 -- Which search gets the next revert order.
-use Rattle.std.specs.Prelude.{ℕ, ◌+◌, ◌==◌, nat_le, nat_lt, Bool, not, List, [], ◌∷◌, length, count_by, filter, if◌then◌else◌, Option, Some, None, Result, Ok, Err}
+use Rattle.std.specs.Prelude.{ℕ, ◌+◌, ◌==◌, nat_le, nat_lt, Bool, not, List, [], ◌∷◌, count_by, filter, if◌then◌else◌, Option, Some, None, Result, Ok, Err}
 use Rattle.std.specs.List.{list_any}
 use Rattle.farm_types.specs.CommitId.{same_id}
 use Rattle.farm_types.specs.declared.commit_id.CommitId.{CommitId}
@@ -7,11 +7,11 @@ use Rattle.farm_rules.specs.declared.orders.Candidate.{Candidate}
 use Rattle.farm_rules.specs.declared.orders.Draft.{Draft}
 use Rattle.farm_rules.specs.declared.orders.NoOrder.{NoOrder}
 use Rattle.farm_rules.specs.declared.orders.NoOrder.TheVariants.{DailyLimit, NoRevert}
+use Rattle.farm_rules.specs.declared.orders.OrderedCommit.{OrderedCommit}
 
--- a revert order that stands: the commit that it reverts, and its day
-pub record Ordered : Type 0 where
-  pub commit : CommitId
-  pub day : ℕ
+-- a revert order that stands, of this farm or of one before it: the commit that it reverts, and its day
+abbrev pub Ordered : Type 0
+Ordered = OrderedCommit
 
 -- whether a commit has an order
 abbrev pub has_order : List Ordered → CommitId → Bool
@@ -45,7 +45,8 @@ draft_of None order day limit count = Err NoRevert
 draft_of (Some c) order day limit count =
     if nat_lt count limit then Ok (draft_for c order day) else Err (DailyLimit day count)
 
--- what the next request for an order comes to: the next order, or why there is none
-abbrev pub next_draft : List Candidate → List Ordered → (day limit : ℕ) → Result Draft NoOrder
-next_draft searches orders day limit =
-    draft_of (earliest (candidates searches orders)) (length orders + 1) day limit (orders_of day orders)
+-- What the next request for an order comes to: the next order, or why there is none. So many of the orders that stand
+-- are this farm's own, and numbered; the others were carried over from the farms before it, and count like them
+abbrev pub next_draft : List Candidate → List Ordered → (given day limit : ℕ) → Result Draft NoOrder
+next_draft searches orders given day limit =
+    draft_of (earliest (candidates searches orders)) (given + 1) day limit (orders_of day orders)

@@ -29,20 +29,26 @@ pub fn worked_numbers()
     ensures a_third_fail_is_late { after_reruns 2 1 [] (fail_at 2 ∷ fail_at 2 ∷ pass_at 1 ∷ [])
         ≡ fail_at 2 ∷ pass_at 1 ∷ [] }
     ensures smallest_number_first { (c d : CommitId) →
-        next_draft (record { search = 7; commit = c } ∷ record { search = 4; commit = d } ∷ []) [] 20 1
+        next_draft (record { search = 7; commit = c } ∷ record { search = 4; commit = d } ∷ []) [] 0 20 1
         ≡ Ok (draft_for (record { search = 4; commit = d }) 1 20) }
     ensures first_on_a_tie { (c d : CommitId) →
-        next_draft (record { search = 4; commit = c } ∷ record { search = 4; commit = d } ∷ []) [] 20 1
+        next_draft (record { search = 4; commit = c } ∷ record { search = 4; commit = d } ∷ []) [] 0 20 1
         ≡ Ok (draft_for (record { search = 4; commit = c }) 1 20) }
     ensures none_left_on_a_full_day { (c : CommitId) →
-        next_draft (record { search = 4; commit = c } ∷ []) (record { commit = c; day = 20 } ∷ []) 20 1
+        next_draft (record { search = 4; commit = c } ∷ []) (record { commit = c; day = 20 } ∷ []) 1 20 1
         ≡ Err NoOrder.NoRevert }
     ensures a_day_is_full { (c d : CommitId) → c ≢ d →
-        next_draft (record { search = 4; commit = c } ∷ []) (record { commit = d; day = 20 } ∷ []) 20 1
+        next_draft (record { search = 4; commit = c } ∷ []) (record { commit = d; day = 20 } ∷ []) 1 20 1
         ≡ Err (NoOrder.DailyLimit 20 1) }
     ensures another_day_is_free { (c d : CommitId) → c ≢ d →
-        next_draft (record { search = 4; commit = c } ∷ []) (record { commit = d; day = 19 } ∷ []) 20 1
+        next_draft (record { search = 4; commit = c } ∷ []) (record { commit = d; day = 19 } ∷ []) 1 20 1
         ≡ Ok (draft_for (record { search = 4; commit = c }) 2 20) }
+    ensures a_carried_order_has_no_number { (c d : CommitId) → c ≢ d →
+        next_draft (record { search = 4; commit = c } ∷ []) (record { commit = d; day = 19 } ∷ []) 0 20 1
+        ≡ Ok (draft_for (record { search = 4; commit = c }) 1 20) }
+    ensures a_carried_order_fills_its_day { (c d : CommitId) → c ≢ d →
+        next_draft (record { search = 4; commit = c } ∷ []) (record { commit = d; day = 20 } ∷ []) 0 20 1
+        ≡ Err (NoOrder.DailyLimit 20 1) }
     ensures a_day_begins { day_at 86400000 (pos 0) ≡ 1 }
     ensures west_of_utc { day_at 86400000 (negsuc 719) ≡ 0 }
     ensures east_of_utc { day_at 122399999 (pos 840) ≡ 1 }
@@ -74,15 +80,16 @@ pub fn earliest_is_the_first_with_the_least_number()
 {}
 
 /// A draft is the next order: for a confirmed search whose commit has none, with the smallest number among those, with
-/// the next number, on a day that has room for it. There is no draft where no confirmed search is left, and else none
-/// where the day has as many orders as its limit allows.
+/// the number behind those given, on a day that has room for it. There is no draft where no confirmed search is left,
+/// and else none where the day has as many orders as its limit allows. Orders that were carried over take up commits and
+/// days, and no numbers.
 pub fn drafts_are_next_orders()
-    ensures next { (searches : List Candidate) (orders : List Ordered) (day limit : ℕ) (d : Draft) →
-        next_draft searches orders day limit ≡ Ok d → IsNextOrder searches orders day limit d }
-    ensures none_left { (searches : List Candidate) (orders : List Ordered) (day limit : ℕ) →
-        (next_draft searches orders day limit ≡ Err NoOrder.NoRevert) ↔ (candidates searches orders ≡ []) }
-    ensures full { (searches : List Candidate) (orders : List Ordered) (day limit named count : ℕ) →
-        next_draft searches orders day limit ≡ Err (NoOrder.DailyLimit named count) →
+    ensures next { (searches : List Candidate) (orders : List Ordered) (given day limit : ℕ) (d : Draft) →
+        next_draft searches orders given day limit ≡ Ok d → IsNextOrder searches orders given day limit d }
+    ensures none_left { (searches : List Candidate) (orders : List Ordered) (given day limit : ℕ) →
+        (next_draft searches orders given day limit ≡ Err NoOrder.NoRevert) ↔ (candidates searches orders ≡ []) }
+    ensures full { (searches : List Candidate) (orders : List Ordered) (given day limit named count : ℕ) →
+        next_draft searches orders given day limit ≡ Err (NoOrder.DailyLimit named count) →
         (named ≡ day) × (count ≡ orders_of day orders) × (limit ≤ orders_of day orders) }
 {}
 

@@ -19,4 +19,4 @@ pub mod laws;
 mod orders;
 
 pub use day::{MS_PER_DAY, MS_PER_MINUTE};
-pub use orders::{Candidate, Draft, NoOrder};
+pub use orders::{Candidate, Draft, NoOrder, OrderedCommit};

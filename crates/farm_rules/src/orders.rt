@@ -10,6 +10,13 @@ pub struct Candidate {
     pub commit: CommitId,
 }
 
+/// A commit for which an order to revert it stands, and the day of that order, in days since 1970-01-01.
+#[derive(Clone, Copy, Debug, PartialEq, Eq)]
+pub struct OrderedCommit {
+    pub commit: CommitId,
+    pub day: u32,
+}
+
 /// An order that can be given next: its number, counted from 1, the commit to revert, the search that found it, and its
 /// day, in days since 1970-01-01.
 #[derive(Clone, Copy, Debug, PartialEq, Eq)]

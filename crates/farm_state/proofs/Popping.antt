@@ -8,7 +8,7 @@ use Rattle.farm_entry.specs.History.{all_leases, cancelled_in, lease_of, opening
 use Rattle.farm_entry.specs.Legal.{IsLegal}
 use Rattle.farm_entry.specs.declared.entry.Entry.{Entry}
 use Rattle.farm_entry.specs.declared.entry.What.{What}
-use Rattle.farm_entry.specs.declared.entry.What.TheVariants.{Founded, Opened, Leased, Reported, Skipped, Cancelled, Ordered}
+use Rattle.farm_entry.specs.declared.entry.What.TheVariants.{Founded, Opened, Leased, Reported, Skipped, Cancelled, Ordered, Carried, Closed}
 use Rattle.farm_entry.specs.declared.lease.LeasedRun.{LeasedRun}
 use Rattle.farm_entry.specs.declared.opening.Opening.{Opening}
 use Rattle.farm_laws.specs.Openings.{HasOpening}
@@ -133,6 +133,8 @@ about-cancel H (Leased k w n x t p d) q is = absurd (none-some q is)
 about-cancel H (Reported run v _) q is = absurd (none-some q is)
 about-cancel H (Skipped run _) q is = absurd (none-some q is)
 about-cancel H (Ordered k a n c x d) q is = absurd (none-some q is)
+about-cancel H (Carried c d) q is = absurd (none-some q is)
+about-cancel H Closed q is = absurd (none-some q is)
 
 pub about-told : (H : List Entry) (w : What) (run : ℕ) (l : LeasedRun) → told_in w ≡ Some run → lease_of H run ≡ Some l →
     IsAbout H w l.search
@@ -143,6 +145,8 @@ about-told H (Opened o) run l is known = absurd (none-some run is)
 about-told H (Leased k w n q t p d) run l is known = absurd (none-some run is)
 about-told H (Cancelled k q) run l is known = absurd (none-some run is)
 about-told H (Ordered k a n c q d) run l is known = absurd (none-some run is)
+about-told H (Carried c d) run l is known = absurd (none-some run is)
+about-told H Closed run l is known = absurd (none-some run is)
 
 told-not_opened : (w : What) (run : ℕ) → told_in w ≡ Some run → opening_in w ≡ None
 told-not_opened (Reported n v _) run is = refl
@@ -152,6 +156,8 @@ told-not_opened (Opened o) run is = absurd (none-some run is)
 told-not_opened (Leased k w n q t p d) run is = absurd (none-some run is)
 told-not_opened (Cancelled k q) run is = absurd (none-some run is)
 told-not_opened (Ordered k a n c q d) run is = absurd (none-some run is)
+told-not_opened (Carried c d) run is = absurd (none-some run is)
+told-not_opened Closed run is = absurd (none-some run is)
 
 -- a cancellation at the end
 pub end-cancels : (H : List Entry) (e : Entry) (q : ℕ) → IsLast H (take (length H - 1) H) e → cancelled_in e.what ≡ Some q →

@@ -8,7 +8,7 @@ use Rattle.farm_entry.specs.History.{cancelled_in, lease_of, opening_numbered, o
 use Rattle.farm_entry.specs.Legal.{IsFounding, IsLegal}
 use Rattle.farm_entry.specs.declared.entry.Entry.{Entry}
 use Rattle.farm_entry.specs.declared.entry.What.{What}
-use Rattle.farm_entry.specs.declared.entry.What.TheVariants.{Founded, Opened, Leased, Reported, Skipped, Cancelled, Ordered}
+use Rattle.farm_entry.specs.declared.entry.What.TheVariants.{Founded, Opened, Leased, Reported, Skipped, Cancelled, Ordered, Carried, Closed}
 use Rattle.farm_entry.specs.declared.lease.LeasedRun.{LeasedRun}
 use Rattle.farm_entry.specs.declared.lease.ReportedRun.{ReportedRun}
 use Rattle.farm_entry.specs.declared.lease.SkippedRun.{SkippedRun}
@@ -116,6 +116,8 @@ told-what H G m (Founded x) o legal step leases = sym (other-seen G _ o legal st
 told-what H G m (Opened x) o legal step leases = sym (other-seen G _ o legal step (λ about. about))
 told-what H G m (Leased k w n q t p d) o legal step leases = sym (other-seen G _ o legal step (λ about. about))
 told-what H G m (Ordered k a n c q d) o legal step leases = sym (other-seen G _ o legal step (λ about. about))
+told-what H G m (Carried c d) o legal step leases = sym (other-seen G _ o legal step (λ about. about))
+told-what H G m Closed o legal step leases = sym (other-seen G _ o legal step (λ about. about))
 told-what H G m (Cancelled k q) o legal step leases =
     told-cancel G m o (Cancelled k q) q (q == o.search) legal step refl (λ about. about) refl
 told-what H G m (Reported run v f) o legal step leases =
@@ -142,6 +144,8 @@ told-founding H m (Reported run v f) o h = absurd h
 told-founding H m (Skipped run f) o h = absurd h
 told-founding H m (Cancelled k q) o h = absurd h
 told-founding H m (Ordered k a n c q d) o h = absurd h
+told-founding H m (Carried c d) o h = absurd h
+told-founding H m Closed o h = absurd h
 
 pub told-seen : (H G K : List Entry) (e : Entry) (o : Opening) → IsLegal H → H ≡ (G ++ e ∷ []) ++ K →
     told H o.search e.what (seen G o) ≡ seen (G ++ e ∷ []) o
@@ -162,6 +166,8 @@ founding-report (Reported run v f) r h is = absurd h
 founding-report (Skipped run f) r h is = absurd h
 founding-report (Cancelled k q) r h is = absurd h
 founding-report (Ordered k a n c q d) r h is = absurd h
+founding-report (Carried c d) r h is = absurd h
+founding-report Closed r h is = absurd h
 
 founding-skip : (w : What) (r : SkippedRun) → IsFounding w → skip_in w ≡ Some r → ⊥
 founding-skip (Founded x) r h is = none-some r is
@@ -171,6 +177,8 @@ founding-skip (Reported run v f) r h is = absurd h
 founding-skip (Skipped run f) r h is = absurd h
 founding-skip (Cancelled k q) r h is = absurd h
 founding-skip (Ordered k a n c q d) r h is = absurd h
+founding-skip (Carried c d) r h is = absurd h
+founding-skip Closed r h is = absurd h
 
 one-opening : (H : List Entry) (n : ℕ) (o x : Opening) → opening_numbered H n ≡ Some x → opening_numbered H n ≡ Some o → x ≡ o
 one-opening H n o x first again = let both : Some x ≡ Some o = sym first ∙ again in cc

@@ -9,7 +9,7 @@ use Rattle.farm_entry.specs.History.{all_leases, lease_of, opening_in, opening_n
 use Rattle.farm_entry.specs.Legal.{IsLegal}
 use Rattle.farm_entry.specs.declared.entry.Entry.{Entry}
 use Rattle.farm_entry.specs.declared.entry.What.{What}
-use Rattle.farm_entry.specs.declared.entry.What.TheVariants.{Founded, Opened, Leased, Reported, Skipped, Cancelled, Ordered}
+use Rattle.farm_entry.specs.declared.entry.What.TheVariants.{Founded, Opened, Leased, Reported, Skipped, Cancelled, Ordered, Carried, Closed}
 use Rattle.farm_entry.specs.declared.lease.LeasedRun.{LeasedRun}
 use Rattle.farm_entry.specs.declared.lease.ReportedRun.{ReportedRun}
 use Rattle.farm_entry.specs.declared.lease.SkippedRun.{SkippedRun}
@@ -140,3 +140,5 @@ neither-told (Opened o) no_report no_skip = refl
 neither-told (Leased key worker run search stage position deadline) no_report no_skip = refl
 neither-told (Cancelled key search) no_report no_skip = refl
 neither-told (Ordered key agent order commit search day) no_report no_skip = refl
+neither-told (Carried commit day) no_report no_skip = refl
+neither-told Closed no_report no_skip = refl

@@ -97,7 +97,7 @@ on_ok-weaker (Ok x) P Q weaker held = weaker held
 on_ok-weaker (Err e) P Q weaker held = tt
 
 -- nothing was added
-more-none : (H more : List Entry) → length (H ++ more) ≤ length H → H ++ more ≡ H
+pub more-none : (H more : List Entry) → length (H ++ more) ≤ length H → H ++ more ≡ H
 more-none H [] few = append-nil H
 more-none H (e ∷ more) few = absurd (omega (arith, few, length-append H (e ∷ more)))
 

@@ -87,10 +87,10 @@ unfit-later before p later H o keeps at misfit = record {
 
 -- the offset of a gate is small
 pub gate-small : (before : List (List ℕ)) (H : List Entry) (gate : ℕ) → Keeps before H → gate ≡ gate_of before
-    → gate ≤ FIRST_GATE + (5 + MAX_ENTRY_BYTES) * MAX_ENTRIES
+    → gate ≤ FIRST_GATE + (5 + MAX_ENTRY_BYTES) * (MAX_ENTRIES + 1)
 gate-small before H gate keeps at =
     let low = keeps.few in
-    let few : length H ≤ MAX_ENTRIES = entries-bounded H keeps.legal in
+    let few : length H ≤ MAX_ENTRIES + 1 = entries-bounded H keeps.legal in
     omega (arith, low, few, at)
 
 -- payloads more were read after some

@@ -1,6 +1,8 @@
 pub mod Ahead
+pub mod AtClose
 pub mod Batches
 pub mod Calls
+pub mod CarriedOver
 pub mod Decided
 pub mod Adding
 pub mod Entered

@@ -21,9 +21,9 @@ use Rattle.farm_rules.specs.declared.orders.NoOrder.TheVariants as none
 use Rattle.farm_types.specs.declared.key.Key.{Key}
 use Rattle.weight_exact.specs.declared.run.Verdict.{Verdict}
 use Rattle.farm_entry.specs.Ask.{opening_of}
-use Rattle.farm_entry.specs.Decision.{add_at, add_opening, asked_before, cancel_decision, decide, full_decision, is_show, known_decision, lease_decision, moment_used, or_else, own_decision, page_decision, refuse_opening, repeat_or_clash, report_decision, revert_decision, runs_decision, shape_decision, skip_decision}
+use Rattle.farm_entry.specs.Decision.{add_at, add_opening, asked_before, cancel_decision, closed_decision, decide, full_decision, is_show, known_decision, lease_decision, moment_used, or_else, own_decision, page_decision, refuse_opening, repeat_or_clash, report_decision, revert_decision, runs_decision, shape_decision, skip_decision}
 use Rattle.farm_entry.specs.Due.{next_run}
-use Rattle.farm_entry.specs.History.{lease_of, opening_numbered, openings, place_of_key, place_of_report}
+use Rattle.farm_entry.specs.History.{is_closed, lease_of, opening_numbered, openings, place_of_key, place_of_report}
 use Rattle.farm_entry.specs.Orders.{next_order_at}
 use Rattle.farm_entry.specs.Standing.{is_active, standing}
 use Rattle.farm_entry.specs.declared.lease.DueRun.{DueRun}
@@ -31,6 +31,7 @@ use Rattle.farm_entry.specs.declared.lease.LeasedRun.{LeasedRun}
 use Rattle.farm_entry.specs.declared.limits.TheConstants.{MAX_ENTRIES, MAX_SEARCHES}
 use Rattle.farm_entry.specs.declared.opening.Opening.{Opening}
 use Rattle.farm_entry.specs.declared.refusal.OpenFault.{OpenFault}
+use Rattle.farm_entry.specs.declared.refusal.Refusal.TheVariants as refusal
 use Rattle.farm_entry.specs.declared.refusal.Refusal.TheVariants.{Full, KeyClash, SearchEnded, TooManySearches}
 use Rattle.farm_entry.specs.declared.command.Command.{Command}
 use Rattle.farm_entry.specs.declared.command.Command.TheVariants as command
@@ -38,7 +39,7 @@ use Rattle.farm_entry.specs.declared.decision.Decision.{Decision}
 use Rattle.farm_entry.specs.declared.decision.Decision.TheVariants as decision
 use Rattle.farm_entry.specs.declared.entry.Entry.{Entry}
 use Rattle.farm_entry.specs.declared.entry.What.{What}
-use Rattle.farm_entry.specs.declared.entry.What.TheVariants.{Founded, Opened, Leased, Reported, Skipped, Cancelled, Ordered}
+use Rattle.farm_entry.specs.declared.entry.What.TheVariants.{Founded, Opened, Leased, Reported, Skipped, Cancelled, Ordered, Carried, Closed}
 use Rattle.farm_entry.specs.Playing.{after}
 use Rattle.farm_store.specs.Answering.{history_after}
 use Rattle.farm_store.specs.Sizes.{asks_size, command_size, entries_size, what_size}
@@ -55,11 +56,14 @@ fields-within (Founded settings) h most = simp (length-append, length-number_byt
 fields-within (Opened o) h most = most
 fields-within (Leased key worker run search stage position deadline) h most =
     simp (length-append, length-number_bytes) (omega (arith, h.1.few))
-fields-within (Reported run verdict fate) h most = simp (length-append, length-number_bytes) (omega arith)
+fields-within (Reported run verdict _) h most = simp (length-append, length-number_bytes) (omega arith)
 fields-within (Skipped run _) h most = simp (length-append, length-number_bytes) (omega arith)
 fields-within (Cancelled key search) h most = simp (length-append, length-number_bytes) (omega arith)
 fields-within (Ordered key agent order commit search day) h most =
     simp (length-append, length-number_bytes, length-id_bytes) (omega (arith, h.1.few))
+fields-within (Carried commit day) h most =
+    simp (length-append, length-number_bytes, length-id_bytes) (omega arith)
+fields-within Closed h most = omega arith
 
 entry-within : (e : Entry) → HasSpelling e.what → length (entry_bytes e) ≤ what_size e.what
 entry-within e h =
@@ -151,9 +155,14 @@ known-takes most H command.ShowOrders = tt
 known-takes most H (command.ShowRuns search from) = tt
 known-takes most H (command.ShowSearches from) = tt
 
-full-takes : (most : ℕ) (b : Bool) → TakesIf most (if b then Some (decision.Refuse Full) else None)
-full-takes most true = tt
-full-takes most false = tt
+closed-takes : (most : ℕ) (b : Bool) → TakesIf most (if b then Some (decision.Refuse refusal.Closed) else None)
+closed-takes most true = tt
+closed-takes most false = tt
+
+full-takes : (most : ℕ) (b : Bool) (d : Option Decision) → TakesIf most d
+    → TakesIf most (if b then Some (decision.Refuse Full) else d)
+full-takes most true d takes = tt
+full-takes most false d takes = takes
 
 opening-takes : (m : Moment) (made : Result Opening OpenFault) → Takes MAX_ENTRY_BYTES (add_opening m made)
 opening-takes m (Ok o) = omega arith
@@ -222,7 +231,8 @@ decide-takes H q m =
     or_else-takes most (shape_decision q) known (first-takes most q)
     (or_else-takes most (known_decision H q) full (known-takes most H q)
     (or_else-takes most (full_decision H q) own
-    (full-takes most (nat_le MAX_ENTRIES (length H) && not (is_show q)))
+    (full-takes most (nat_le MAX_ENTRIES (length H) && not (is_show q)) (closed_decision H q)
+    (closed-takes most (is_closed H && not (is_show q))))
     (own-takes H q (moment_used H m))))
 
 -- Histories.

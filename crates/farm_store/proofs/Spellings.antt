@@ -1,5 +1,5 @@
 -- What payloads spell.
-use Rattle.std.proofs.Common.{◌≡◌, ◌≢◌, ℕ, ◌*◌, ◌≤◌, ◌<◌, List, [], ◌∷◌, ◌++◌, length, map, refl, sym, ◌∙◌, ap, arith}
+use Rattle.std.proofs.Common.{◌≡◌, ◌≢◌, ℕ, ◌+◌, ◌*◌, ◌≤◌, ◌<◌, List, [], ◌∷◌, ◌++◌, length, map, refl, sym, ◌∙◌, ap, arith}
 use Rattle.std.specs.List.{flat_map}
 use Rattle.std.proofs.lemmas.Grind.{flat_map-append}
 use Rattle.std.proofs.lemmas.List.{append-nil, map-append, length-append}
@@ -120,7 +120,7 @@ keeps-first part p spelled is some legal =
 pub keeps-room : (payloads : List (List ℕ)) (H : List Entry) → Keeps payloads H → gate_of payloads < GATE_LIMIT
 keeps-room payloads H keeps =
     let low = keeps.few in
-    let few : length H ≤ MAX_ENTRIES = entries-bounded H keeps.legal in
+    let few : length H ≤ MAX_ENTRIES + 1 = entries-bounded H keeps.legal in
     omega (arith, low, few)
 
 -- entries fit a payload where the most that their kinds allow does

@@ -12,3 +12,5 @@ pub mod Sizes
 pub mod State
 pub mod StoreInside
 pub mod Together
+pub mod Inherited
+pub mod Closed

@@ -21,6 +21,7 @@
 mod admitting;
 mod answering;
 mod asking;
+mod closing;
 mod deciding;
 mod founding;
 pub mod laws;
@@ -33,6 +34,7 @@ pub use asking::{
     Answers, Ask, CallFault, MAX_BATCH, MAX_BATCH_BYTES, MAX_RECORD_BYTES, MAX_SHORT_ENTRY_BYTES,
     Part, most_bytes,
 };
+pub use closing::CloseFault;
 pub use farm_entry::Answer;
 pub use farm_journal::{CreateFault, JournalFault, OpeningFault};
 pub use store::Store;

@@ -20,6 +20,7 @@ ghost use Rattle.std.specs.Prelude.{
 };
 ghost use Rattle.std.specs.Option.{option_map};
 ghost use Rattle.farm_disk.specs.Images.{EachImage, LeavesOnly, LeavesSinceSync, moment};
+ghost use Rattle.farm_entry.specs.Closing.{CanBeCarried};
 ghost use Rattle.farm_entry.specs.History.{opening_numbered};
 ghost use Rattle.farm_entry.specs.Legal.{IsLegal};
 ghost use Rattle.farm_entry.specs.Pages.{page_of, totals};
@@ -30,9 +31,11 @@ ghost use Rattle.farm_journal.specs.Layout.{is_unborn, version_of};
 ghost use Rattle.farm_journal.specs.Opened.{OpeningCause};
 ghost use Rattle.farm_journal.specs.ReadsOnly.{ReadsOnly};
 ghost use Rattle.farm_store.specs.Answering.{AnswerSays, BatchSays, CallSays, IsUnrepairedBy, Settles, as_batch};
+ghost use Rattle.farm_store.specs.Closed.{Closes, HasCloseCause, OnClosedOrBusy};
 ghost use Rattle.farm_store.specs.Entering.{Enters};
 ghost use Rattle.farm_store.specs.Faults.{HasCallCause, HasCountFrom, OnAnswered};
 ghost use Rattle.farm_store.specs.Founded.{Founds, IsUnbornOrFounding, disk_founded, founding};
+ghost use Rattle.farm_store.specs.Inherited.{IsUnbornOrInheriting, inheriting};
 ghost use Rattle.farm_store.specs.Keeping.{KeepsStore};
 ghost use Rattle.farm_store.specs.Opened.{OpensTo, disk_opened};
 ghost use Rattle.farm_store.specs.State.{IsLeft, IsRepaired, IsStored, IsWithOrWithout};
@@ -42,8 +45,9 @@ ghost use Rattle.farm_store.specs.declared.asking.TheConstants.{MAX_BATCH, MAX_R
 
 use crate::admitting::farm_of;
 use crate::asking::{Answers, Ask, CallFault, Part};
+use crate::closing::{CloseFault, add_closing};
 use crate::deciding::{AskList, AskParts, Deciding, OneAsk, OneRun};
-use crate::founding::found;
+use crate::founding::{found, inherit};
 use crate::recording::record_from;
 use crate::showing::page_in;
 use farm_core::Farm;
@@ -52,6 +56,7 @@ use farm_entry::{
     Answer, Command, Entry, LeasedRun, Reply, SearchPage, Settings, Standing, Totals,
 };
 use farm_journal::{CreateFault, Journal, JournalFault, OpeningFault, Repaired};
+use farm_rules::OrderedCommit;
 use farm_types::{Memory, Moment};
 use std::alloc::Global;
 use std::marker::Model;
@@ -160,6 +165,80 @@ impl<D: Disk> Store<D> {
             },
             Err(missed) => Err(missed),
         }
+    }
+
+    /// Founds a farm as [`Store::found`] does, which carries over these orders of a farm before it. The founding and
+    /// they are stored in one record, so that a crash leaves all of them or none.
+    pub fn inherit(
+        alloc: Global,
+        disk: D,
+        settings: Settings,
+        at: Moment,
+        orders: &[OrderedCommit],
+    ) -> Result<Store<D>, (D, CreateFault)>
+        requires { CanBeCarried orders.now }
+
+        ensures same { D.tells (disk_founded result) ≡ D.tells disk }
+        ensures answers { D.tells disk ≡ true → Founds (D.told disk).bytes result }
+        ensures history { IfOk result (λ store. store.history ≡ inheriting settings at orders.now) }
+        ensures decided { IfOk result (λ store. store.pending ≡ []) }
+        ensures none_recorded { IfOk result (λ store. store.recorded ≡ 0) }
+        ensures legal { OnOk result (IsLegal (inheriting settings at orders.now)) }
+        ensures stored { IfOk result (λ store. D.tells disk ≡ true
+            → IsStored (inheriting settings at orders.now) [] (D.told store.disk)) }
+        ensures new_version { IfOk result (λ store. D.tells disk ≡ true
+            → version_of (D.told store.disk).bytes ≡ 2) }
+
+        ensures born { D.tells disk ≡ true → is_unborn (D.told disk).bytes ≡ false
+            → (D.told (disk_founded result)).bytes ≡ (D.told disk).bytes }
+        ensures since_sync { D.tells disk ≡ true → is_unborn (D.told disk).bytes ≡ true
+            → LeavesSinceSync (D.told disk) (D.told (disk_founded result))
+            (IsUnbornOrInheriting settings at orders.now) }
+        ensures any_moment { D.tells disk ≡ true → is_unborn (D.told disk).bytes ≡ true
+            → EachImage (D.told disk).steps IsUnborn
+            → LeavesOnly (D.told disk) (D.told (disk_founded result))
+            (IsUnbornOrInheriting settings at orders.now) }
+        ensures memory { IfErr result (λ missed. OnCreatingMemory missed.1 (D.tells disk ≡ true
+            → is_unborn (D.told disk).bytes ≡ true → EachImage (D.told disk).steps IsUnborn
+            → EachImage (D.told missed.0).steps IsUnborn)) }
+
+        ensures cause { IfErr result (λ missed. CreatingCause missed.1 (D.count disk) (D.count missed.0)) }
+        ensures never_falls { D.count disk ≤ D.count (disk_founded result) }
+    {
+        let (farm, payload) = match inherit(alloc, settings, at, orders) {
+            Ok(made) => made,
+            Err(_) => return Err((disk, CreateFault::Memory)),
+        };
+        match Journal::create(alloc, disk, payload) {
+            Ok(journal) => Ok(Store {
+                journal,
+                farm,
+                recorded: 0,
+                payload: Vec::new(alloc),
+            }),
+            Err(missed) => Err(missed),
+        }
+    }
+
+    /// Closes the farm, unless it is closed already or busy: from then on it only shows, and repeats what it answered
+    /// before. Its closing is stored before this returns; each crash leaves the farm open or closed. Nothing may be
+    /// pending.
+    ///
+    /// # Errors
+    ///
+    /// [`CloseFault::Busy`], exactly where the farm isn't closed and a search goes on or an order is still to be taken:
+    /// nothing is written then; [`CloseFault::StoreFault`] where the disk failed as the closing was stored, which then
+    /// is pending; or [`CloseFault::Memory`].
+    pub fn close(&mut self, alloc: Global, at: Moment) -> Result<(), CloseFault>
+        requires { self.old.pending ≡ [] }
+        ensures closes { Closes at result self.old self.new }
+        ensures keeps { KeepsStore D.Disk (λ P. OnClosedOrBusy result P) self.old self.new }
+        ensures cause { HasCloseCause result (D.count self.old.disk) (D.count self.new.disk) }
+    {
+        let before = self.faults();
+        let closed = self.close_next(alloc, at, before);
+        self.tell();
+        closed
     }
 
     /// Answers a command at a moment. Where a fault left a record undecided, a repair finds out first whether it was
@@ -450,6 +529,44 @@ impl<D: Disk> Store<D> {
                 self.farm.retract(self.farm.history().len() - start);
                 Err(JournalFault::Memory)
             }
+        }
+    }
+
+    /// Closes the farm and stores its closing, while nothing is pending.
+    fn close_next(&mut self, alloc: Global, at: Moment, before: u64) -> Result<(), CloseFault>
+        requires decided { self.old.pending ≡ [] }
+        requires counted { before ≡ D.count self.old.disk }
+        ensures same { D.tells self.new.disk ≡ D.tells self.old.disk }
+        ensures closes { Closes at result self.old self.new }
+        ensures any_moment { D.tells self.old.disk ≡ true
+            → LeavesOnly (D.told self.old.disk) (D.told self.new.disk) (IsLeft self.old self.new) }
+        ensures untouched { self.new.history ≡ self.old.history
+            → OnClosedOrBusy result (self.new.disk ≡ self.old.disk) }
+        ensures new_version { D.tells self.old.disk ≡ true → length self.old.history < length self.new.history
+            → OnClosedOrBusy result (version_of (D.told self.new.disk).bytes ≡ 2) }
+        ensures cause { HasCloseCause result (D.count self.old.disk) (D.count self.new.disk) }
+        ensures never_falls { D.count self.old.disk ≤ D.count self.new.disk }
+    {
+        self.recorded = 0;
+        let start = self.farm.history().len();
+        match add_closing(&mut self.farm, at) {
+            Ok(()) => {
+                match record_from(
+                    alloc,
+                    &mut self.payload,
+                    &mut self.farm,
+                    &mut self.journal,
+                    start,
+                    before,
+                ) {
+                    Ok(()) => {
+                        self.recorded = self.farm.history().len() - start;
+                        Ok(())
+                    }
+                    Err(fault) => Err(CloseFault::from(fault)),
+                }
+            }
+            Err(fault) => Err(fault),
         }
     }
 }

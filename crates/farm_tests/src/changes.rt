@@ -4,7 +4,7 @@ ghost use Rattle.farm_entry.specs.Legal.{IsLegal};
 
 use crate::answers::print_found;
 use crate::game::start;
-use crate::texts::{number_of, word};
+use crate::texts::{number_of, unasked_of, word};
 use farm_entry::{Entry, Fate, Settings, SkipFate, What};
 use farm_types::{Key, Memory};
 use plain_farm::{first_illegal, is_next};
@@ -13,10 +13,13 @@ use std::io;
 use weight_exact::Verdict;
 
 // What an entry would record: a fail of a run that is late or counts, a skip that is late or taken, a second founding,
-// or a cancellation of a search.
+// a carried order, a closing, or a cancellation of a search.
 fn what_of(text: &str) -> What {
-    let (name, number) = word(text);
-    let number = number_of(number);
+    let (name, rest) = word(text);
+    let number = number_of(rest);
+    if name == "carry" || name == "close" {
+        return unasked_of(name, rest);
+    }
     if name == "founded"
         && let Ok(settings) = Settings::of(60_000, 10, 0)
     {

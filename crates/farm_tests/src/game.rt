@@ -5,7 +5,7 @@ ghost use Rattle.farm_entry.specs.Legal.{IsLegal};
 
 use farm_entry::{Command, Decision, Entry, Refusal, Reply, Settings, What};
 use farm_types::{Key, Memory, Moment};
-use plain_farm::{decide, reply_at};
+use plain_farm::{decide, is_next, reply_at};
 use std::alloc::Global;
 use std::marker::Model;
 
@@ -81,6 +81,16 @@ impl Game {
             Decision::Show(reply) => Ok(Ok(Some(reply))),
             Decision::Refuse(refusal) => Ok(Err(refusal)),
         }
+    }
+
+    /// Appends an entry that no command made, where it may come next. Whether it may.
+    pub(crate) fn add(&mut self, what: What, at: Moment) -> Result<bool, Memory> {
+        let entry = Entry { at, what };
+        if !is_next(self.alloc, &self.history, &entry)? {
+            return Ok(false);
+        }
+        self.history.push(entry)?;
+        Ok(true)
     }
 
     /// A key that no request had.

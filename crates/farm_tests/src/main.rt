@@ -2,9 +2,10 @@
 //! by an empty line. A case begins with the farm, as `found DAILY ZONE`: with so many orders a day, in a zone so many
 //! minutes east of UTC. Each line behind it is a command (`open FIRST COUNT WEIGHT`, with a width and a bar where they
 //! are named, `lease MOMENT`, `report RUN VERDICT`, `skip RUN`, `revert MOMENT`, `show_runs SEARCH FROM`,
-//! `show_searches FROM`) or a question about the farm as it stands, and is printed with what it comes to. Where no
-//! moment is asked for, it is that at which the farm was founded. A line that begins with `#` is printed as it is. The
-//! file `stdout` has what is wanted; it was worked out by hand.
+//! `show_searches FROM`), an entry that no command makes (`carry COMMIT DAY`, `close MOMENT`), which is appended where
+//! it may come next, or a question about the farm as it stands, and is printed with what it comes to. Where no moment
+//! is asked for, it is that at which the farm was founded. A line that begins with `#` is printed as it is. The file
+//! `stdout` has what is wanted; it was worked out by hand.
 //!
 //! The cases are what no other test shows: each call that takes memory with ample memory, a daily limit in a zone of
 //! its own, and lists that are no histories. Whole farms are played through the program in `finder_tests`, and by
@@ -22,11 +23,11 @@ mod texts;
 
 use answers::print_found;
 use commands::command_of;
-use game::Game;
+use game::{Game, start};
 use questions::print_told;
 use std::alloc::Global;
 use std::io;
-use texts::{moment_of, number_of, word};
+use texts::{moment_of, number_of, unasked_of, word};
 
 fn play_command(
     rt: &impl Print,
@@ -56,6 +57,8 @@ fn play_line(rt: &impl Print, alloc: Global, game: &mut Game, line: &str) -> io:
         "open" | "lease" | "report" | "skip" | "revert" | "show_runs" | "show_searches" => {
             play_command(rt, alloc, game, name, rest)
         }
+        "carry" => print_found(rt, game.add(unasked_of(name, rest), start())),
+        "close" => print_found(rt, game.add(unasked_of(name, rest), moment_of(rest))),
         _ => print_told(rt, alloc, game.history(), name, rest),
     }
 }

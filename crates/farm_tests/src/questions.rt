@@ -92,9 +92,14 @@ fn print_history(
         "first_illegal" | "changed" | "without_first" | "no_entries" | "is_next" => {
             print_change(rt, alloc, history, name, rest)
         }
-        "order_lines" | "order_page" | "candidates" | "next_order" | "day" => {
-            print_orders(rt, alloc, history, name, rest)
-        }
+        "order_lines"
+        | "order_page"
+        | "orders"
+        | "is_busy"
+        | "is_closed"
+        | "candidates"
+        | "next_order"
+        | "day" => print_orders(rt, alloc, history, name, rest),
         _ => print_of_first(rt, alloc, history, name, rest),
     }
 }

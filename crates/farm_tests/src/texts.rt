@@ -1,6 +1,7 @@
 //! The words of a case.
 
 use crate::game::start;
+use farm_entry::What;
 use farm_types::{CommitId, Moment};
 
 /// The first word of a text, and what follows it.
@@ -26,4 +27,16 @@ pub(crate) fn commit(number: u8) -> CommitId {
     let mut bytes = [0; 20];
     bytes[19] = number;
     CommitId::of(bytes)
+}
+
+/// What an entry that no command makes records: a carried order, of a commit with a number and a day, or a closing.
+pub(crate) fn unasked_of(name: &str, rest: &str) -> What {
+    if name == "close" {
+        return What::Closed;
+    }
+    let (number, day) = word(rest);
+    What::Carried {
+        commit: commit(number.parse::<u8>().unwrap_or(0)),
+        day: number_of(day),
+    }
 }

@@ -4,7 +4,7 @@ use Rattle.std.proofs.Math.Seq.{get_or-append_seam, take-append_seam}
 use Rattle.farm_entry.specs.Legal.{AreNext, IsFounding, IsLegal}
 use Rattle.farm_entry.specs.declared.entry.Entry.{Entry}
 use Rattle.farm_entry.specs.declared.entry.What.{What}
-use Rattle.farm_entry.specs.declared.entry.What.TheVariants.{Founded, Opened, Leased, Reported, Skipped, Cancelled, Ordered}
+use Rattle.farm_entry.specs.declared.entry.What.TheVariants.{Founded, Opened, Leased, Reported, Skipped, Cancelled, Ordered, Carried, Closed}
 use Rattle.farm_laws.proofs.Bounds.{openings-bounded}
 use Rattle.farm_laws.proofs.Induct.{IsLegal-first, IsLegal-push}
 use Rattle.turn_laws.specs.TurnOrder.{AreTurns}
@@ -38,6 +38,8 @@ founding-turns e (Reported r v f) is founding = absurd founding
 founding-turns e (Skipped r f) is founding = absurd founding
 founding-turns e (Cancelled k q) is founding = absurd founding
 founding-turns e (Ordered k a n c q d) is founding = absurd founding
+founding-turns e (Carried c d) is founding = absurd founding
+founding-turns e Closed is founding = absurd founding
 
 pub turns-kept : (H : List Entry) → IsLegal H → AreTurnsOf H (turns_of H)
 turns-kept [] legal = absurd legal

@@ -10,7 +10,7 @@ use Rattle.farm_entry.specs.Legal.{IsLegal, ask_of}
 use Rattle.farm_entry.specs.Standing.{is_active, standing}
 use Rattle.farm_entry.specs.declared.entry.Entry.{Entry}
 use Rattle.farm_entry.specs.declared.entry.What.{What}
-use Rattle.farm_entry.specs.declared.entry.What.TheVariants.{Founded, Opened, Leased, Reported, Skipped, Cancelled, Ordered}
+use Rattle.farm_entry.specs.declared.entry.What.TheVariants.{Founded, Opened, Leased, Reported, Skipped, Cancelled, Ordered, Carried, Closed}
 use Rattle.farm_entry.specs.declared.lease.LeasedRun.{LeasedRun}
 use Rattle.farm_entry.specs.declared.opening.Opening.{Opening}
 use Rattle.farm_entry.proofs.Growing.{openings-grow}
@@ -373,6 +373,16 @@ made-by H e (Cancelled key search) t legal longer turns is =
     about-number H e search facts.opening t legal longer turns facts.known
     (subst (λ (w : What). IsAbout H w search) (sym is) refl) (ap lease_in is)
 made-by H e (Ordered key agent order commit search day) t legal longer turns is =
+    stay-step H (H ++ e ∷ []) t
+    (other-turns H e t.never t.leased legal longer turns (ap opening_in is) (ap lease_in is)
+    (λ o there about. absurd (subst (λ (w : What). IsAbout H w o.search) is about)))
+    (same-count H e (ap opening_in is))
+made-by H e (Carried commit day) t legal longer turns is =
+    stay-step H (H ++ e ∷ []) t
+    (other-turns H e t.never t.leased legal longer turns (ap opening_in is) (ap lease_in is)
+    (λ o there about. absurd (subst (λ (w : What). IsAbout H w o.search) is about)))
+    (same-count H e (ap opening_in is))
+made-by H e Closed t legal longer turns is =
     stay-step H (H ++ e ∷ []) t
     (other-turns H e t.never t.leased legal longer turns (ap opening_in is) (ap lease_in is)
     (λ o there about. absurd (subst (λ (w : What). IsAbout H w o.search) is about)))

@@ -6,7 +6,7 @@ use Rattle.farm_entry.specs.History.{lease_of, opening_numbered}
 use Rattle.farm_entry.specs.Standing.{is_active, standing}
 use Rattle.farm_entry.specs.declared.entry.Entry.{Entry}
 use Rattle.farm_entry.specs.declared.entry.What.{What}
-use Rattle.farm_entry.specs.declared.entry.What.TheVariants.{Founded, Opened, Leased, Reported, Skipped, Cancelled, Ordered}
+use Rattle.farm_entry.specs.declared.entry.What.TheVariants.{Founded, Opened, Leased, Reported, Skipped, Cancelled, Ordered, Carried, Closed}
 use Rattle.farm_entry.specs.declared.lease.LeasedRun.{LeasedRun}
 use Rattle.farm_entry.specs.declared.limits.TheConstants.{MAX_SEARCHES}
 use Rattle.farm_entry.specs.declared.opening.Opening.{Opening}
@@ -50,6 +50,8 @@ move_in H (Reported run verdict _) = reported_move H (lease_of H run)
 move_in H (Skipped run _) = reported_move H (lease_of H run)
 move_in H (Cancelled key search) = about_move H search
 move_in H (Ordered key agent order commit search day) = Stay
+move_in H (Carried commit day) = Stay
+move_in H Closed = Stay
 
 -- The order with it.
 

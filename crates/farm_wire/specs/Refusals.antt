@@ -49,6 +49,7 @@ refusal_data (refusal.BadOpen cause) =
     ((codes "cause", string (cause_word cause)) ∷ (codes "value", wholes (cause_numbers cause)) ∷ [])
 refusal_data (refusal.KeyClash place) = refused_as (codes "KeyClash") ((codes "place", whole place) ∷ [])
 refusal_data refusal.Full = refused_as (codes "Full") []
+refusal_data refusal.Closed = refused_as (codes "Closed") []
 refusal_data refusal.TooManySearches = refused_as (codes "TooManySearches") []
 refusal_data refusal.NoRun = refused_as (codes "NoRun") []
 refusal_data (refusal.UnknownRun run) = refused_as (codes "UnknownRun") ((codes "run", whole run) ∷ [])

@@ -46,6 +46,7 @@ fn refusal_object(alloc: Global, refusal: &Refusal) -> Result<JsonObject, Memory
         Refusal::BadOpen(cause) => bad_open(alloc, cause),
         Refusal::KeyClash(place) => refused_at(alloc, "KeyClash", "place", *place),
         Refusal::Full => refused(alloc, "Full"),
+        Refusal::Closed => refused(alloc, "Closed"),
         Refusal::TooManySearches => refused(alloc, "TooManySearches"),
         Refusal::NoRun => refused(alloc, "NoRun"),
         Refusal::UnknownRun(run) => refused_at(alloc, "UnknownRun", "run", *run),

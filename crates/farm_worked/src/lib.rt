@@ -1,13 +1,14 @@
 //! Farms that are played by evaluating the definitions of `farm_entry`: numbers that were worked out by hand, and that
 //! the definitions compute. Each law is the contract of a call that does nothing.
 //!
-//! `specs/Example` has the farms, `specs/Untestable` those on which trees can't be tested, `proofs/LargeFarm` and
-//! `proofs/Thousand` what is proved of the one with a thousand suspects, which is too large to be played whole. Nothing
-//! stands on this crate.
+//! `specs/Example` has the farms, `specs/Untestable` those on which trees can't be tested, `specs/Following` a closed
+//! one and one that follows it, `proofs/LargeFarm` and `proofs/Thousand` what is proved of the one with a thousand
+//! suspects, which is too large to be played whole. `worker_worked` has a worker that serves a farm of these.
 #![tactic(auto)]
 
 pub mod shown;
 pub mod skips;
+pub mod succession;
 
 ghost use Rattle.std.specs.Prelude.{◌≡◌, true, false, List, ◌∷◌, [], ◌++◌, map, take, replicate, Ok, Some, None};
 ghost use Rattle.farm_types.specs.declared.stage.Stage.TheVariants.{Search, Verify};

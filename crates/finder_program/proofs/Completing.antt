@@ -1,13 +1,17 @@
 -- Where nothing fails and memory is there, a call over a journal does its work.
-use Rattle.std.proofs.Common.{◌≡◌, ◌∙◌, ◌⊎◌, ⊎_elim, inl, inr, ℕ, ◌<◌, ◌≤◌, true, false, List, [], length, Option, Some, None, refl, sym, ap, subst, arith}
+use Rattle.std.proofs.Common.{◌≡◌, ◌∙◌, ◌⊎◌, ⊎_elim, inl, inr, ℕ, ◌<◌, ◌≤◌, Bool, true, false, List, [], length, Option, Some, None, Result, Ok, Err, refl, sym, ap, subst, arith}
+use Rattle.std.proofs.lemmas.Bool.{cases_Bool}
 use Rattle.std.proofs.lemmas.Option.{none-some, same_Some}
+use Rattle.farm_entry.specs.History.{is_closed}
 use Rattle.farm_entry.specs.declared.entry.Entry.{Entry}
 use Rattle.farm_entry.specs.declared.settings.Settings.{Settings}
+use Rattle.farm_handover.specs.Handover.{handed_over, handover_of}
 use Rattle.farm_journal.specs.Layout.{is_unborn}
 use Rattle.farm_journal.specs.declared.fault.CreateFault.{CreateFault}
 use Rattle.farm_journal.specs.declared.fault.CreateFault.TheVariants as creating
 use Rattle.farm_journal.specs.declared.fault.OpeningFault.{OpeningFault}
 use Rattle.farm_journal.specs.declared.fault.OpeningFault.TheVariants as opening
+use Rattle.farm_rules.specs.Orders.{Ordered}
 use Rattle.farm_script.specs.FarmRule.{farm_rule}
 use Rattle.farm_script.specs.RunEnds.{RunEnds}
 use Rattle.farm_script.specs.declared.run_end.RunEnd.{RunEnd}
@@ -15,6 +19,7 @@ use Rattle.farm_script.specs.declared.run_end.RunEnd.TheVariants as script
 use Rattle.farm_store.proofs.Excluded.{stands-born, stands-not_damaged}
 use Rattle.farm_store.proofs.Standing.{stands-unique}
 use Rattle.farm_store.specs.Bytes.{StandsFor}
+use Rattle.farm_store.specs.Closed.{after_closing}
 use Rattle.farm_store.specs.Founded.{IsRefusedBy}
 use Rattle.farm_store.specs.Opened.{IsMissedBy}
 use Rattle.farm_types.specs.declared.moment.Moment.{Moment}
@@ -23,15 +28,17 @@ use Rattle.search_evidence.specs.Evidence.{evidence_text}
 use Rattle.link_io.specs.Streams.{Streams}
 use Rattle.link_io.specs.declared.source.TheConstants.{INPUT_LIMIT}
 use Rattle.farm_serve.specs.Outside.{DiskSeen, OutputSeen}
+use Rattle.finder_program.specs.CloseCommand.{CloseCompletes, CloseEnds, ClosingCame, ClosingTried, status_of_closing}
 use Rattle.finder_program.specs.Disks.{HasStoreCause}
 use Rattle.finder_program.specs.EvidenceCommand.{EvidenceCompletes, EvidenceEnds, EvidencePut, EvidenceShown, status_of_evidence}
 use Rattle.finder_program.specs.Found.{FoundCompletes, FoundEnds, JournalFounded, NotFounded, founded_text, status_of_creating}
+use Rattle.finder_program.specs.InheritCommand.{InheritCompletes, InheritDone, InheritingEnds, InheritingTried, IsInheritedBy, JournalInherited, NotInherited, NotRead, NothingRead, input_of, output_of}
 use Rattle.finder_program.specs.Opening.{IsNotOpened, status_of_opening}
 use Rattle.finder_program.specs.RunJournal.{JournalRan, JournalRunCompletes, JournalRunEnds, journal_end, over_journal}
 use Rattle.finder_program.specs.Show.{JournalShown, ShowCompletes}
 use Rattle.finder_program.specs.TextPut.{TextPut}
 use Rattle.finder_program.specs.declared.status.Status.{Status}
-use Rattle.finder_program.specs.declared.status.Status.TheVariants.{Done, ReadFault, WriteFault, StoreFault, AlreadyBorn, Memory, InputLimit}
+use Rattle.finder_program.specs.declared.status.Status.TheVariants.{Done, ReadFault, WriteFault, StoreFault, AlreadyBorn, Memory, BadInput, InputLimit, Busy}
 use Rattle.finder_program.proofs.Taken.{read_front, read_whole}
 
 -- a text is put whole where the output doesn't fail
@@ -110,6 +117,90 @@ evidence-completes search status before after old new ends cause calm steady tel
     let same : shown.history ≡ history = stands-unique shown.history history old.told.bytes (shown.held tell) stands in
     subst (λ (h : List Entry). (status ≡ Memory) ⊎ (status ≡ status_of_evidence search (evidence_text h search))) same
     (evidence_put-completes search (evidence_text shown.history search) status before after shown.put calm))
+    ends
+
+-- a farm is closed, or its status says that it is busy
+came-completes : (history : List Entry) (at : Moment) (status : Status) (before after : OutputSeen) (old new : DiskSeen)
+    → ClosingCame history at status before after old new → HasStoreCause status old new
+    → ¬ Rose before.faults after.faults → ¬ Rose old.faults new.faults
+    → (status ≡ Memory) ⊎ (status ≡ status_of_closing history)
+came-completes history at status before after old new (inl closed) cause calm steady =
+    let done : Done ≡ status_of_closing history = ⊎_elim
+    (λ (was : is_closed history ≡ true). rw was refl)
+    (λ (was : is_closed history ≡ false). rw (was, closed.idle was) refl)
+    (cases_Bool (is_closed history)) in
+    ⊎_elim (λ (memory : status ≡ Memory). inl memory) (λ (is : status ≡ Done). inr (is ∙ done))
+    (text-completes (handover_of (after_closing history at)) status before after closed.text calm)
+came-completes history at status before after old new (inr (inl busy)) cause calm steady =
+    let is : Busy ≡ status_of_closing history = rw (busy.unclosed, busy.busy) refl in
+    inr (busy.says ∙ is)
+came-completes history at status before after old new (inr (inr (inl undecided))) cause calm steady =
+    absurd (no-store_fault status old.faults new.faults old new undecided.says cause steady)
+came-completes history at status before after old new (inr (inr (inr open_still))) cause calm steady =
+    inl open_still.says
+
+pub close-completes : (clock : Moment → Type 0) (status : Status) (before after : OutputSeen) (old new : DiskSeen)
+    → CloseEnds clock status before after old new → HasStoreCause status old new
+    → CloseCompletes status before after old new
+close-completes clock status before after old new ends cause calm steady tell history stands = ⊎_elim
+    (λ (missed : IsNotOpened status before after old new). inl
+    (not_opened-completes missed.0 status old new history missed.1 (missed.2.cause tell) cause steady stands))
+    (λ (tried : ClosingTried clock status before after old new).
+    let same : tried.history ≡ history = stands-unique tried.history history old.told.bytes (tried.held tell) stands in
+    subst (λ (h : List Entry). (status ≡ Memory) ⊎ (status ≡ status_of_closing h)) same
+    (came-completes tried.history tried.at status before after old new tried.came cause calm steady))
+    ends
+
+-- where nothing was read, the status says why
+unread-completes : (status : Status) (before after : Streams) (unborn : Bool) (all : List ℕ)
+    → NothingRead status (input_of before) (input_of after) → ¬ Rose before.read_faults after.read_faults
+    → before.left ≡ Some all → InheritDone status unborn all
+unread-completes ReadFault before after unborn all why reads told = absurd (reads why)
+unread-completes InputLimit before after unborn all why reads told = inr (inl ((why all told).0, refl))
+unread-completes Memory before after unborn all why reads told = inl refl
+unread-completes (BadInput line) before after unborn all why reads told =
+    let bad = why all told in
+    inr (inr (bad.0, subst (λ (r : Result (List Ordered) ℕ). IsInheritedBy (BadInput line) unborn r) (sym bad.2) refl))
+unread-completes _ before after unborn all why reads told = absurd why
+
+-- where orders were handed over, a journal is founded with them, or there is one
+handed-completes : (status : Status) (unborn : Bool) (all : List ℕ) (orders : List Ordered) → length all < INPUT_LIMIT
+    → handed_over all ≡ Ok orders
+    → (status ≡ Memory) ⊎ ((unborn ≡ true) × (status ≡ Done)) ⊎ ((unborn ≡ false) × (status ≡ AlreadyBorn))
+    → InheritDone status unborn all
+handed-completes status unborn all orders few good ends = ⊎_elim
+    (λ (memory : status ≡ Memory). inl memory)
+    (λ (done : ((unborn ≡ true) × (status ≡ Done)) ⊎ ((unborn ≡ false) × (status ≡ AlreadyBorn))).
+    inr (inr (few, subst (λ (r : Result (List Ordered) ℕ). IsInheritedBy status unborn r) (sym good) done)))
+    ends
+
+-- the same by how the founding ended
+inheriting-completes : (settings : Settings) (at : Moment) (orders : List Ordered) (status : Status)
+    (before after : Streams) (old new : DiskSeen) → InheritingEnds settings at orders status before after old new
+    → HasStoreCause status old new → ¬ Rose before.write_faults after.write_faults → ¬ Rose old.faults new.faults
+    → old.tells ≡ true
+    → (status ≡ Memory) ⊎ ((is_unborn old.told.bytes ≡ true) × (status ≡ Done))
+    ⊎ ((is_unborn old.told.bytes ≡ false) × (status ≡ AlreadyBorn))
+inheriting-completes settings at orders status before after old new ends cause writes steady tell = ⊎_elim
+    (λ (missed : (fault : CreateFault) × (status ≡ status_of_creating fault) × NotInherited fault before after old).
+    not_founded-completes missed.0 status old new missed.1 (missed.2.cause tell) cause steady)
+    (λ (founded : JournalInherited settings at orders status before after old new). ⊎_elim
+    (λ (memory : status ≡ Memory). inl memory)
+    (λ (done : status ≡ Done). inr (inl (founded.was_unborn tell, done)))
+    (text-completes founded_text status (output_of before) (output_of after) founded.text writes))
+    ends
+
+pub inherit-completes : (clock : Moment → Type 0) (settings : Settings) (status : Status) (before after : Streams)
+    (old new : DiskSeen)
+    → NotRead status before after old new ⊎ InheritingTried clock settings status before after old new
+    → HasStoreCause status old new → InheritCompletes status before after old new
+inherit-completes clock settings status before after old new ends cause reads writes steady tell all told = ⊎_elim
+    (λ (missed : NotRead status before after old new).
+    unread-completes status before after (is_unborn old.told.bytes) all missed.why reads told)
+    (λ (tried : InheritingTried clock settings status before after old new).
+    let read = tried.read all told in
+    handed-completes status (is_unborn old.told.bytes) all tried.orders read.0 read.2
+    (inheriting-completes settings tried.at tried.orders status before after old new tried.ends cause writes steady tell))
     ends
 
 -- what the end of a script's run says, in a status that stands for it

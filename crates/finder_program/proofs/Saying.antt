@@ -2,7 +2,7 @@
 use Rattle.std.proofs.Common.{◌≡◌, ◌∙◌, inl, inr, Option, Some, None, ap, refl, sym}
 use Rattle.std.specs.Option.{option_map}
 use Rattle.farm_script.specs.declared.run_end.RunEnd.TheVariants as script
-use Rattle.finder_words.specs.Words.{Asked, asked_by, audit, drill, evidence, follow, found, judge, rates}
+use Rattle.finder_words.specs.Words.{Asked, asked_by, audit, close, drill, evidence, follow, found, inherit, judge, rates}
 use Rattle.finder_words.specs.Words.{run, run_journal, serve, show, work}
 use Rattle.finder_words.specs.declared.subcommand.Subcommand.{Subcommand}
 use Rattle.link_io.proofs.Told.{append_known-nil}
@@ -53,6 +53,14 @@ unread-says (Some rates) seen = record {
 unread-says (Some (evidence search)) seen = record {
   ends = inl (unread-not_opened seen.output seen.disk);
   completes = λ calm steady tell history stands. inl refl;
+}
+unread-says (Some close) seen = record {
+  ends = inl (unread-not_opened seen.output seen.disk);
+  completes = λ calm steady tell history stands. inl refl;
+}
+unread-says (Some (inherit lease_ms daily zone_minutes)) seen = record {
+  ends = inl (refl, refl);
+  completes = λ reads writes steady tell all told. inl refl;
 }
 unread-says (Some run_journal) seen = record {
   ends = inl (unread-not_opened (streams_of seen) seen.disk);

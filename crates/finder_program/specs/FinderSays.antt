@@ -1,12 +1,14 @@
 -- What a call of the program says, by what its words ask for.
 use Rattle.std.specs.Prelude.{◌≡◌, ◌⊎◌, Option, Some, None}
-use Rattle.finder_words.specs.Words.{Asked, audit, drill, evidence, follow, found, judge, rates}
+use Rattle.finder_words.specs.Words.{Asked, audit, close, drill, evidence, follow, found, inherit, judge, rates}
 use Rattle.finder_words.specs.Words.{run, run_journal, serve, show, work}
 use Rattle.finder_program.specs.AuditCommand.{AuditSays}
+use Rattle.finder_program.specs.CloseCommand.{CloseSays}
 use Rattle.finder_program.specs.DrillCommand.{DrillSays}
 use Rattle.finder_program.specs.EvidenceCommand.{EvidenceSays}
 use Rattle.finder_program.specs.FollowCommand.{FollowSays}
 use Rattle.finder_program.specs.Found.{FoundSays}
+use Rattle.finder_program.specs.InheritCommand.{InheritSays}
 use Rattle.finder_program.specs.JudgeCommand.{JudgeSays}
 use Rattle.finder_program.specs.RatesCommand.{RatesSays}
 use Rattle.finder_program.specs.RunCommand.{MemoryRunSays}
@@ -31,6 +33,11 @@ FinderSays (Some show) status before after = ShowSays status before.output after
 FinderSays (Some rates) status before after = RatesSays status before.output after.output before.disk after.disk
 FinderSays (Some (evidence search)) status before after =
     EvidenceSays search status before.output after.output before.disk after.disk
+FinderSays (Some close) status before after =
+    CloseSays before.clock status before.output after.output before.disk after.disk
+FinderSays (Some (inherit lease_ms daily zone_minutes)) status before after =
+    InheritSays lease_ms daily zone_minutes before.clock status (streams_of before) (streams_of after)
+    before.disk after.disk
 FinderSays (Some run_journal) status before after =
     JournalRunSays status (streams_of before) (streams_of after) before.disk after.disk
 FinderSays (Some (serve handlers links)) status before after =

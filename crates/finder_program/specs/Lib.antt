@@ -13,7 +13,9 @@ pub mod ServeCommand
 pub mod Show
 pub mod RatesCommand
 pub mod EvidenceCommand
+pub mod CloseCommand
 pub mod Found
+pub mod InheritCommand
 pub mod RanOut
 pub mod WorkCommand
 pub mod World

@@ -1,5 +1,7 @@
 -- The exit status and the text of each way to end, and how a call ends after each fault.
 use Rattle.std.specs.Prelude.{ℕ, List, [], ◌∷◌, ◌++◌, Result, Ok, Err, codes, decimal}
+use Rattle.farm_handover.specs.declared.fault.HandoverFault.{HandoverFault}
+use Rattle.farm_handover.specs.declared.fault.HandoverFault.TheVariants as handover
 use Rattle.judge.specs.declared.fault.JudgeFault.{JudgeFault}
 use Rattle.judge.specs.declared.fault.JudgeFault.TheVariants as judge
 use Rattle.link_io.specs.declared.sink.PutFault.{PutFault}
@@ -9,7 +11,7 @@ use Rattle.worker_agent.specs.declared.worked.WorkFault.TheVariants as work
 use Rattle.finder_program.specs.declared.read_input.InputFault.{InputFault}
 use Rattle.finder_program.specs.declared.read_input.InputFault.TheVariants as input
 use Rattle.finder_program.specs.declared.status.Status.{Status}
-use Rattle.finder_program.specs.declared.status.Status.TheVariants.{Done, Usage, ReadFault, WriteFault, StoreFault, Damaged, Unborn, AlreadyBorn, NetFault, RunnerFault, Memory, BadInput, InputLimit, Peer, Foreign, UnknownSearch}
+use Rattle.finder_program.specs.declared.status.Status.TheVariants.{Done, Usage, ReadFault, WriteFault, StoreFault, Damaged, Unborn, AlreadyBorn, NetFault, RunnerFault, Memory, BadInput, InputLimit, Peer, Foreign, UnknownSearch, Busy}
 
 abbrev pub exit_code_of : Status → ℕ
 exit_code_of Done = 0
@@ -28,6 +30,7 @@ exit_code_of InputLimit = 13
 exit_code_of (Peer answer) = 14
 exit_code_of (Foreign place) = 15
 exit_code_of (UnknownSearch search) = 16
+exit_code_of Busy = 17
 
 -- the text of each way to end
 abbrev pub status_text : Status → List ℕ
@@ -47,6 +50,7 @@ status_text InputLimit = codes "the input is too long"
 status_text (Peer answer) = codes "the service answered " ++ decimal answer
 status_text (Foreign place) = codes "the journal differs from the leader's at entry " ++ decimal place
 status_text (UnknownSearch search) = codes "the farm has no search " ++ decimal search
+status_text Busy = codes "the farm has active searches or orders to take"
 
 -- the line on standard error, where the subcommand did not do its work
 abbrev pub error_line : Status → List ℕ
@@ -62,6 +66,11 @@ status_of_input input.Memory = Memory
 abbrev pub status_of_judge : JudgeFault → Status
 status_of_judge (judge.BadInput line) = BadInput line
 status_of_judge judge.Memory = Memory
+
+-- where an input hands nothing over
+abbrev pub status_of_handover : HandoverFault → Status
+status_of_handover (handover.BadInput line) = BadInput line
+status_of_handover handover.Memory = Memory
 
 -- where not every byte was put
 abbrev pub status_of_put : PutFault → Status

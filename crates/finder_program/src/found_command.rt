@@ -15,7 +15,7 @@ use link_io::{Clock, Sink};
 use std::alloc::Global;
 
 /// What is written where a journal was founded.
-const FOUNDED: &str = "founded\n";
+pub(crate) const FOUNDED: &str = "founded\n";
 
 /// Founds a journal with these settings at the clock's moment, and says so.
 pub fn found_command<K: Sink, D: Disk, C: Clock>(
@@ -43,7 +43,7 @@ pub fn found_command<K: Sink, D: Disk, C: Clock>(
 }
 
 /// How a call ends that founds no journal.
-fn status_of_creating(fault: CreateFault) -> Status
+pub(crate) fn status_of_creating(fault: CreateFault) -> Status
     ensures { result ≡ status_of_creating fault }
 {
     match fault {

@@ -9,10 +9,12 @@ ghost use Rattle.finder_program.specs.FinderSays.{FinderSays};
 ghost use Rattle.finder_program.specs.World.{input_seen, runner_seen, world};
 
 use crate::audit_command::audit_command;
+use crate::close_command::close_command;
 use crate::drill_command::drill_command;
 use crate::evidence_command::evidence_command;
 use crate::follow_command::follow_command;
 use crate::found_command::found_command;
+use crate::inherit_command::inherit_command;
 use crate::judge_command::judge_command;
 use crate::rates_command::rates_command;
 use crate::run_command::run_command;
@@ -105,6 +107,14 @@ where
         }
         Ok(Some(Subcommand::Evidence { search })) => {
             let (status, disk) = evidence_command(alloc, search, output, disk);
+            (status, disk, network)
+        }
+        Ok(Some(Subcommand::Close)) => {
+            let (status, disk) = close_command(alloc, output, disk, clock);
+            (status, disk, network)
+        }
+        Ok(Some(Subcommand::Inherit(settings))) => {
+            let (status, disk) = inherit_command(alloc, settings, input, output, disk, clock);
             (status, disk, network)
         }
         Ok(Some(Subcommand::RunJournal)) => {

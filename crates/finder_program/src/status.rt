@@ -5,6 +5,7 @@ ghost use Rattle.std.specs.Io.KnownBytes.{Appends};
 ghost use Rattle.finder_program.specs.Statuses.{error_line};
 
 use crate::read_input::InputFault;
+use farm_handover::HandoverFault;
 use fault_types::Memory;
 use judge::JudgeFault;
 use link_io::PutFault;
@@ -53,6 +54,8 @@ pub enum Status {
     Foreign(u64),
     /// The farm has no search with this number.
     UnknownSearch(u32),
+    /// The farm can't be closed: a search goes on, or an order is still to be taken.
+    Busy,
 }
 
 impl Status {
@@ -79,6 +82,7 @@ impl Status {
             Status::Peer(_) => 14,
             Status::Foreign(_) => 15,
             Status::UnknownSearch(_) => 16,
+            Status::Busy => 17,
         }
     }
 
@@ -126,6 +130,7 @@ impl fmt::Display for Status {
                 write!(f, "the journal differs from the leader's at entry {place}")
             }
             Status::UnknownSearch(search) => write!(f, "the farm has no search {search}"),
+            Status::Busy => write!(f, "the farm has active searches or orders to take"),
         }
     }
 }
@@ -155,6 +160,20 @@ impl From<JudgeFault> for Status {
         match fault {
             JudgeFault::BadInput(line) => Status::BadInput(line),
             JudgeFault::Memory => Status::Memory,
+        }
+    }
+}
+
+impl From<HandoverFault> for Status {
+    ghost use Rattle.std.specs.Prelude.{◌≡◌};
+    ghost use Rattle.finder_program.specs.Statuses.{status_of_handover};
+
+    ghost from_gives = { λ fault status. status ≡ status_of_handover fault };
+
+    fn from(fault: HandoverFault) -> Status {
+        match fault {
+            HandoverFault::BadInput(line) => Status::BadInput(line),
+            HandoverFault::Memory => Status::Memory,
         }
     }
 }

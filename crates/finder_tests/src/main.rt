@@ -8,6 +8,9 @@
 //!   at the Kth;
 //! - `words`, where each line of the text has the words of a call, over a disk with a byte that is no journal;
 //! - `journal DIGITS`, where each has those of a call over the journal with these bytes;
+//! - `calls`, where each line that begins with `>` and a space has the words of a call, and the lines behind it are its
+//!   input; they are made one after the other over a disk that is empty at first. It prints how many bytes the disk has
+//!   after each, and the last of them;
 //! - `faults`, where the text is a script, which is run over a journal in memory once for each call of the disk and
 //!   each number of bytes that goes through in it, where that call fails. It prints how many replies were put by then,
 //!   and for four images of a crash at that moment, the shortest and the longest with bytes of 0 and of 7 wherever any
@@ -25,6 +28,7 @@
 //! was put is in every image; not from this one.
 #![tactic(auto)]
 
+mod calls;
 mod faults;
 mod output;
 mod played;
@@ -32,6 +36,7 @@ mod statuses;
 mod tables;
 mod texts;
 
+use calls::play_calls;
 use faults::print_faults;
 use finder_program::{Status, run_process};
 use output::Stop;
@@ -198,6 +203,7 @@ fn play_case<H: Print + Threads + Wait + Eprint + Sync>(
             }
             Ok(())
         }
+        "calls" => play_calls(rt, alloc, text),
         "faults" => print_faults(rt, alloc, text),
         "statuses" => print_statuses(rt, alloc),
         _ => play_command(rt, alloc, name, rest, text),

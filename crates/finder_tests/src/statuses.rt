@@ -5,7 +5,7 @@ use judge::JudgeFault;
 use std::alloc::Global;
 use std::io;
 
-const STATUSES: [Status; 17] = [
+const STATUSES: [Status; 18] = [
     Status::Done,
     Status::Usage,
     Status::ReadFault,
@@ -26,6 +26,7 @@ const STATUSES: [Status; 17] = [
     Status::Peer(409),
     Status::Foreign(12),
     Status::UnknownSearch(2_000),
+    Status::Busy,
 ];
 
 /// Prints each status with its number and the line that it writes, and the faults of the judge.

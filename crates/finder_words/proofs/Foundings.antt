@@ -12,7 +12,7 @@ use Rattle.farm_entry.specs.Settings.{daily_fault, lease_fault, settings_fault, 
 use Rattle.farm_entry.specs.declared.settings.SettingsFault.{SettingsFault}
 use Rattle.farm_entry.specs.declared.settings.SettingsFault.TheVariants.{Zone}
 use Rattle.farm_types.specs.declared.zone.TheConstants.{ZONE_MAX_MINUTES, ZONE_MIN_MINUTES}
-use Rattle.finder_words.specs.Words.{found, founding_asked, zone_named}
+use Rattle.finder_words.specs.Words.{Asked, settings_asked, zone_named}
 
 -- a fault at the end is a fault of all
 last-fault : (a b : Option SettingsFault) (f : SettingsFault) → is_none (option_or a (option_or b (Some f))) ≡ false
@@ -57,14 +57,14 @@ named-far word east west far zone is =
     by_number None far none = absurd (cc)
     by_number {z} (Some m) far some = subst (λ (y : ℤ). ¬ IsZone y) (same_Some (neg_ℤ (pos m)) z some) (west-far m (far m refl))
 
--- nothing is founded in a zone that is none
-pub founding-no_zone : (l d : Option ℕ) (z : Option ℤ) → ((zone : ℤ) → z ≡ Some zone → ¬ IsZone zone)
-    → founding_asked l d z ≡ None
-founding-no_zone None d z far = refl
-founding-no_zone (Some l) None z far = refl
-founding-no_zone (Some l) (Some d) None far = refl
-founding-no_zone (Some l) (Some d) (Some z) far =
+-- nothing is asked for in a zone that is none
+pub settings-no_zone : (ask : ℕ → ℕ → ℤ → Asked) (l d : Option ℕ) (z : Option ℤ)
+    → ((zone : ℤ) → z ≡ Some zone → ¬ IsZone zone) → settings_asked ask l d z ≡ None
+settings-no_zone ask None d z far = refl
+settings-no_zone ask (Some l) None z far = refl
+settings-no_zone ask (Some l) (Some d) None far = refl
+settings-no_zone ask (Some l) (Some d) (Some z) far =
     let fault : is_none (settings_fault l d z) ≡ false =
     ap (λ (f : Option SettingsFault). is_none (option_or (lease_fault l) (option_or (daily_fault d) f))) (zone-fault z (far z refl))
     ∙ last-fault (lease_fault l) (daily_fault d) (Zone z) in
-    ap (λ (b : Bool). if b then Some (found l d z) else None) fault
+    ap (λ (b : Bool). if b then Some (ask l d z) else None) fault

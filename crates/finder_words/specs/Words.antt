@@ -17,7 +17,8 @@ use Rattle.finder_words.specs.declared.subcommand.Subcommand.TheVariants as sub
 -- lasts in milliseconds, how many orders a day may have, and how far its zone lies east of UTC in minutes; a journal
 -- shown; a script run over a journal; the bytes of a journal audited; a journal served by so many handlers, until so
 -- many accepts were made; work done under a name, for so many runs; the rates that a journal tells of; a drill of so
--- many searches and workers; a service followed in so many rounds; the evidence of the search of a number.
+-- many searches and workers; a service followed in so many rounds; the evidence of the search of a number; the farm of
+-- a journal closed; a journal founded with such numbers and with the orders that an input hands over.
 pub data Asked : Type 0 where
   judge : Asked
   run : Asked
@@ -31,6 +32,8 @@ pub data Asked : Type 0 where
   drill : (searches workers : ℕ) → Asked
   follow : (rounds : ℕ) → Asked
   evidence : (search : ℕ) → Asked
+  close : Asked
+  inherit : ℕ → ℕ → ℤ → Asked
 
 -- what a subcommand does
 abbrev pub asked_by : Subcommand → Asked
@@ -47,6 +50,9 @@ asked_by sub.Rates = rates
 asked_by (sub.Drill searches workers) = drill searches workers
 asked_by (sub.Follow rounds) = follow rounds
 asked_by (sub.Evidence search) = evidence search
+asked_by sub.Close = close
+asked_by (sub.Inherit settings) =
+    inherit (settings_lease_ms settings) (settings_daily settings) (settings_zone_minutes settings)
 
 -- how far a zone lies east of UTC, in minutes: `east:` or `west:` and a number
 abbrev pub zone_named : List ℕ → Option ℤ
@@ -55,11 +61,19 @@ zone_named word =
     else if bytes_eq (take 5 word) (codes "west:") then option_map (λ minutes. neg_ℤ (pos minutes)) (number (drop 5 word))
     else None
 
+-- what is asked for with these numbers, where they are settings
+abbrev pub settings_asked : (ℕ → ℕ → ℤ → Asked) → Option ℕ → Option ℕ → Option ℤ → Option Asked
+settings_asked ask (Some lease_ms) (Some daily) (Some zone) =
+    if is_none (settings_fault lease_ms daily zone) then Some (ask lease_ms daily zone) else None
+settings_asked ask _ _ _ = None
+
 -- a journal to be founded with these numbers, where they are settings
 abbrev pub founding_asked : Option ℕ → Option ℕ → Option ℤ → Option Asked
-founding_asked (Some lease_ms) (Some daily) (Some zone) =
-    if is_none (settings_fault lease_ms daily zone) then Some (found lease_ms daily zone) else None
-founding_asked _ _ _ = None
+founding_asked lease_ms daily zone = settings_asked found lease_ms daily zone
+
+-- the same of a journal that carries orders over
+abbrev pub inheriting_asked : Option ℕ → Option ℕ → Option ℤ → Option Asked
+inheriting_asked lease_ms daily zone = settings_asked inherit lease_ms daily zone
 
 -- the number that a word writes, where it is from 1 to `most`
 abbrev pub count_named : (most : ℕ) → List ℕ → Option ℕ
@@ -105,7 +119,8 @@ abbrev pub asked_of_journal : List ℕ → Option Asked
 asked_of_journal word =
     if bytes_eq word (codes "show") then Some show
     else if bytes_eq word (codes "run") then Some run_journal
-    else if bytes_eq word (codes "rates") then Some rates else None
+    else if bytes_eq word (codes "rates") then Some rates
+    else if bytes_eq word (codes "close") then Some close else None
 
 -- a word before two others
 abbrev pub asked_of_two : (word first second : List ℕ) → Option Asked
@@ -118,6 +133,7 @@ asked_of_two word first second =
 abbrev pub asked_of_four : (word first second third fourth : List ℕ) → Option Asked
 asked_of_four word first second third fourth =
     if bytes_eq word (codes "found") then founding_asked (number second) (number third) (zone_named fourth)
+    else if bytes_eq word (codes "inherit") then inheriting_asked (number second) (number third) (zone_named fourth)
     else if bytes_eq word (codes "serve")
     then serve_asked (count_named MAX_HANDLERS third) (count_named MAX_LINKS fourth)
     else if bytes_eq word (codes "work") then work_asked second (count_named MAX_RUNS third) fourth else None
@@ -156,7 +172,8 @@ nowhere = record { journal = []; address = []; runner = [] }
 abbrev pub places_in : List (List ℕ) → PlacesNamed
 places_in words = record {
   journal = word_of 0
-      (codes "run" ∷ codes "found" ∷ codes "show" ∷ codes "serve" ∷ codes "rates" ∷ codes "follow" ∷ codes "evidence" ∷ [])
+      (codes "run" ∷ codes "found" ∷ codes "show" ∷ codes "serve" ∷ codes "rates" ∷ codes "follow" ∷ codes "evidence"
+      ∷ codes "close" ∷ codes "inherit" ∷ [])
       words;
   address = word_of 0 (codes "work" ∷ []) words ++ word_of 1 (codes "serve" ∷ codes "follow" ∷ []) words;
   runner = word_of 3 (codes "work" ∷ []) words;
@@ -185,6 +202,8 @@ uses_input (Some rates) = false
 uses_input (Some (drill searches workers)) = false
 uses_input (Some (follow rounds)) = false
 uses_input (Some (evidence search)) = false
+uses_input (Some close) = false
+uses_input (Some (inherit lease_ms daily zone)) = true
 
 -- whether it uses a disk
 abbrev pub uses_disk : Option Asked → Bool
@@ -201,6 +220,8 @@ uses_disk (Some rates) = true
 uses_disk (Some (drill searches workers)) = false
 uses_disk (Some (follow rounds)) = true
 uses_disk (Some (evidence search)) = true
+uses_disk (Some close) = true
+uses_disk (Some (inherit lease_ms daily zone)) = true
 
 -- whether it uses the network
 abbrev pub uses_network : Option Asked → Bool
@@ -217,6 +238,8 @@ uses_network (Some rates) = false
 uses_network (Some (drill searches workers)) = false
 uses_network (Some (follow rounds)) = true
 uses_network (Some (evidence search)) = false
+uses_network (Some close) = false
+uses_network (Some (inherit lease_ms daily zone)) = false
 
 -- whether it uses the runner and the keys
 abbrev pub uses_runner : Option Asked → Bool
@@ -233,6 +256,8 @@ uses_runner (Some rates) = false
 uses_runner (Some (drill searches workers)) = false
 uses_runner (Some (follow rounds)) = false
 uses_runner (Some (evidence search)) = false
+uses_runner (Some close) = false
+uses_runner (Some (inherit lease_ms daily zone)) = false
 
 -- the numbers of a subcommand are within their limits
 abbrev pub HasRanges : Subcommand → Type 0

@@ -90,7 +90,9 @@ fn places_in<'a>(matched: Matched<'a>) -> Named<'a>
         | Matched::Found { journal, .. }
         | Matched::Show { journal }
         | Matched::Rates { journal }
-        | Matched::Evidence { journal, .. } => Named {
+        | Matched::Evidence { journal, .. }
+        | Matched::Close { journal }
+        | Matched::Inherit { journal, .. } => Named {
             journal,
             address: "",
             runner: "",

@@ -14,6 +14,7 @@ ghost use Rattle.finder_words.specs.Words.{
   evidence_asked,
   follow_asked,
   founding_asked,
+  inheriting_asked,
   names_runner,
   serve_asked,
   work_asked,
@@ -77,6 +78,11 @@ pub enum Subcommand {
         /// The number of the search, from 1 to [`MAX_NUMBER`].
         search: u32,
     },
+    /// `close JOURNAL`: closes the farm of a journal, and writes what it hands over.
+    Close,
+    /// `inherit JOURNAL LEASE_MS DAILY ZONE`: founds a journal with these settings and with the orders that the input
+    /// hands over.
+    Inherit(Settings),
 }
 
 /// The subcommand that these words name, if they name one.
@@ -126,6 +132,13 @@ pub(crate) fn read_matched(alloc: Global, matched: Matched) -> Result<Option<Sub
         Matched::Drill { searches, workers } => Ok(read_drill(searches, workers)),
         Matched::Follow { rounds, .. } => Ok(read_follow(rounds)),
         Matched::Evidence { search, .. } => Ok(read_evidence(search)),
+        Matched::Close { .. } => Ok(Some(Subcommand::Close)),
+        Matched::Inherit {
+            lease_ms,
+            daily,
+            zone,
+            ..
+        } => Ok(read_inheriting(lease_ms, daily, zone)),
     }
 }
 
@@ -213,10 +226,21 @@ fn read_founding(lease_ms: &str, daily: &str, zone: &str) -> Option<Subcommand>
     Some(Subcommand::Found(read_settings(lease_ms, daily, zone)?))
 }
 
+/// `inherit` with the settings that three words write, if they write settings.
+fn read_inheriting(lease_ms: &str, daily: &str, zone: &str) -> Option<Subcommand>
+    ensures asked { option_map asked_by result
+        ≡ inheriting_asked (number lease_ms.now) (number daily.now) (zone_named zone.now) }
+    ensures ranges { IfSome result HasRanges }
+{
+    Some(Subcommand::Inherit(read_settings(lease_ms, daily, zone)?))
+}
+
 /// The settings that three words write, if they write settings.
 fn read_settings(lease_ms: &str, daily: &str, zone: &str) -> Option<Settings>
-    ensures { option_map (λ settings. asked_by (Subcommand.Found settings)) result
+    ensures founding { option_map (λ settings. asked_by (Subcommand.Found settings)) result
         ≡ founding_asked (number lease_ms.now) (number daily.now) (zone_named zone.now) }
+    ensures inheriting { option_map (λ settings. asked_by (Subcommand.Inherit settings)) result
+        ≡ inheriting_asked (number lease_ms.now) (number daily.now) (zone_named zone.now) }
 {
     let lease_ms = number(lease_ms.as_bytes())?;
     let daily = number(daily.as_bytes())?;

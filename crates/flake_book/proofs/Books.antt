@@ -14,7 +14,7 @@ use Rattle.farm_entry.specs.Legal.{IsFounding, IsLegal}
 use Rattle.farm_entry.specs.Standing.{standing}
 use Rattle.farm_entry.specs.declared.entry.Entry.{Entry}
 use Rattle.farm_entry.specs.declared.entry.What.{What}
-use Rattle.farm_entry.specs.declared.entry.What.TheVariants.{Founded, Opened, Leased, Reported, Skipped, Cancelled, Ordered}
+use Rattle.farm_entry.specs.declared.entry.What.TheVariants.{Founded, Opened, Leased, Reported, Skipped, Cancelled, Ordered, Carried, Closed}
 use Rattle.farm_entry.specs.declared.lease.LeasedRun.{LeasedRun}
 use Rattle.farm_entry.specs.declared.lease.ReportedRun.{ReportedRun}
 use Rattle.farm_entry.specs.declared.opening.Opening.{Opening}
@@ -52,6 +52,8 @@ cancel-later (Reported run v _) q is first = first
 cancel-later (Skipped run _) q is first = first
 cancel-later (Cancelled k x) q is first = first
 cancel-later (Ordered k a n c x d) q is first = first
+cancel-later (Carried c d) q is first = first
+cancel-later Closed q is first = first
 
 -- the parts that an entry of one kind lacks
 lease-no_opening : (w : What) (l : LeasedRun) → lease_in w ≡ Some l →
@@ -63,6 +65,8 @@ lease-no_opening (Reported run v _) l is = absurd (none-some l is)
 lease-no_opening (Skipped run _) l is = absurd (none-some l is)
 lease-no_opening (Cancelled k x) l is = absurd (none-some l is)
 lease-no_opening (Ordered k a n c x d) l is = absurd (none-some l is)
+lease-no_opening (Carried c d) l is = absurd (none-some l is)
+lease-no_opening Closed l is = absurd (none-some l is)
 
 opening-no_lease : (w : What) (o : Opening) → opening_in w ≡ Some o → lease_in w ≡ None
 opening-no_lease (Opened x) o is = refl
@@ -72,6 +76,8 @@ opening-no_lease (Reported run v _) o is = absurd (none-some o is)
 opening-no_lease (Skipped run _) o is = absurd (none-some o is)
 opening-no_lease (Cancelled k x) o is = absurd (none-some o is)
 opening-no_lease (Ordered k a n c x d) o is = absurd (none-some o is)
+opening-no_lease (Carried c d) o is = absurd (none-some o is)
+opening-no_lease Closed o is = absurd (none-some o is)
 
 told-no_lease : (w : What) (run : ℕ) → told_in w ≡ Some run → lease_in w ≡ None
 told-no_lease (Reported x v _) run is = refl
@@ -81,6 +87,8 @@ told-no_lease (Opened o) run is = absurd (none-some run is)
 told-no_lease (Leased k w n x t p d) run is = absurd (none-some run is)
 told-no_lease (Cancelled k x) run is = absurd (none-some run is)
 told-no_lease (Ordered k a n c x d) run is = absurd (none-some run is)
+told-no_lease (Carried c d) run is = absurd (none-some run is)
+told-no_lease Closed run is = absurd (none-some run is)
 
 cancel-no_lease : (w : What) (q : ℕ) → cancelled_in w ≡ Some q → lease_in w ≡ None
 cancel-no_lease (Cancelled k x) q is = refl
@@ -90,6 +98,8 @@ cancel-no_lease (Leased k w n x t p d) q is = absurd (none-some q is)
 cancel-no_lease (Reported run v _) q is = absurd (none-some q is)
 cancel-no_lease (Skipped run _) q is = absurd (none-some q is)
 cancel-no_lease (Ordered k a n c x d) q is = absurd (none-some q is)
+cancel-no_lease (Carried c d) q is = absurd (none-some q is)
+cancel-no_lease Closed q is = absurd (none-some q is)
 
 -- What is kept of a history, said of the list that was told, the newest first.
 pub told-kept : (told old : List Entry) (e : Entry) (ls : List LeasedRun) (ns : List Noted) (ts : List (List ℕ)) → told ≡ e ∷ old →

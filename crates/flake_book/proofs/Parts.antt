@@ -5,7 +5,7 @@ use Rattle.std.proofs.lemmas.Option.{none-some}
 use Rattle.farm_entry.specs.History.{cancelled_in, is_counted, lease_of, opening_in, report_in, skip_in, told_in}
 use Rattle.farm_entry.specs.declared.entry.Entry.{Entry}
 use Rattle.farm_entry.specs.declared.entry.What.{What}
-use Rattle.farm_entry.specs.declared.entry.What.TheVariants.{Founded, Opened, Leased, Reported, Skipped, Cancelled, Ordered}
+use Rattle.farm_entry.specs.declared.entry.What.TheVariants.{Founded, Opened, Leased, Reported, Skipped, Cancelled, Ordered, Carried, Closed}
 use Rattle.farm_entry.specs.declared.lease.LeasedRun.{LeasedRun}
 use Rattle.farm_entry.specs.declared.lease.ReportedRun.{ReportedRun}
 use Rattle.farm_entry.specs.declared.lease.SkippedRun.{SkippedRun}
@@ -30,6 +30,8 @@ search-of_told H (Opened o) run l is known = absurd (none-some run is)
 search-of_told H (Leased k w n q t p d) run l is known = absurd (none-some run is)
 search-of_told H (Cancelled k q) run l is known = absurd (none-some run is)
 search-of_told H (Ordered k a n c q d) run l is known = absurd (none-some run is)
+search-of_told H (Carried c d) run l is known = absurd (none-some run is)
+search-of_told H Closed run l is known = absurd (none-some run is)
 
 -- the one that is cancelled
 pub search-of_cancel : (H : List Entry) (w : What) (q : ℕ) → cancelled_in w ≡ Some q → search_in H w ≡ Some q
@@ -40,6 +42,8 @@ search-of_cancel H (Leased k w n x t p d) q is = absurd (none-some q is)
 search-of_cancel H (Reported run v _) q is = absurd (none-some q is)
 search-of_cancel H (Skipped run _) q is = absurd (none-some q is)
 search-of_cancel H (Ordered k a n c x d) q is = absurd (none-some q is)
+search-of_cancel H (Carried c d) q is = absurd (none-some q is)
+search-of_cancel H Closed q is = absurd (none-some q is)
 
 -- the one that is opened
 pub search-of_opening : (H : List Entry) (w : What) (o : Opening) → opening_in w ≡ Some o → search_in H w ≡ Some o.search
@@ -50,6 +54,8 @@ search-of_opening H (Reported run v _) o is = absurd (none-some o is)
 search-of_opening H (Skipped run _) o is = absurd (none-some o is)
 search-of_opening H (Cancelled k q) o is = absurd (none-some o is)
 search-of_opening H (Ordered k a n c q d) o is = absurd (none-some o is)
+search-of_opening H (Carried c d) o is = absurd (none-some o is)
+search-of_opening H Closed o is = absurd (none-some o is)
 
 -- an entry that reports a run does so with a verdict or as a skip
 pub told-either : (w : What) (run : ℕ) → told_in w ≡ Some run →
@@ -62,6 +68,8 @@ told-either (Opened o) run is = absurd (none-some run is)
 told-either (Leased k w n q t p d) run is = absurd (none-some run is)
 told-either (Cancelled k q) run is = absurd (none-some run is)
 told-either (Ordered k a n c q d) run is = absurd (none-some run is)
+told-either (Carried c d) run is = absurd (none-some run is)
+told-either Closed run is = absurd (none-some run is)
 
 -- its report, where it has one, is of that run
 pub told-run : (w : What) (run : ℕ) (r : ReportedRun) → told_in w ≡ Some run → report_in w ≡ Some r → r.run ≡ run

@@ -135,7 +135,7 @@ filter_map-le : {X Y : Type 0} (f : X → Option Y) (xs : List X) → length (fi
 filter_map-le f [] = omega arith
 filter_map-le f (x ∷ xs) = omega (arith, filter_map-le f xs, option-length (f x) (filter_map f xs))
 
-runs-few : (H : List Entry) (s : ℕ) (stage : Stage) → IsLegal H → length (counted H s stage) ≤ MAX_ENTRIES
+runs-few : (H : List Entry) (s : ℕ) (stage : Stage) → IsLegal H → length (counted H s stage) ≤ MAX_ENTRIES + 1
 runs-few H s stage legal =
     omega (
       arith,
@@ -146,12 +146,12 @@ runs-few H s stage legal =
 
 -- a search of a legal history has few runs
 pub noted-few : (H : List Entry) (o : Opening) → IsLegal H →
-    length (noted_of H o).runs + length (noted_of H o).reruns ≤ 2 * MAX_ENTRIES
+    length (noted_of H o).runs + length (noted_of H o).reruns ≤ 2 * (MAX_ENTRIES + 1)
 noted-few H o legal = omega (arith, runs-few H o.search Search legal, runs-few H o.search Verify legal)
 
-all-few : (H : List Entry) → (H ≡ []) ⊎ IsLegal H → All (λ (n : Noted). length n.runs + length n.reruns ≤ 2 * MAX_ENTRIES) (all_noted H)
+all-few : (H : List Entry) → (H ≡ []) ⊎ IsLegal H → All (λ (n : Noted). length n.runs + length n.reruns ≤ 2 * (MAX_ENTRIES + 1)) (all_noted H)
 all-few H legal =
-    All-map (λ (n : Noted). length n.runs + length n.reruns ≤ 2 * MAX_ENTRIES) (noted_of H) (openings H)
+    All-map (λ (n : Noted). length n.runs + length n.reruns ≤ 2 * (MAX_ENTRIES + 1)) (noted_of H) (openings H)
     (λ k d below. ⊎_elim
     (λ (none : H ≡ []). absurd (omega (arith, below, ap (λ (X : List Entry). length (openings X)) none)))
     (λ (here : IsLegal H). noted-few H (get_or (openings H) k d) here) legal)
@@ -173,9 +173,9 @@ small-here : (b : Bool) (m n k : ℕ) → n ≤ k → (cond {A = ℕ × ℕ} b (
 small-here true m n k le = le
 small-here false m n k le = omega arith
 
-told-small : (test : List ℕ) (n : Noted) → length n.runs + length n.reruns ≤ 2 * MAX_ENTRIES → (told_in test n).1 ≤ 2 * MAX_ENTRIES
+told-small : (test : List ℕ) (n : Noted) → length n.runs + length n.reruns ≤ 2 * (MAX_ENTRIES + 1) → (told_in test n).1 ≤ 2 * (MAX_ENTRIES + 1)
 told-small test n few =
-    small-here (bytes_eq n.test test) (count_by failed (sound_in n)) (length (sound_in n)) (2 * MAX_ENTRIES)
+    small-here (bytes_eq n.test test) (count_by failed (sound_in n)) (length (sound_in n)) (2 * (MAX_ENTRIES + 1))
     (let le = sound-le n.standing n.runs n.reruns in omega (arith, le, few))
 
 searches-few : (H : List Entry) → (H ≡ []) ⊎ IsLegal H → length (openings H) ≤ MAX_SEARCHES
@@ -186,7 +186,7 @@ pub tally-small : (H : List Entry) (test : List ℕ) → (H ≡ []) ⊎ IsLegal 
     sum_by (λ (n : Noted). (told_in test n).1) (all_noted H) < 2 ^ 48
 tally-small H test legal =
     let le =
-    sum_by-le (λ (n : Noted). (told_in test n).1) (2 * MAX_ENTRIES) (all_noted H)
+    sum_by-le (λ (n : Noted). (told_in test n).1) (2 * (MAX_ENTRIES + 1)) (all_noted H)
     (λ k d below. told-small test (get_or (all_noted H) k d) (all-few H legal k d below)) in
     omega (arith, le, length-map (openings H) (noted_of H), searches-few H legal)
 

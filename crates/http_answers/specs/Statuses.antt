@@ -11,6 +11,7 @@ abbrev pub refusal_status : Refusal → StatusCode
 refusal_status (refusal.BadOpen cause) = status.BadRequest
 refusal_status (refusal.KeyClash place) = status.Conflict
 refusal_status refusal.Full = status.Conflict
+refusal_status refusal.Closed = status.Conflict
 refusal_status refusal.TooManySearches = status.Conflict
 refusal_status refusal.NoRun = status.Conflict
 refusal_status (refusal.UnknownRun run) = status.NotFound

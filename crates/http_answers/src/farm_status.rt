@@ -16,6 +16,7 @@ pub fn refusal_status(refusal: &Refusal) -> StatusCode
         Refusal::UnknownSearch(_) => StatusCode::NotFound,
         Refusal::KeyClash(_) => StatusCode::Conflict,
         Refusal::Full => StatusCode::Conflict,
+        Refusal::Closed => StatusCode::Conflict,
         Refusal::TooManySearches => StatusCode::Conflict,
         Refusal::NoRun => StatusCode::Conflict,
         Refusal::NoRevert => StatusCode::Conflict,

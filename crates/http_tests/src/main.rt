@@ -12,7 +12,8 @@
 //! - `faults` and `statuses`, for the answer to each fault and the line of each status; `bodies`, for those of a fault
 //!   of the store and of running out of memory; `not_allowed` and `interim` with the number of the put that fails;
 //!   `refusal` with what is said of it, and its body;
-//! - `lease` or `no_run` and a body, as a worker reads it; `worker` with the number of leases, and what it is told;
+//! - `lease`, `no_run` or `closed` and a body, as a worker reads it; `worker` with the number of leases, and what it is
+//!   told;
 //! - `takes` with the number of the take that fails, the sizes of the pieces and the bytes, or `flaky_takes` of a
 //!   reader that is interrupted, gives 2 bytes, fails and ends; `puts` and `narrow_puts` with the number of the put
 //!   that fails, and texts, or `flaky_puts` to such a writer; `clock` with a moment, and `machine_clock`.
@@ -46,7 +47,7 @@ use workers::play_worker;
 fn play<R: Print + rt::Clock>(rt: &R, alloc: Global, name: &str, rest: &str) -> io::Result<()> {
     match name {
         "held" | "whole" | "prefixes" | "response" => play_bytes(rt, alloc, name, rest),
-        "lease" | "no_run" | "worker" => play_worker(rt, alloc, name, rest),
+        "lease" | "no_run" | "closed" | "worker" => play_worker(rt, alloc, name, rest),
         "takes"
         | "puts"
         | "narrow_puts"

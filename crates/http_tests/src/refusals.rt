@@ -8,9 +8,10 @@ use std::alloc::Global;
 use std::io;
 use suspect_range::RangeFault;
 
-const REFUSALS: [Refusal; 23] = [
+const REFUSALS: [Refusal; 24] = [
     Refusal::KeyClash(0),
     Refusal::Full,
+    Refusal::Closed,
     Refusal::TooManySearches,
     Refusal::NoRun,
     Refusal::UnknownRun(4),

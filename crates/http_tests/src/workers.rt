@@ -6,7 +6,7 @@ use std::alloc::Global;
 use std::io;
 use weight_exact::Verdict;
 use worker_core::{Event, Tested, WorkerCore};
-use worker_wire::{is_no_run, lease_of};
+use worker_wire::{is_closed, is_no_run, lease_of};
 
 fn event_of(text: &str) -> Event {
     let (name, value) = text.split_once('/').unwrap_or((text, ""));
@@ -48,6 +48,7 @@ pub(crate) fn play_worker(
     match name {
         "lease" => print_found(rt, lease_of(alloc, text.as_bytes())),
         "no_run" => print_found(rt, is_no_run(alloc, text.as_bytes())),
+        "closed" => print_found(rt, is_closed(alloc, text.as_bytes())),
         _ => print_worker(rt, text),
     }
 }

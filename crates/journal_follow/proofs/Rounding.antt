@@ -93,7 +93,7 @@ stored-came compared old new page unstored n answers takes = absurd answers
 -- so many entries are few
 pub page-bounded : (compared : ℕ) (old new : Held) (page : List Entry) (came : Came) (n : ℕ) → Answers came (Ok n)
     → Takes came (compared + 1) page old new → compared ≤ length old.history → MayBeHeld (new.history ++ new.pending)
-    → compared + length page ≤ MAX_ENTRIES
+    → compared + length page ≤ MAX_ENTRIES + 1
 page-bounded compared old new page came n answers takes le may =
     let all = stored-came compared old new page came n answers takes in
     let behind = stored-behind all.0 compared page old new all.1 le in

@@ -22,7 +22,7 @@ use Rattle.journal_follow.proofs.Showing.{decided-twice, with_pending}
 use Rattle.journal_follow.proofs.Syncs.{rose-later}
 
 -- a history that may be held is bounded
-pub may-bounded : (H : List Entry) → MayBeHeld H → length H ≤ MAX_ENTRIES
+pub may-bounded : (H : List Entry) → MayBeHeld H → length H ≤ MAX_ENTRIES + 1
 may-bounded [] may = omega arith
 may-bounded (e ∷ more) may = entries-bounded (e ∷ more) may
 

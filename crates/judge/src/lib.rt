@@ -5,8 +5,8 @@
 //! fate of each run line (`Fates`) and the text of the answer (`Answer`), over the definitions of the inference in
 //! `weight_exact`. The code reads the input once and keeps a `posterior::Belief` in place of the runs; limits are those
 //! of `flake_rate` and `weight_exact`, numbers in text are read by `decimal_text`, and line feeds are found by
-//! `memchr`. The layer above may use [`judge`], whose contract is that definition, and cite the laws over the
-//! definition ([`laws`]).
+//! `memchr`. The layer above may use [`judge`], whose contract is that definition, read lines and words by
+//! [`Lines`] and [`Words`], and cite the laws over the definition ([`laws`]).
 #![tactic(auto)]
 
 mod answer;
@@ -26,5 +26,7 @@ mod words;
 pub use answer::judge;
 pub use fate::Fate;
 pub use fault::JudgeFault;
+pub use lines::{Line, Lines};
 pub use run_line::RunLine;
 pub use standing::Standing;
+pub use words::Words;

@@ -1,11 +1,10 @@
 -- A legal history has few runs, so that their numbers fit.
-use Rattle.std.proofs.Common.{◌≤◌, List, length, arith}
+use Rattle.std.proofs.Common.{◌≤◌, List, length, refl}
 use Rattle.farm_entry.specs.History.{all_leases, lease_in}
 use Rattle.farm_entry.specs.Legal.{IsLegal}
 use Rattle.farm_entry.specs.declared.entry.Entry.{Entry}
 use Rattle.farm_entry.specs.declared.limits.TheConstants.{MAX_ENTRIES}
-use Rattle.farm_laws.proofs.Bounds.{entries-bounded}
-use Rattle.plain_history.proofs.Holding.{length-filter_map-le}
+use Rattle.farm_laws.proofs.Bounds.{parts-bounded}
 
 pub few_leases : (H : List Entry) → IsLegal H → length (all_leases H) ≤ MAX_ENTRIES
-few_leases H legal = omega (arith, length-filter_map-le (λ (e : Entry). lease_in e.what) H, entries-bounded H legal)
+few_leases H legal = parts-bounded lease_in H refl legal

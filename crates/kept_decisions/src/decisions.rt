@@ -2,7 +2,7 @@
 
 ghost use Rattle.std.specs.Prelude.{◌≡◌, IfOk};
 ghost use Rattle.farm_types.specs.Moment.{moment_ms};
-ghost use Rattle.farm_entry.specs.Decision.{decide, full_decision, own_decision};
+ghost use Rattle.farm_entry.specs.Decision.{closed_decision, decide, full_decision, own_decision};
 ghost use Rattle.farm_entry.specs.History.{order_lines};
 ghost use Rattle.farm_entry.specs.Pages.{totals};
 ghost use Rattle.farm_laws.specs.Laws.{IsNotBefore};
@@ -17,12 +17,23 @@ use farm_types::{Memory, Moment};
 use kept_farm::KeptFarm;
 use std::alloc::Global;
 
-/// A full history still shows.
+/// A history that takes no more still shows: a full one, or else a closed one.
 fn full_decision(farm: &KeptFarm, command: &Command) -> Option<Decision>
     ensures { result ≡ full_decision farm.now command.now }
 {
     if MAX_ENTRIES <= farm.history().len() && !command.is_show() {
         Some(Decision::Refuse(Refusal::Full))
+    } else {
+        closed_decision(farm, command)
+    }
+}
+
+/// A closed farm still shows.
+fn closed_decision(farm: &KeptFarm, command: &Command) -> Option<Decision>
+    ensures { result ≡ closed_decision farm.now command.now }
+{
+    if farm.is_closed() && !command.is_show() {
+        Some(Decision::Refuse(Refusal::Closed))
     } else {
         None
     }
@@ -131,8 +142,8 @@ pub fn decide(
 ) -> Result<Decision, Memory>
     ensures { IfOk result (λ found. found ≡ decide farm.now command.now at) }
 {
-    // A command that only shows something has no key, and is answered at a full history too. A search that is opened
-    // takes much room, which the other commands needn't clear and move.
+    // A command that only shows something has no key, and is answered at a history too that takes no more. A search
+    // that is opened takes much room, which the other commands needn't clear and move.
     match command {
         Command::Open(ask) => decision_on_open(alloc, farm, command, ask, at),
         Command::ShowSearch { search } => page_decision(alloc, farm, *search),

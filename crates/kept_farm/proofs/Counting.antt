@@ -1,16 +1,16 @@
 -- What is counted with an entry appended, by where its search stood and stands.
 use Rattle.std.proofs.Common.{◌≡◌, ℕ, ◌+◌, ◌-◌, ◌≤◌, Bool, inr, is_some, List, [], ◌∷◌, ◌++◌, length, slice_get, count_by, Contains, Option, Some, None, refl, sym, ap, subst, ◌∙◌, arith, length-append}
-use Rattle.std.specs.List.{cons_option, filter_map}
+use Rattle.std.specs.List.{cons_option}
 use Rattle.std.specs.Option.{option_and_then, option_map, unwrap_or}
 use Rattle.std.proofs.lemmas.List.Elements.{Contains-push}
 use Rattle.std.proofs.lemmas.List.Sums.{count_by-le-length}
-use Rattle.farm_entry.specs.History.{is_counted, lease_of, opening_in, opening_numbered, openings, order_in, order_lines, report_in, reports}
+use Rattle.farm_entry.specs.History.{is_counted, lease_of, opening_in, opening_numbered, openings, order_in, report_in, reports}
 use Rattle.farm_entry.specs.Legal.{IsLegal, ask_of}
 use Rattle.farm_entry.specs.Pages.{is_ended_otherwise, searches_that, totals}
 use Rattle.farm_entry.specs.Standing.{is_confirmed, is_searching, is_verifying, standing}
 use Rattle.farm_entry.specs.declared.entry.Entry.{Entry}
 use Rattle.farm_entry.specs.declared.entry.What.{What}
-use Rattle.farm_entry.specs.declared.entry.What.TheVariants.{Founded, Opened, Leased, Reported, Skipped, Cancelled, Ordered}
+use Rattle.farm_entry.specs.declared.entry.What.TheVariants.{Founded, Opened, Leased, Reported, Skipped, Cancelled, Ordered, Carried, Closed}
 use Rattle.farm_entry.specs.declared.lease.LeasedRun.{LeasedRun}
 use Rattle.farm_entry.specs.declared.lease.ReportedRun.{ReportedRun}
 use Rattle.farm_entry.specs.declared.limits.TheConstants.{MAX_ENTRIES, MAX_SEARCHES}
@@ -19,7 +19,7 @@ use Rattle.farm_entry.specs.declared.reply.Totals.{Totals}
 use Rattle.farm_entry.specs.declared.standing.Standing.{Standing}
 use Rattle.farm_entry.specs.declared.standing.Standing.TheVariants.{Searching}
 use Rattle.farm_entry.proofs.Growing.{openings-grow}
-use Rattle.farm_laws.proofs.Bounds.{entries-bounded, openings-bounded}
+use Rattle.farm_laws.proofs.Bounds.{entries-unclosed, openings-bounded, parts-bounded}
 use Rattle.farm_laws.proofs.Counts.{count_by-cons}
 use Rattle.farm_laws.proofs.EntryParts.{opened-facts}
 use Rattle.farm_laws.proofs.Filters.{lease_of-stays, opening_numbered-stays}
@@ -49,16 +49,6 @@ same-left n m a c h k = omega (arith, h, k)
 
 -- Lists.
 
--- what is made of items is no longer than they are
-fewer-cons : {Y : Type 0} (o : Option Y) (ys : List Y) (n : ℕ) → length ys ≤ n → length (cons_option o ys) ≤ n + 1
-fewer-cons None ys n few = omega (arith, few)
-fewer-cons (Some y) ys n few = omega (arith, few)
-
-length-filter_map-le : {X Y : Type 0} (f : X → Option Y) (xs : List X) → length (filter_map f xs) ≤ length xs
-length-filter_map-le f [] = omega arith
-length-filter_map-le f (x ∷ xs) =
-    let more = fewer-cons (f x) (filter_map f xs) (length xs) (length-filter_map-le f xs) in omega (arith, more)
-
 length-optional : {Y : Type 0} (o : Option Y) → length (cons_option o []) ≡ one_if (is_some o)
 length-optional None = refl
 length-optional (Some y) = refl
@@ -66,10 +56,11 @@ length-optional (Some y) = refl
 -- Where the search of an entry stands.
 
 -- no search has the number of one that is opened
-opened-new : (H : List Entry) (e : Entry) (o : Opening) → IsLegal H → Stepped H e.at e.what → opening_in e.what ≡ Some o →
-    opening_numbered H o.search ≡ None
+opened-new : (H : List Entry) (e : Entry) (o : Opening) → IsLegal H → Stepped H e.at e.what →
+    opening_in e.what ≡ Some o → opening_numbered H o.search ≡ None
 opened-new H e o legal step is =
-    let number : length (openings H) + 1 ≡ o.search = (is_made (ask_of o) _ o (opened-facts H e.at e.what o is step).made).number in
+    let number : length (openings H) + 1 ≡ o.search =
+    (is_made (ask_of o) _ o (opened-facts H e.at e.what o is step).made).number in
     map-none (seen H) (opening_numbered H o.search) (search-none H o.search legal (inr (omega (arith, number))))
 
 -- one that is opened is found by its number from then on
@@ -100,6 +91,8 @@ search-stays H e (Opened o) facts = refl
 search-stays H e (Leased key worker run search stage position deadline) facts = refl
 search-stays H e (Cancelled key search) facts = refl
 search-stays H e (Ordered key agent order commit search day) facts = refl
+search-stays H e (Carried commit day) facts = refl
+search-stays H e Closed facts = refl
 
 -- Searches that stand so.
 
@@ -155,7 +148,8 @@ moves-as : (H : List Entry) (e : Entry) (test : Standing → Bool) (what : What)
 moves-as H e test (Founded settings) legal longer step facts is = absurd facts
 moves-as H e test (Opened o) legal longer step facts is =
     let opens : opening_in e.what ≡ Some o = ap opening_in is in
-    let moves = quiet-moves H e test legal step (λ s about. subst (λ (w : What). IsAbout H w s) is about) (Some o) opens in
+    let moves = quiet-moves H e test legal step
+    (λ s about. subst (λ (w : What). IsAbout H w s) is about) (Some o) opens in
     let before : one_that test (standing_of H (Some o.search)) ≡ 0 =
     ap (one_that test) (standing-found H o.search None (opened-new H e o legal step opens)) in
     let after : one_that test (standing_of (H ++ e ∷ []) (Some o.search)) ≡ one_if (test (standing (H ++ e ∷ []) o)) =
@@ -181,6 +175,12 @@ moves-as H e test (Cancelled key search) legal longer step facts is =
 moves-as H e test (Ordered key agent order commit search day) legal longer step facts is =
     plus-none (searches_that test (H ++ e ∷ []))
     ∙ quiet-moves H e test legal step (λ s about. subst (λ (w : What). IsAbout H w s) is about) None (ap opening_in is)
+moves-as H e test (Carried commit day) legal longer step facts is =
+    plus-none (searches_that test (H ++ e ∷ []))
+    ∙ quiet-moves H e test legal step (λ s about. subst (λ (w : What). IsAbout H w s) is about) None (ap opening_in is)
+moves-as H e test Closed legal longer step facts is =
+    plus-none (searches_that test (H ++ e ∷ []))
+    ∙ quiet-moves H e test legal step (λ s about. subst (λ (w : What). IsAbout H w s) is about) None (ap opening_in is)
 
 pub moves : (H : List Entry) (e : Entry) (test : Standing → Bool) → IsLegal H → IsLegal (H ++ e ∷ []) →
     IsMoved test (searches_that test H) (searches_that test (H ++ e ∷ [])) (standing_in H e.what)
@@ -191,21 +191,22 @@ moves H e test legal longer =
 
 -- The totals.
 
--- there is room for one more of each
-pub few : (H : List Entry) → IsLegal H → AreFew (totals H)
-few H legal =
-    let entries : length H ≤ MAX_ENTRIES = entries-bounded H legal in
-    let searches : length (openings H) ≤ length H = length-filter_map-le (λ (e : Entry). opening_in e.what) H in
-    let reported : length (reports H) ≤ length H = length-filter_map-le (λ (e : Entry). report_in e.what) H in
-    let orders : length (order_lines H) ≤ length H = length-filter_map-le (λ (e : Entry). order_in e.what) H in
+-- no part of the entries is longer than the entries that no closing is among
+few-counted : (H : List Entry) → IsLegal H → (totals H).counted ≤ MAX_ENTRIES
+few-counted H legal =
+    let reported : length (reports H) ≤ MAX_ENTRIES = parts-bounded report_in H refl legal in
     let counted : count_by (λ (r : ReportedRun). is_counted r.fate) (reports H) ≤ length (reports H) =
     count_by-le-length (λ (r : ReportedRun). is_counted r.fate) (reports H) in
-    record {
-      entries = entries;
-      searches = omega (arith, entries, searches);
-      counted = omega (arith, entries, reported, counted);
-      orders = omega (arith, entries, orders);
-    }
+    omega (arith, reported, counted)
+
+-- there is room for one more of each, where one more entry may come
+pub few : (H : List Entry) (e : Entry) → IsLegal H → IsLegal (H ++ e ∷ []) → AreFew (totals H)
+few H e legal longer = record {
+  entries = entries-unclosed H legal (stepped H e (IsLegal-pushed H e legal longer)).unclosed;
+  searches = parts-bounded opening_in H refl legal;
+  counted = few-counted H legal;
+  orders = parts-bounded order_in H refl legal;
+}
 
 -- and no more than a farm may have
 pub small : (H : List Entry) → IsLegal H → AreSmall (totals H)
@@ -214,26 +215,24 @@ small H legal =
     let stand : (test : Standing → Bool) → searches_that test H ≤ MAX_SEARCHES =
     λ test. (let some : searches_that test H ≤ length (openings H) =
     count_by-le-length (λ (o : Opening). test (standing H o)) (openings H) in omega (arith, some, all)) in
-    let fits = few H legal in
     record {
       searches = all;
       searching = stand is_searching;
       verifying = stand is_verifying;
       confirmed = stand is_confirmed;
       ended = stand is_ended_otherwise;
-      counted = fits.counted;
-      orders = fits.orders;
+      counted = few-counted H legal;
+      orders = parts-bounded order_in H refl legal;
     }
 
 may-move : (H : List Entry) (e : Entry) (test : Standing → Bool) → IsLegal H → IsLegal (H ++ e ∷ []) →
     MayMove test (searches_that test H) (standing_in H e.what) (standing_of (H ++ e ∷ []) (search_in H e.what))
 may-move H e test legal longer =
-    let entries : length H ≤ MAX_ENTRIES = entries-bounded H legal in
-    let searches : length (openings H) ≤ length H = length-filter_map-le (λ (x : Entry). opening_in x.what) H in
+    let searches : length (openings H) ≤ MAX_ENTRIES = parts-bounded opening_in H refl legal in
     let so : searches_that test H ≤ length (openings H) =
     count_by-le-length (λ (o : Opening). test (standing H o)) (openings H) in
     record {
-      few = omega (arith, entries, searches, so);
+      few = omega (arith, searches, so);
       counted = part-le (searches_that test (H ++ e ∷ [])) _ (searches_that test H) _ (moves H e test legal longer);
     }
 
@@ -258,6 +257,8 @@ counts-one (Opened o) = refl
 counts-one (Leased key worker run search stage position deadline) = refl
 counts-one (Cancelled key search) = refl
 counts-one (Ordered key agent order commit search day) = refl
+counts-one (Carried commit day) = refl
+counts-one Closed = refl
 
 pub totals-moved : (H : List Entry) (e : Entry) (t : Totals) → IsLegal H → IsLegal (H ++ e ∷ []) →
     HasMoved (with_entry (totals H) e.what) t (standing_in H e.what) (standing_of (H ++ e ∷ []) (search_in H e.what)) →
@@ -269,7 +270,8 @@ totals-moved H e t legal longer moved =
     moved.searches ∙ ap (λ (n : ℕ). (totals H).searches + n) (sym (length-optional (opening_in e.what)))
     ∙ sym (searches-step H e) in
     let orders : t.orders ≡ T.orders =
-    moved.orders ∙ ap (λ (n : ℕ). (totals H).orders + n) (sym (length-optional (order_in e.what))) ∙ sym (orders-step H e) in
+    moved.orders ∙ ap (λ (n : ℕ). (totals H).orders + n) (sym (length-optional (order_in e.what)))
+    ∙ sym (orders-step H e) in
     let counted : t.counted ≡ T.counted =
     moved.counted ∙ ap (λ (n : ℕ). (totals H).counted + n) (sym (counts-one e.what)) ∙ sym (counted-step H e) in
     let searching : t.searching ≡ T.searching =
@@ -303,19 +305,22 @@ last_standing-push H e =
     let last : slice_get G (length G - 1) ≡ Some e = ap (slice_get G) back ∙ slice_get-last H e in
     ap (λ (x : Option Entry). unwrap_or (option_and_then (λ (y : Entry). standing_in G y.what) x) Searching) last
 
-pub standing-kept : (H : List Entry) (e : Entry) (after : Option Standing) (s : Standing) → IsLegal H → IsLegal (H ++ e ∷ []) →
-    after ≡ standing_of (H ++ e ∷ []) (search_in H e.what) → s ≡ unwrap_or after Searching → s ≡ last_standing (H ++ e ∷ [])
+pub standing-kept : (H : List Entry) (e : Entry) (after : Option Standing) (s : Standing) → IsLegal H →
+    IsLegal (H ++ e ∷ []) → after ≡ standing_of (H ++ e ∷ []) (search_in H e.what) →
+    s ≡ unwrap_or after Searching → s ≡ last_standing (H ++ e ∷ [])
 standing-kept H e after s legal longer is kept =
     let step = stepped H e (IsLegal-pushed H e legal longer) in
     let G : List Entry = H ++ e ∷ [] in
     kept
-    ∙ ap (λ (x : Option Standing). unwrap_or x Searching) (is ∙ ap (standing_of G) (sym (search-stays H e e.what step.facts)))
+    ∙ ap (λ (x : Option Standing). unwrap_or x Searching)
+    (is ∙ ap (standing_of G) (sym (search-stays H e e.what step.facts)))
     ∙ sym (last_standing-push H e)
 
 -- An entry that is added.
 
 -- what the code has read of it, before and after
-pub record IsChange (H G : List Entry) (e : Entry) (t : Totals) (search : Option ℕ) (before after : Option Standing) : Type 0 where
+pub record IsChange (H G : List Entry) (e : Entry) (t : Totals) (search : Option ℕ)
+    (before after : Option Standing) : Type 0 where
   pub legal : IsLegal H
   pub longer : IsLegal (H ++ e ∷ [])
   pub pushed : G ≡ H ++ e ∷ []

@@ -74,8 +74,8 @@ beside-push gives H xs e x all is =
     }
 
 -- what stands at a place
-pub beside-at : {X : Type 0} (gives : List Entry → X) (H : List Entry) (xs : List X) (k : ℕ) (d : X) → AreBeside gives H xs →
-    k < length H → get_or xs k d ≡ gives (take (k + 1) H)
+pub beside-at : {X : Type 0} (gives : List Entry → X) (H : List Entry) (xs : List X) (k : ℕ) (d : X) →
+    AreBeside gives H xs → k < length H → get_or xs k d ≡ gives (take (k + 1) H)
 beside-at gives H xs k d all below = get_or_from_slice_get xs k (gives (take (k + 1) H)) d (all.each k below)
 
 -- and at the last one
@@ -88,8 +88,8 @@ beside-last gives H xs n d all count some =
 
 -- What is kept after a call, by what the call changed.
 
-pub beside-same : {X : Type 0} (gives : List Entry → X) (H G : List Entry) (xs ys : List X) → AreBeside gives H xs → G ≡ H →
-    ys ≡ xs → AreBeside gives G ys
+pub beside-same : {X : Type 0} (gives : List Entry → X) (H G : List Entry) (xs ys : List X) → AreBeside gives H xs →
+    G ≡ H → ys ≡ xs → AreBeside gives G ys
 beside-same gives H G xs ys all same kept =
     subst (λ (L : List Entry). AreBeside gives L ys) (sym same) (subst (AreBeside gives H) (sym kept) all)
 

@@ -5,4 +5,6 @@ mod Looked
 mod Searches
 mod Paged
 mod Replied
+mod Active
+mod Begun
 pub mod Crossing

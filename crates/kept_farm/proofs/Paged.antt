@@ -12,18 +12,16 @@ use Rattle.farm_entry.specs.RunPages.{lines_from, report_of, report_shown, run_l
 use Rattle.farm_entry.specs.SearchLines.{order_for, search_line, search_lines}
 use Rattle.farm_entry.specs.declared.entry.Entry.{Entry}
 use Rattle.farm_entry.specs.declared.entry.What.{What}
-use Rattle.farm_entry.specs.declared.entry.What.TheVariants.{Founded, Opened, Leased, Reported, Skipped, Cancelled, Ordered}
+use Rattle.farm_entry.specs.declared.entry.What.TheVariants.{Founded, Opened, Leased, Reported, Skipped, Cancelled, Ordered, Carried, Closed}
 use Rattle.farm_entry.specs.declared.opening.Opening.{Opening}
 use Rattle.farm_entry.specs.declared.order_page.OrderLine.{OrderLine}
-use Rattle.farm_entry.specs.declared.run_page.RunLine.{RunLine}
-use Rattle.farm_entry.specs.declared.search_list.SearchLine.{SearchLine}
 use Rattle.farm_laws.proofs.Lists.{contains-head, contains-tail}
 use Rattle.farm_laws.proofs.Numbered.{opening-found}
 use Rattle.farm_ledger.proofs.Counts.{opened-number}
 use Rattle.search_places.specs.SearchRows.{RowView, row_numbered}
 use Rattle.kept_farm.specs.Lines.{order_at, order_in_row, run_line_at, run_lines_at, runs_in, search_line_at, search_lines_at}
 use Rattle.kept_farm.specs.Searches.{search_rows}
-use Rattle.kept_farm.proofs.Looked.{found-at, lines-found, made-all, places_of}
+use Rattle.kept_farm.proofs.Looked.{found-at, lines-found, made-all}
 use Rattle.kept_farm.proofs.Searches.{is_for, is_order_for, openings-there, opens, order-there, runs-there}
 
 -- The runs of a search.
@@ -42,6 +40,8 @@ line-of_lease H o at (Reported n v f) = refl
 line-of_lease H o at (Skipped n f) = refl
 line-of_lease H o at (Cancelled k q) = refl
 line-of_lease H o at (Ordered k a n c q d) = refl
+line-of_lease H o at (Carried c d) = refl
+line-of_lease H o at Closed = refl
 
 pub runs-paged : (H : List Entry) (o : Opening) (from : ℕ) → IsLegal H →
     run_lines_at H o (lines_from from (runs_in (row_numbered o.search (search_rows H))))

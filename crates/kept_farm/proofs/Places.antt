@@ -56,8 +56,8 @@ front xs ys y same =
     ∙ ap (λ (n : ℕ). take n (ys ++ y ∷ [])) less
     ∙ take-append_seam ys (y ∷ [])
 
-take-place : (places ps : List ℕ) (x : Option OrderLine) (place : ℕ) → places ≡ ps ++ cons_option (place_of x place) [] →
-    without_place places (is_some x) ≡ ps
+take-place : (places ps : List ℕ) (x : Option OrderLine) (place : ℕ) →
+    places ≡ ps ++ cons_option (place_of x place) [] → without_place places (is_some x) ≡ ps
 take-place places ps None place are = are ∙ append-nil ps
 take-place places ps (Some line) place are = front places ps place are
 
@@ -90,7 +90,8 @@ lines-from G a (e ∷ H) stands =
 
 -- the orders at the first places up to one and with it
 pub lines-upto : (H : List Entry) (places : List ℕ) (i : ℕ) (x : Option OrderLine) → i < length places →
-    x ≡ line_at H (get_or places i 0) → lines_at H (take (i + 1) places) ≡ lines_at H (take i places) ++ cons_option x []
+    x ≡ line_at H (get_or places i 0) →
+    lines_at H (take (i + 1) places) ≡ lines_at H (take i places) ++ cons_option x []
 lines-upto H places i x below is =
     ap (lines_at H) (take_more places i 0 below)
     ∙ filter_map-append (line_at H) (take i places) (get_or places i 0 ∷ [])

@@ -14,7 +14,7 @@ use Rattle.farm_entry.specs.Reply as entry
 use Rattle.farm_entry.specs.Standing.{standing}
 use Rattle.farm_entry.specs.declared.entry.Entry.{Entry}
 use Rattle.farm_entry.specs.declared.entry.What.{What}
-use Rattle.farm_entry.specs.declared.entry.What.TheVariants.{Founded, Opened, Leased, Reported, Skipped, Cancelled, Ordered}
+use Rattle.farm_entry.specs.declared.entry.What.TheVariants.{Founded, Opened, Leased, Reported, Skipped, Cancelled, Ordered, Carried, Closed}
 use Rattle.farm_entry.specs.declared.lease.LeasedRun.{LeasedRun}
 use Rattle.farm_entry.specs.declared.lease.ReportedRun.{ReportedRun}
 use Rattle.farm_entry.specs.declared.lease.SkippedRun.{SkippedRun}
@@ -74,7 +74,8 @@ told-lease F e run legal is =
 
 lease-search : (G : List Entry) (run : ℕ) (l : LeasedRun) → IsLegal G → lease_of G run ≡ Some l → HasOpening G l.search
 lease-search G run l legal known =
-    All-contains (λ (x : LeasedRun). HasOpening G x.search) (all_leases G) l (leases-known G legal) (lease-there G run l known).0
+    All-contains (λ (x : LeasedRun). HasOpening G x.search) (all_leases G) l (leases-known G legal)
+    (lease-there G run l known).0
 
 -- where its search stands
 stood : (F : List Entry) (e : Entry) (n : ℕ) (o : Opening) → search_in (F ++ e ∷ []) e.what ≡ Some n →
@@ -126,6 +127,8 @@ replied-as F K e (Skipped run ruled) legal is =
     ∙ sym (ap (option_and_then (entry.reply_to_skip G ruled)) leased.1)
 replied-as F K e (Cancelled key search) legal is = refl
 replied-as F K e (Ordered key agent order commit search day) legal is = refl
+replied-as F K e (Carried commit day) legal is = refl
+replied-as F K e Closed legal is = refl
 
 -- the beginning up to an entry and with it
 pub front-at : (H : List Entry) (k : ℕ) (e : Entry) → slice_get H k ≡ Some e → take (k + 1) H ≡ take k H ++ e ∷ []

@@ -1,25 +1,24 @@
 -- Where the entries of each search stand, where the history grows by an entry or loses its last.
-use Rattle.std.proofs.Common.{◌≡◌, ◌≢◌, ◌⊎◌, ⊎_elim, ℕ, zero, suc, ◌+◌, ◌-◌, ◌<◌, ◌≤◌, ◌==◌, Bool, true, false, if◌then◌else◌, List, [], ◌∷◌, ◌++◌, length, map, set, get_or, slice_get, Contains, Option, Some, None, refl, sym, ap, subst, ◌∙◌, arith, append-nil, length-append}
+use Rattle.std.proofs.Common.{◌≡◌, ◌≢◌, ◌⊎◌, ⊎_elim, ℕ, zero, suc, ◌+◌, ◌-◌, ◌<◌, ◌≤◌, ◌==◌, Bool, true, false, if◌then◌else◌, List, [], ◌∷◌, ◌++◌, length, map, set, slice_get, Option, Some, None, refl, sym, ap, subst, ◌∙◌, arith, length-append}
 use Rattle.std.specs.List.{position_from}
 use Rattle.std.specs.Option.{is_some, option_and_then}
 use Rattle.std.specs.Prelude.{⊤}
 use Rattle.std.proofs.lemmas.Bool.{cases_eq, cases_lt}
 use Rattle.std.proofs.lemmas.Bool.Decides.{nat_tests}
-use Rattle.std.proofs.lemmas.List.{length-set, map-append, set_past}
+use Rattle.std.proofs.lemmas.List.{map-append, set_past}
 use Rattle.std.proofs.lemmas.Option.{none-some}
 use Rattle.std.proofs.Math.Seq.{map-set_same}
 use Rattle.farm_types.specs.Moment.{moment_ms}
-use Rattle.farm_types.specs.declared.moment.Moment.{Moment}
 use Rattle.farm_rules.specs.declared.orders.Candidate.{Candidate}
 use Rattle.farm_rules.proofs.Drafts.{next_draft-ok}
-use Rattle.farm_entry.specs.History.{daily_limit, is_lease_for, is_of_search, lease_in, opening_in, openings, order_in}
+use Rattle.farm_entry.specs.History.{daily_limit, is_lease_for, is_of_search, lease_in, opening_in, openings, order_in, order_lines}
 use Rattle.farm_entry.specs.Legal.{IsFounding, IsLegal}
 use Rattle.farm_entry.specs.Orders.{confirmed_at, confirmed_searches, day_in, orders}
 use Rattle.farm_entry.specs.Setup.{commit_of}
 use Rattle.farm_entry.specs.Standing.{standing}
 use Rattle.farm_entry.specs.declared.entry.Entry.{Entry}
 use Rattle.farm_entry.specs.declared.entry.What.{What}
-use Rattle.farm_entry.specs.declared.entry.What.TheVariants.{Founded, Opened, Leased, Reported, Skipped, Cancelled, Ordered}
+use Rattle.farm_entry.specs.declared.entry.What.TheVariants.{Founded, Opened, Leased, Reported, Skipped, Cancelled, Ordered, Carried, Closed}
 use Rattle.farm_entry.specs.declared.lease.LeasedRun.{LeasedRun}
 use Rattle.farm_entry.specs.declared.opening.Opening.{Opening}
 use Rattle.farm_entry.specs.declared.order_page.OrderLine.{OrderLine}
@@ -309,6 +308,8 @@ rows-pushed H e rows are opened = by e.what opened
     by (Ordered k a n c q d) h =
         rows-ordered H (record { at = e.at; what = Ordered k a n c q d }) rows
         (record { order = n; agent = a; commit = c; search = q; day = d }) are refl refl refl h.0 h.1
+    by (Carried c d) h = rows-other H (record { at = e.at; what = Carried c d }) rows are refl refl refl
+    by Closed h = rows-other H (record { at = e.at; what = Closed }) rows are refl refl refl
 
 confirmed-search : (s : Standing) (o : Opening) (c : Candidate) → confirmed_at s o ≡ Some c → o.search ≡ c.search
 confirmed-search (Confirmed k) o c is = let same : record { search = o.search; commit = commit_of o k } ≡ c = cc in
@@ -338,13 +339,15 @@ kind-opened H e legal step = by e.what step
     by (Ordered k a n c q d) h =
         let line : OrderLine = record { order = n; agent = a; commit = c; search = q; day = d } in
         let facts = ordered-facts H e.at (Ordered k a n c q d) line refl h in
-        let next = next_draft-ok (confirmed_searches H) (orders H) (day_in H (moment_ms e.at))
-        (daily_limit H) _ facts.next in
+        let next = next_draft-ok (confirmed_searches H) (orders H) (length (order_lines H))
+        (day_in H (moment_ms e.at)) (daily_limit H) _ facts.next in
         let it : Candidate = record { search = q; commit = c } in
         let from = made-from (λ (o : Opening). confirmed_at (standing H o) o) (openings H) it next.confirmed in
         let same = confirmed-search (standing H from.from) from.from it from.makes in
         let number = opened-number H from.from legal from.there in
         (omega (arith, number.0, same), omega (arith, number.1, same))
+    by (Carried c d) h = tt
+    by Closed h = tt
 
 no-rows : AreRows [] []
 no-rows = record { count = refl; opened = refl; runs = runs; order = order; none = refl }
@@ -369,6 +372,8 @@ founded-rows e founding = by e.what founding
     by (Skipped n f) h = absurd h
     by (Cancelled k q) h = absurd h
     by (Ordered k a n c q d) h = absurd h
+    by (Carried c d) h = absurd h
+    by Closed h = absurd h
 
 pub rows-are : (H : List Entry) → IsLegal H → AreRows H (search_rows H)
 rows-are =

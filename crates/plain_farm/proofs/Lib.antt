@@ -1,3 +1,5 @@
+pub mod Begun
+pub mod Busy
 pub mod Beliefs
 pub mod Few
 pub mod Growth

@@ -1,3 +1,4 @@
+pub mod Begun
 pub mod Believed
 pub mod Rows
 pub mod Stops

@@ -2,7 +2,7 @@
 
 ghost use Rattle.std.specs.Prelude.{◌≡◌, IfOk};
 ghost use Rattle.farm_entry.specs.History.{opening_numbered};
-ghost use Rattle.farm_entry.specs.Decision.{decide, full_decision, known_decision, own_decision, page_decision, runs_decision, shape_decision};
+ghost use Rattle.farm_entry.specs.Decision.{closed_decision, decide, full_decision, known_decision, own_decision, page_decision, runs_decision, shape_decision};
 ghost use Rattle.farm_entry.specs.Legal.{IsLegal};
 ghost use Rattle.plain_farm.specs.Rows.{AreRows};
 
@@ -18,7 +18,7 @@ use crate::run_page::runs_page;
 use crate::search_lines::search_list;
 use farm_entry::{Command, Decision, Entry, MAX_ENTRIES, Refusal, Reply, moment_used};
 use farm_types::{Memory, Moment};
-use plain_history::{lease_of, opening_numbered};
+use plain_history::{is_closed, lease_of, opening_numbered};
 use std::alloc::Global;
 
 /// First the shape of an open, which needs no history.
@@ -34,12 +34,23 @@ fn shape_decision(alloc: Global, command: &Command) -> Result<Option<Decision>, 
     }
 }
 
-/// Then a full history, which still shows.
+/// Then a history that takes no more, which still shows: a full one, or else a closed one.
 fn full_decision(history: &[Entry], command: &Command) -> Option<Decision>
     ensures { result ≡ full_decision history.now command.now }
 {
     if MAX_ENTRIES <= history.len() && !command.is_show() {
         Some(Decision::Refuse(Refusal::Full))
+    } else {
+        closed_decision(history, command)
+    }
+}
+
+/// A closed farm still shows.
+fn closed_decision(history: &[Entry], command: &Command) -> Option<Decision>
+    ensures { result ≡ closed_decision history.now command.now }
+{
+    if is_closed(history) && !command.is_show() {
+        Some(Decision::Refuse(Refusal::Closed))
     } else {
         None
     }

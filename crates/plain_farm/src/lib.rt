@@ -5,8 +5,8 @@
 //! the only other answer. The crate is the reference that every faster body is tested against, and [`first_illegal`]
 //! decides whether a list of entries that came from elsewhere is a history that a farm can have. That call goes
 //! through the list once, and keeps a row of each search from entry to entry: the same functions then read the runs,
-//! the plan, the leases and the standing of a search off its row, where one is there, in place of a scan. No row is
-//! kept for the other calls.
+//! the plan, the leases and the standing of a search off its row, where one is there, in place of a scan. Of the orders
+//! that a farm carries over it keeps a book. Neither is kept for the other calls.
 //!
 //! Most calls speak of legal histories, and of searches that were opened in them: the laws of `farm_laws` give what a
 //! belief asks for, that runs are in range and within the budget. [`first_illegal`] takes any list.
@@ -17,6 +17,8 @@
 //! values. The layer above may use every name below, and none of its lemmas. Its tests stand in `farm_tests`.
 #![tactic(auto)]
 
+mod beginning;
+mod closing;
 mod decision_known;
 mod decision_new;
 mod decisions;
@@ -31,6 +33,7 @@ mod run_page;
 mod search_lines;
 mod standings;
 
+pub use closing::is_busy;
 pub use decisions::decide;
 pub use due_run::{due, due_runs, is_open, next_run, open_leases, outstanding_positions, plan};
 pub use legal::{first_illegal, is_next};

@@ -1,23 +1,23 @@
 //! Which commit is to be reverted next.
 
-ghost use Rattle.std.specs.Prelude.{◌≡◌, map, IfOk};
+ghost use Rattle.std.specs.Prelude.{◌≡◌, IfOk};
 ghost use Rattle.std.specs.Option.{option_and_then};
 ghost use Rattle.farm_rules.specs.Orders.{candidates, earlier, earliest, has_order, orders_of};
 ghost use Rattle.farm_types.specs.CommitId.{same_id};
 ghost use Rattle.farm_types.specs.Moment.{moment_ms};
 ghost use Rattle.farm_entry.specs.History.{opening_in};
 ghost use Rattle.farm_entry.specs.Legal.{IsLegal};
-ghost use Rattle.farm_entry.specs.Orders.{confirmed_at, confirmed_searches, day_in, next_order_at, ordered};
+ghost use Rattle.farm_entry.specs.Orders.{confirmed_at, confirmed_searches, day_in, next_order_at, waiting_for_order};
 ghost use Rattle.farm_entry.specs.Standing.{standing};
 ghost use Rattle.plain_farm.specs.Rows.{AreRows};
 ghost use Rattle.plain_history.specs.Held.{IsHeld};
 
 use crate::kept::standing_by;
 use crate::rows::Row;
-use farm_entry::{Entry, Opening, OrderLine, Standing, What};
-use farm_rules::{Candidate, Draft, NoOrder};
+use farm_entry::{Entry, Opening, Standing, What};
+use farm_rules::{Candidate, Draft, NoOrder, OrderedCommit};
 use farm_types::{CommitId, Memory, Moment};
-use plain_history::{daily_limit, order_lines, push_some, zone_minutes};
+use plain_history::{daily_limit, orders, orders_count, push_some, zone_minutes};
 use revert_orders::day_of;
 use std::alloc::Global;
 
@@ -87,11 +87,11 @@ fn confirmed_by(alloc: Global, history: &[Entry], rows: &[Row]) -> Result<Vec<Ca
 }
 
 /// Whether a commit has an order.
-fn has_order(lines: &[OrderLine], commit: CommitId) -> bool
-    ensures { result ≡ has_order (map ordered lines.now) commit }
+pub(crate) fn has_order(orders: &[OrderedCommit], commit: CommitId) -> bool
+    ensures { result ≡ has_order orders.now commit }
 {
-    for line in lines {
-        if is_for(line, commit) {
+    for order in orders {
+        if is_for(order, commit) {
             return true;
         }
     }
@@ -99,25 +99,24 @@ fn has_order(lines: &[OrderLine], commit: CommitId) -> bool
 }
 
 /// Whether an order is for a commit.
-fn is_for(line: &OrderLine, commit: CommitId) -> bool
-    ensures { result ≡ same_id line.now.commit commit }
+fn is_for(order: &OrderedCommit, commit: CommitId) -> bool
+    ensures { result ≡ same_id order.now.commit commit }
 {
-    line.commit == commit
+    order.commit == commit
 }
 
 /// The confirmed searches whose commit has no order yet.
 fn candidates(
     alloc: Global,
     searches: &[Candidate],
-    lines: &[OrderLine],
+    orders: &[OrderedCommit],
 ) -> Result<Vec<Candidate>, Memory>
-    ensures { IfOk result (λ found. found.items
-        ≡ candidates searches.now (map ordered lines.now)) }
+    ensures { IfOk result (λ found. found.items ≡ candidates searches.now orders.now) }
 {
     let searches = searches.iter().copied();
     Ok(
         searches
-            .filter(|confirmed| !has_order(lines, confirmed.commit))
+            .filter(|confirmed| !has_order(orders, confirmed.commit))
             .collect(alloc)?,
     )
 }
@@ -143,10 +142,25 @@ fn earliest(searches: &[Candidate]) -> Option<Candidate>
 }
 
 /// How many orders stand on a day.
-fn orders_of(day: u32, lines: &[OrderLine]) -> usize
-    ensures { result ≡ orders_of day (map ordered lines.now) }
+fn orders_of(day: u32, orders: &[OrderedCommit]) -> usize
+    ensures { result ≡ orders_of day orders.now }
 {
-    lines.iter().filter(|line| line.day == day).count()
+    orders.iter().filter(|order| order.day == day).count()
+}
+
+/// The confirmed searches whose commit has no order yet, by the rows that are kept.
+pub(crate) fn waiting_by(
+    alloc: Global,
+    history: &[Entry],
+    rows: &[Row],
+) -> Result<Vec<Candidate>, Memory>
+    requires legal { IsLegal history.now }
+    requires rows { AreRows history.now rows.now }
+    ensures { IfOk result (λ found. found.items ≡ waiting_for_order history.now) }
+{
+    let searches = confirmed_by(alloc, history, rows)?;
+    let orders = orders(alloc, history)?;
+    candidates(alloc, &searches, &orders)
 }
 
 /// What the next request for an order comes to at a moment: the next order, or why there is none.
@@ -173,16 +187,16 @@ pub(crate) fn next_order_by(
     ensures { IfOk result (λ next. next ≡ next_order_at history.now (moment_ms moment)) }
 {
     let searches = confirmed_by(alloc, history, rows)?;
-    let lines = order_lines(alloc, history)?;
-    let candidates = candidates(alloc, &searches, &lines)?;
+    let orders = orders(alloc, history)?;
+    let candidates = candidates(alloc, &searches, &orders)?;
     let Some(first) = earliest(&candidates) else {
         return Ok(Err(NoOrder::NoRevert));
     };
     let day = day_in(history, moment);
-    let count = orders_of(day, &lines) as u32;
+    let count = orders_of(day, &orders) as u32;
     if count < daily_limit(history) {
         Ok(Ok(Draft {
-            order: lines.len() as u32 + 1,
+            order: orders_count(history) as u32 + 1,
             commit: first.commit,
             search: first.search,
             day,

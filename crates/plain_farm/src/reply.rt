@@ -93,14 +93,15 @@ fn reply_to_skip(
     }))
 }
 
-/// What is replied for what an entry records, by the history up to it and with it. A founding has no reply.
+/// What is replied for what an entry records, by the history up to it and with it. A founding, a carried order and a
+/// closing have no reply.
 pub fn reply_to(alloc: Global, history: &[Entry], what: &What) -> Result<Option<Reply>, Memory>
     requires legal { IsLegal history.now }
     requires held { IsHeld history.now what.now }
     ensures { IfOk result (λ reply. reply ≡ reply_to history.now what.now) }
 {
     match what {
-        What::Founded { .. } => Ok(None),
+        What::Founded { .. } | What::Carried { .. } | What::Closed => Ok(None),
         What::Opened(opening) => Ok(Some(reply_to_opening(alloc, history, opening.deref())?)),
         What::Leased {
             run,

@@ -3,10 +3,12 @@
 
 ghost use Rattle.std.specs.Prelude.{◌≡◌, ◌<◌, length, Contains, IfSome, IfOk};
 ghost use Rattle.std.specs.Option.{option_copied};
-ghost use Rattle.farm_entry.specs.History.{all_leases, counted, counted_run, has_key, is_lease_for, is_of_search, is_report_of, is_reported, last_lease, lease_of, leases, opening_numbered, openings, order_lines, place_of_key, place_of_report, position_for, reruns, run_of, runs, skipped, skipped_position, was_cancelled, went_over};
+ghost use Rattle.farm_entry.specs.History.{all_leases, counted, counted_run, has_key, is_lease_for, is_closed, is_of_search, is_report_of, is_reported, last_lease, lease_of, leases, opening_numbered, openings, order_lines, place_of_key, place_of_report, position_for, reruns, run_of, runs, skipped, skipped_position, was_cancelled, went_over};
+ghost use Rattle.farm_entry.specs.Orders.{orders};
 
 use crate::lists::push_some;
 use farm_entry::{Entry, LeasedRun, Opening, OrderLine, ReportedRun, SkippedRun};
+use farm_rules::OrderedCommit;
 use farm_types::{Key, Memory, Stage};
 use std::alloc::Global;
 use weight_exact::{Run, Verdict};
@@ -262,4 +264,19 @@ pub fn order_lines(alloc: Global, history: &[Entry]) -> Result<Vec<OrderLine>, M
         push_some(&mut lines, entry.what.order()?)?;
     }
     Ok(lines)
+}
+
+/// The orders that stand, those that were carried over among them, in the order of their entries.
+pub fn orders(alloc: Global, history: &[Entry]) -> Result<Vec<OrderedCommit>, Memory>
+    ensures { IfOk result (λ found. found.items ≡ orders history.now) }
+{
+    let orders = history.iter().filter_map(|entry| entry.what.ordered());
+    Ok(orders.collect(alloc)?)
+}
+
+/// Whether the farm was closed.
+pub fn is_closed(history: &[Entry]) -> bool
+    ensures { result ≡ is_closed history.now }
+{
+    history.iter().any(|entry| entry.what.is_closing())
 }

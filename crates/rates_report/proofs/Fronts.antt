@@ -4,7 +4,7 @@ use Rattle.std.proofs.lemmas.Option.{none-some}
 use Rattle.farm_entry.specs.Legal.{AreNext, IsFounding, IsLegal}
 use Rattle.farm_entry.specs.declared.entry.Entry.{Entry}
 use Rattle.farm_entry.specs.declared.entry.What.{What}
-use Rattle.farm_entry.specs.declared.entry.What.TheVariants.{Founded, Opened, Leased, Reported, Skipped, Cancelled, Ordered}
+use Rattle.farm_entry.specs.declared.entry.What.TheVariants.{Founded, Opened, Leased, Reported, Skipped, Cancelled, Ordered, Carried, Closed}
 use Rattle.farm_entry.specs.declared.standing.Standing.{Standing}
 use Rattle.farm_laws.proofs.Induct.{AreNext-first}
 use Rattle.flake_book.specs.Tally.{StandsAfter, search_in}
@@ -27,6 +27,8 @@ founding-searches H (Reported run v _) first = absurd first
 founding-searches H (Skipped run _) first = absurd first
 founding-searches H (Cancelled k q) first = absurd first
 founding-searches H (Ordered k a n c q d) first = absurd first
+founding-searches H (Carried c d) first = absurd first
+founding-searches H Closed first = absurd first
 
 -- so any standing will do after it
 pub founding-stands : (e : Entry) (s : Standing) → IsFounding e.what → StandsAfter [] e s

@@ -1,11 +1,12 @@
 //! Plays the scripts of standard input on farms in memory, and prints what the history of each tells of the flake
 //! rates of its tests. A case is some lines of commands in JSON, after a line that names it, and before an empty line.
-//! The file `stdout` has what is wanted, which was worked out by hand.
+//! Among them may be two words for entries that no command adds: `carry N`, an order of a farm before this one for the
+//! commit whose number is N, and `close`. The file `stdout` has what is wanted, which was worked out by hand.
 #![tactic(auto)]
 
 use farm_core::{Farm, Prepared};
-use farm_entry::Settings;
-use farm_types::Moment;
+use farm_entry::{Entry, Settings, What};
+use farm_types::{CommitId, Moment};
 use farm_wire::line_of;
 use rates_report::rates_text;
 use std::alloc::Global;
@@ -21,8 +22,26 @@ fn founded(alloc: Global) -> Option<Farm> {
     Farm::found(alloc, settings, start).ok()
 }
 
-// Answers a line, and says whether it was a command that isn't refused.
+// The entry that a line adds without a command.
+fn unasked(line: &str) -> Option<What> {
+    if line == "close" {
+        return Some(What::Closed);
+    }
+    let number = line.strip_prefix("carry ")?;
+    let mut bytes = [0; 20];
+    bytes[19] = number.parse::<u8>().ok()?;
+    let commit = CommitId::of(bytes);
+    Some(What::Carried { commit, day: 1 })
+}
+
+// Answers a line, and says whether it was a command that isn't refused, or an entry that may come next.
 fn answer(alloc: Global, farm: &mut Farm, line: &str) -> bool {
+    if let Some(what) = unasked(line) {
+        return match Moment::of(START_MS) {
+            Ok(at) => farm.admit(Entry { at, what }).is_ok(),
+            Err(_) => false,
+        };
+    }
     let Ok((at, command)) = line_of(alloc, line.as_bytes()) else {
         return false;
     };

@@ -3,9 +3,11 @@ use Rattle.std.specs.Prelude.{ℕ, List, map, AllPairs, ◌≢◌}
 use Rattle.farm_rules.specs.Orders.{Ordered}
 use Rattle.farm_types.specs.declared.commit_id.CommitId.{CommitId}
 
--- the orders, the oldest first, and how many more can be added without memory
+-- The orders, the oldest first; how many of them were given here, which are the last ones, and numbered from 1; and how
+-- many more can be added without memory. The orders before those given were carried over
 pub record Book : Type 0 where
   pub orders : List Ordered
+  pub given : ℕ
   pub room : ℕ
 
 -- the order to revert a commit, that counts on a day

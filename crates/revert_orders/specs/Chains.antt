@@ -43,13 +43,14 @@ pub record IsLinked (heads : List ℕ) (items : List Item) : Type 0 where
 abbrev pub orders_in : List Item → List Ordered
 orders_in items = map (λ item. ordered item.commit item.day) items
 
--- what holds of the table
-pub record IsTable (heads : List ℕ) (items : List Item) (capacity : ℕ) : Type 0 where
+-- what holds of the table, where so many of its items were given here
+pub record IsTable (heads : List ℕ) (items : List Item) (given capacity : ℕ) : Type 0 where
   pub size : 0 < capacity → 0 < length heads
   pub fits : length items ≤ capacity
   pub linked : IsLinked heads items
   pub apart : IsOnePerCommit (orders_in items)
   pub few : length items < 2 ^ 32
+  pub given_here : given ≤ length items
 
 -- a table of the same orders with so many buckets, and room for as many items
 pub record IsGrown (old : List Item) (size : ℕ) (heads : List ℕ) (items : List Item) (capacity : ℕ) : Type 0 where

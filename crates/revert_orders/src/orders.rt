@@ -1,15 +1,15 @@
-ghost use Rattle.std.specs.Prelude.{◌≡◌, ◌≤◌, ◌<◌, ◌+◌, ◌^◌, ◌↔◌, length, map, false, None, Some, [], ◌∷◌, ◌++◌, IfSome, IfNone, IfOk, IfErr, OnOk, IsSome};
+ghost use Rattle.std.specs.Prelude.{◌≡◌, ◌≤◌, ◌<◌, ◌+◌, ◌-◌, ◌^◌, ◌↔◌, length, map, false, None, Some, [], ◌∷◌, ◌++◌, IfSome, IfNone, IfOk, IfErr, OnOk, IsSome};
 ghost use Rattle.farm_rules.specs.Orders.{candidates, earliest, has_order, next_draft, orders_of};
 ghost use Rattle.revert_orders.specs.Earlier.{earlier_of};
 
 use crate::chains::{Item, grown, is_there, link, unlink_last};
-use farm_rules::{Candidate, Draft, NoOrder};
+use farm_rules::{Candidate, Draft, NoOrder, OrderedCommit};
 use farm_types::{CommitId, Memory};
 use std::alloc::Global;
 use std::marker::Model;
 
-/// An order that stood until it was taken back: its number, counted from 1, its commit, and its day, in days since
-/// 1970-01-01.
+/// An order that stood until it was taken back: its number, counted from 1, or 0 where it was carried over; its commit,
+/// and its day, in days since 1970-01-01.
 #[derive(Clone, Copy, Debug, PartialEq, Eq)]
 pub struct RevertOrder {
     pub order: u32,
@@ -17,12 +17,13 @@ pub struct RevertOrder {
     pub day: u32,
 }
 
-/// The revert orders that stand, numbered from 1 in the order in which they were given. No commit has two, and there
-/// are fewer than 2^32.
+/// The revert orders that stand: first those that were carried over from farms before this one, and then those that it
+/// gave, numbered from 1 in their order. No commit has two, and there are fewer than 2^32.
 #[derive(Debug, Drop)]
 pub struct Orders {
     heads: Vec<usize>,
     items: Vec<Item>,
+    given: u32,
 }
 
 impl Model for Orders {
@@ -36,10 +37,12 @@ impl Model for Orders {
 
     ghost view = { λ orders. record {
       orders = orders_in orders.items.items;
+      given = orders.given;
       room = vec_capacity orders.items - length orders.items.items;
     } };
 
-    ghost invariant = { λ orders. IsTable orders.heads.items orders.items.items (vec_capacity orders.items) };
+    ghost invariant = { λ orders.
+        IsTable orders.heads.items orders.items.items orders.given (vec_capacity orders.items) };
 }
 
 impl Orders {
@@ -47,11 +50,13 @@ impl Orders {
 
     /// No orders, which takes no memory.
     pub fn start(alloc: Global) -> Orders
-        ensures { result.orders ≡ [] }
+        ensures none { result.orders ≡ [] }
+        ensures none_given { result.given ≡ 0 }
     {
         Orders {
             heads: Vec::new(alloc),
             items: Vec::new(alloc),
+            given: 0,
         }
     }
 
@@ -63,6 +68,14 @@ impl Orders {
         self.items.len() as u32
     }
 
+    /// How many of them were given here, and not carried over.
+    pub fn given(&self) -> u32
+        ensures given { result ≡ self.now.given }
+        ensures within { result ≤ length self.now.orders }
+    {
+        self.given
+    }
+
     /// Whether a commit has an order.
     pub fn has_order(&self, commit: CommitId) -> bool
         ensures { result ≡ has_order self.now.orders commit }
@@ -72,10 +85,10 @@ impl Orders {
 
     /// The next order: of the candidates whose commit has no order it is for the one with the smallest search number,
     /// on a tie for the first of them. The candidates may stand in any order. `limit` is how many orders a day may
-    /// have. Nothing is added, and no memory is taken.
+    /// have, those carried over among them. Nothing is added, and no memory is taken.
     pub fn next(&self, confirmed: &[Candidate], day: u32, limit: u32) -> Result<Draft, NoOrder>
-        requires { length self.now.orders + 1 < 2 ^ 32 }
-        ensures next { result ≡ next_draft confirmed.now self.now.orders day limit }
+        requires { self.now.given + 1 < 2 ^ 32 }
+        ensures next { result ≡ next_draft confirmed.now self.now.orders self.now.given day limit }
         ensures free { IfOk result (λ draft. has_order self.now.orders draft.commit ≡ false) }
     {
         let Some(chosen) = self.earliest(confirmed) else {
@@ -86,7 +99,7 @@ impl Orders {
             return Err(NoOrder::DailyLimit { day, count });
         }
         Ok(Draft {
-            order: self.len() + 1,
+            order: self.given + 1,
             commit: chosen.commit,
             search: chosen.search,
             day,
@@ -96,6 +109,7 @@ impl Orders {
     /// Makes room for so many more orders. Where it grows it at least doubles, and without memory nothing changes.
     pub fn reserve(&mut self, more: usize) -> Result<(), Memory>
         ensures orders { self.new.orders ≡ self.old.orders }
+        ensures given { self.new.given ≡ self.old.given }
         ensures ok { OnOk result (more ≤ self.new.room) }
         ensures room { self.old.room ≤ self.new.room }
     {
@@ -110,22 +124,44 @@ impl Orders {
         Ok(())
     }
 
-    /// Adds an order, which takes no memory.
+    /// Adds an order that was carried over, before any is given. It takes no memory.
+    pub fn carry(&mut self, carried: OrderedCommit)
+        requires room { 1 ≤ self.old.room }
+        requires few { length self.old.orders + 1 < 2 ^ 32 }
+        requires none_given { self.old.given ≡ 0 }
+        requires free { has_order self.old.orders carried.commit ≡ false }
+        ensures added { self.new.orders ≡ self.old.orders ++ carried ∷ [] }
+        ensures none_given { self.new.given ≡ 0 }
+        ensures room { self.new.room + 1 ≡ self.old.room }
+    {
+        link(
+            &mut self.heads,
+            &mut self.items,
+            carried.commit,
+            carried.day,
+        );
+    }
+
+    /// Adds an order that is given, which takes no memory.
     pub fn add(&mut self, draft: Draft)
         requires room { 1 ≤ self.old.room }
-        requires number { draft.order ≡ length self.old.orders + 1 }
+        requires few { length self.old.orders + 1 < 2 ^ 32 }
+        requires number { draft.order ≡ self.old.given + 1 }
         requires free { has_order self.old.orders draft.commit ≡ false }
         ensures added { self.new.orders ≡ self.old.orders ++ ordered draft.commit draft.day ∷ [] }
+        ensures given { self.new.given ≡ self.old.given + 1 }
         ensures room { self.new.room + 1 ≡ self.old.room }
     {
         link(&mut self.heads, &mut self.items, draft.commit, draft.day);
+        self.given += 1;
     }
 
     /// Takes the last order back, where one stands. Its room is free then, so that an order can be added in its place
     /// without memory.
     pub fn take_last(&mut self) -> Option<RevertOrder>
         ensures taken { IfSome result (λ last. self.old.orders ≡ self.new.orders ++ ordered last.commit last.day ∷ []) }
-        ensures number { IfSome result (λ last. last.order ≡ length self.old.orders) }
+        ensures number { IfSome result (λ last. last.order ≡ self.old.given) }
+        ensures given { IfSome result (λ last. self.new.given ≡ self.old.given - 1) }
         ensures found { IsSome result ↔ (0 < length self.old.orders) }
         ensures none { IfNone result (self.new ≡ self.old) }
         ensures room { IfSome result (λ last. self.new.room ≡ self.old.room + 1) }
@@ -133,7 +169,8 @@ impl Orders {
         if self.items.is_empty() {
             return None;
         }
-        let order = self.len();
+        let order = self.given;
+        self.given = order.saturating_sub(1);
         let last = unlink_last(&mut self.heads, &mut self.items);
         Some(RevertOrder {
             order,

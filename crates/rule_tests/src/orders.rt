@@ -1,10 +1,10 @@
 //! Revert orders.
 
-ghost use Rattle.std.specs.Prelude.{◌≡◌, ◌≤◌, ◌+◌, length, false};
+ghost use Rattle.std.specs.Prelude.{◌≡◌, ◌≤◌, ◌<◌, ◌+◌, ◌^◌, length, false};
 ghost use Rattle.farm_rules.specs.Orders.{has_order};
 
 use crate::texts::{id, number_of, position_of, word};
-use farm_rules::{Candidate, Draft, NoOrder};
+use farm_rules::{Candidate, Draft, NoOrder, OrderedCommit};
 use farm_types::Memory;
 use revert_orders::{Orders, RevertOrder};
 use std::alloc::Global;
@@ -28,7 +28,7 @@ fn confirmed(alloc: Global, text: &str) -> Result<Vec<Candidate>, Memory> {
 
 // The next order, of orders that are few.
 fn ask(orders: &Orders, confirmed: &[Candidate], day: u32, limit: u32) -> Result<Draft, NoOrder> {
-    if orders.len() == u32::MAX {
+    if orders.given() == u32::MAX {
         return Err(NoOrder::NoRevert);
     }
     orders.next(confirmed, day, limit)
@@ -43,6 +43,9 @@ fn give(
 ) -> Result<Result<Draft, NoOrder>, Memory> {
     orders.reserve(1)?;
     if orders.len() == u32::MAX {
+        return Ok(Err(NoOrder::NoRevert));
+    }
+    if orders.given() == u32::MAX {
         return Ok(Err(NoOrder::NoRevert));
     }
     let next = orders.next(confirmed, day, limit);
@@ -70,10 +73,27 @@ fn play_next(
     }
 }
 
+// Adds an order that was carried over, where none was given yet and its commit has none. Whether it was added.
+fn carry(orders: &mut Orders, carried: OrderedCommit) -> Result<bool, Memory> {
+    orders.reserve(1)?;
+    if orders.len() == u32::MAX {
+        return Ok(false);
+    }
+    if orders.given() != 0 {
+        return Ok(false);
+    }
+    if orders.has_order(carried.commit) {
+        return Ok(false);
+    }
+    orders.carry(carried);
+    Ok(true)
+}
+
 // What add does, take_last undoes, and the room is there again.
 fn add_and_take(orders: &mut Orders, draft: Draft) -> Option<RevertOrder>
     requires room { 1 ≤ orders.old.room }
-    requires number { draft.order ≡ length orders.old.orders + 1 }
+    requires few { length orders.old.orders + 1 < 2 ^ 32 }
+    requires number { draft.order ≡ orders.old.given + 1 }
     requires free { has_order orders.old.orders draft.commit ≡ false }
     ensures orders { orders.new.orders ≡ orders.old.orders }
     ensures room { orders.new.room ≡ orders.old.room }
@@ -94,6 +114,9 @@ fn add_first_and_take(orders: &mut Orders, commit: u16, day: u32) -> Option<Reve
         day,
     };
     if orders.len() != 0 {
+        return None;
+    }
+    if orders.given() != 0 {
         return None;
     }
     if orders.has_order(draft.commit) {
@@ -156,6 +179,16 @@ fn print_refusals(rt: &impl Print) -> io::Result<()> {
     )
 }
 
+// Carries an order for a commit and a day over.
+fn print_carried(rt: &impl Print, orders: &mut Orders, text: &str) -> io::Result<()> {
+    let (commit, day) = word(text);
+    let carried = OrderedCommit {
+        commit: id(position_of(commit)),
+        day: number_of(day),
+    };
+    println!(rt; "{:?}", carry(orders, carried))
+}
+
 /// Plays a line over the orders of its case.
 pub(crate) fn play_orders(
     rt: &impl Print,
@@ -168,7 +201,9 @@ pub(crate) fn play_orders(
         "give" | "ask" => play_next(rt, alloc, orders, name, rest),
         "take" => println!(rt; "{:?}", orders.take_last()),
         "has" => println!(rt; "{}", orders.has_order(id(position_of(rest)))),
+        "carry" => print_carried(rt, orders, rest),
         "count" => println!(rt; "{}", orders.len()),
+        "given" => println!(rt; "{}", orders.given()),
         "add_and_take_twice" => print_taken_back(rt, orders),
         "refusals" => print_refusals(rt),
         "give_many" => print_many(rt, orders, position_of(rest)),

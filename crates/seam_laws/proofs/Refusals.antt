@@ -6,12 +6,12 @@ use Rattle.json.proofs.Printed.Utf8.{IsUtf8-are_ascii}
 use Rattle.serde_json.specs.Data.{Data}
 use Rattle.serde_json.specs.Written.{compact_text}
 use Rattle.farm_entry.specs.declared.answer.Answer.TheVariants.{Refused}
-use Rattle.farm_entry.specs.declared.refusal.Refusal.TheVariants.{NoRun}
+use Rattle.farm_entry.specs.declared.refusal.Refusal.TheVariants.{Closed, NoRun}
 use Rattle.farm_wire.specs.Answers.{answer_text}
 use Rattle.farm_wire.specs.Members.{with_member}
 use Rattle.farm_wire.specs.Reading.{object_in}
 use Rattle.farm_wire.specs.Refusals.{refusal_data}
-use Rattle.worker_wire.specs.Answers.{object_of, refuses_run, tells_no_run, tells_refusal}
+use Rattle.worker_wire.specs.Answers.{object_of, refuses_closed, refuses_run, tells_closed, tells_closing, tells_no_run, tells_refusal}
 use Rattle.worker_wire.specs.declared.answer.AnswerFault.TheVariants.{Shape}
 use Rattle.seam_laws.proofs.JsonTexts.{IsSent, object_in-compact_text}
 
@@ -27,3 +27,19 @@ no_run-told =
     let name = IsUtf8-are_ascii (codes "refused") refl in
     let sent : IsSent d = ((name, IsUtf8-are_ascii (codes "NoRun") refl, tt), refl) in
     ap tells_refusal (object_of-written (compact_text d) d (object_in-compact_text d refl sent (omega arith)))
+
+pub closed-told : tells_no_run (answer_text (Refused Closed)) ≡ true
+unfolding tells_no_run refuses_run refusal_data with_member
+closed-told =
+    let d : Data = refusal_data Closed in
+    let name = IsUtf8-are_ascii (codes "refused") refl in
+    let sent : IsSent d = ((name, IsUtf8-are_ascii (codes "Closed") refl, tt), refl) in
+    ap tells_refusal (object_of-written (compact_text d) d (object_in-compact_text d refl sent (omega arith)))
+
+pub closed-closes : tells_closed (answer_text (Refused Closed)) ≡ true
+unfolding tells_closed refuses_closed refusal_data with_member
+closed-closes =
+    let d : Data = refusal_data Closed in
+    let name = IsUtf8-are_ascii (codes "refused") refl in
+    let sent : IsSent d = ((name, IsUtf8-are_ascii (codes "Closed") refl, tt), refl) in
+    ap tells_closing (object_of-written (compact_text d) d (object_in-compact_text d refl sent (omega arith)))

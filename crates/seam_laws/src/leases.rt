@@ -2,11 +2,11 @@
 //! law.
 ghost use Rattle.std.specs.Prelude.{◌≡◌, Ok, List, ℕ, true};
 ghost use Rattle.farm_entry.specs.declared.answer.Answer.TheVariants.{Done, Refused};
-ghost use Rattle.farm_entry.specs.declared.refusal.Refusal.TheVariants.{NoRun};
+ghost use Rattle.farm_entry.specs.declared.refusal.Refusal.TheVariants.{Closed, NoRun};
 ghost use Rattle.farm_entry.specs.declared.reply.Reply.TheVariants.{Leased};
 ghost use Rattle.farm_wire.specs.Answers.{answer_text};
 ghost use Rattle.seam_laws.specs.Leases.{IsLease};
-ghost use Rattle.worker_wire.specs.Answers.{lease_reading, tells_no_run};
+ghost use Rattle.worker_wire.specs.Answers.{lease_reading, tells_closed, tells_no_run};
 
 use farm_types::{CommitId, Stage};
 
@@ -18,7 +18,10 @@ pub fn leases_are_read_as_leases()
         ≡ Ok (record { run = run; test = test; commit = commit }) }
 {}
 
-/// What a farm writes where it has no run to hand out is read by a worker as that.
+/// What a farm writes where it has no run to hand out is read by a worker as that, where none is due and where the farm
+/// is closed. That a closed farm takes no report is read as that.
 pub fn no_run_is_read_as_no_run()
-    ensures { tells_no_run (answer_text (Refused NoRun)) ≡ true }
+    ensures none_due { tells_no_run (answer_text (Refused NoRun)) ≡ true }
+    ensures closed { tells_no_run (answer_text (Refused Closed)) ≡ true }
+    ensures closed_to_reports { tells_closed (answer_text (Refused Closed)) ≡ true }
 {}

@@ -21,7 +21,7 @@ use Rattle.farm_entry.specs.Standing.{at_bar, is_searching, standing}
 use Rattle.farm_entry.specs.declared.entry.Entry.{Entry}
 use Rattle.farm_entry.specs.declared.entry.Fate.TheVariants.{Counted, Late, Over}
 use Rattle.farm_entry.specs.declared.entry.What.{What}
-use Rattle.farm_entry.specs.declared.entry.What.TheVariants.{Founded, Opened, Leased, Reported, Skipped, Cancelled, Ordered}
+use Rattle.farm_entry.specs.declared.entry.What.TheVariants.{Founded, Opened, Leased, Reported, Skipped, Cancelled, Ordered, Carried, Closed}
 use Rattle.farm_entry.specs.declared.lease.LeasedRun.{LeasedRun}
 use Rattle.farm_entry.specs.declared.lease.ReportedRun.{ReportedRun}
 use Rattle.farm_entry.specs.declared.opening.Opening.{Opening}
@@ -249,6 +249,8 @@ no-report s (Leased k w n q t p d) h = refl
 no-report s (Reported n v f) h = absurd (true≢false (sym h))
 no-report s (Skipped n f) h = refl
 no-report s (Ordered k a n c q d) h = refl
+no-report s (Carried c d) h = refl
+no-report s Closed h = refl
 
 cancels-any : (s : ℕ) (x : Option ℕ) → list_any (λ (n : ℕ). n == s) (cons_option x []) ≡ is_number s x
 cancels-any s None = refl

@@ -15,7 +15,7 @@ use Rattle.farm_entry.specs.Setup.{commit_of}
 use Rattle.farm_entry.specs.Standing.{is_active, is_confirmed, standing}
 use Rattle.farm_entry.specs.declared.entry.Entry.{Entry}
 use Rattle.farm_entry.specs.declared.entry.What.{What}
-use Rattle.farm_entry.specs.declared.entry.What.TheVariants.{Founded, Opened, Leased, Reported, Skipped, Cancelled, Ordered}
+use Rattle.farm_entry.specs.declared.entry.What.TheVariants.{Founded, Opened, Leased, Reported, Skipped, Cancelled, Ordered, Carried, Closed}
 use Rattle.farm_entry.specs.declared.lease.LeasedRun.{LeasedRun}
 use Rattle.farm_entry.specs.declared.opening.Opening.{Opening}
 use Rattle.farm_entry.specs.declared.standing.Standing.{Standing}
@@ -233,6 +233,8 @@ about-cases H (Founded settings) s = inr (λ h. h)
 about-cases H (Opened o) s = inr (λ h. h)
 about-cases H (Leased k w q u p d y) s = inr (λ h. h)
 about-cases H (Ordered k a n c q d) s = inr (λ h. h)
+about-cases H (Carried c d) s = inr (λ h. h)
+about-cases H Closed s = inr (λ h. h)
 
 -- an entry that makes a search confirmed is about it
 confirming-about : (H : List Entry) (e : Entry) (o : Opening) (culprit : ℕ) → IsLegal H → Stepped H e.at e.what →

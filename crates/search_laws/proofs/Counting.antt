@@ -8,7 +8,7 @@ use Rattle.farm_entry.specs.Pages.{searches_that, totals}
 use Rattle.farm_entry.specs.Standing.{standing}
 use Rattle.farm_entry.specs.declared.entry.Entry.{Entry}
 use Rattle.farm_entry.specs.declared.entry.What.{What}
-use Rattle.farm_entry.specs.declared.entry.What.TheVariants.{Founded, Opened, Leased, Reported, Skipped, Cancelled, Ordered}
+use Rattle.farm_entry.specs.declared.entry.What.TheVariants.{Founded, Opened, Leased, Reported, Skipped, Cancelled, Ordered, Carried, Closed}
 use Rattle.farm_entry.specs.declared.lease.LeasedRun.{LeasedRun}
 use Rattle.farm_entry.specs.declared.lease.ReportedRun.{ReportedRun}
 use Rattle.farm_entry.specs.declared.opening.Opening.{Opening}
@@ -128,6 +128,8 @@ about-one H (Founded settings) s t a b = absurd a
 about-one H (Opened o) s t a b = absurd a
 about-one H (Leased k w q u p d y) s t a b = absurd a
 about-one H (Ordered k a n c q d) s t x y = absurd x
+about-one H (Carried c d) s t x y = absurd x
+about-one H Closed s t x y = absurd x
 
 -- and opens none
 pub about-opens_none : (H : List Entry) (what : What) (s : ℕ) → IsAbout H what s → opening_in what ≡ None
@@ -138,6 +140,8 @@ about-opens_none H (Founded settings) s a = absurd a
 about-opens_none H (Opened o) s a = absurd a
 about-opens_none H (Leased k w q u p d y) s a = absurd a
 about-opens_none H (Ordered k a n c q d) s x = absurd x
+about-opens_none H (Carried c d) s x = absurd x
+about-opens_none H Closed s x = absurd x
 
 pub one-changes : (H : List Entry) (e : Entry) (o : Opening) (test : Standing → Bool) → IsLegal H →
     Stepped H e.at e.what → Contains (openings H) o →

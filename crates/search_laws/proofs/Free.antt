@@ -11,7 +11,7 @@ use Rattle.farm_entry.specs.History.{has_key, is_key, key_in, place_of_key}
 use Rattle.farm_entry.specs.Legal.{IsFounding, IsLegal}
 use Rattle.farm_entry.specs.declared.entry.Entry.{Entry}
 use Rattle.farm_entry.specs.declared.entry.What.{What}
-use Rattle.farm_entry.specs.declared.entry.What.TheVariants.{Founded, Opened, Leased, Reported, Skipped, Cancelled, Ordered}
+use Rattle.farm_entry.specs.declared.entry.What.TheVariants.{Founded, Opened, Leased, Reported, Skipped, Cancelled, Ordered, Carried, Closed}
 
 -- Of fewer numbers than n some number below n is not one.
 
@@ -99,6 +99,8 @@ founded-number (Reported r v _) ns h = absurd h
 founded-number (Skipped r _) ns h = absurd h
 founded-number (Cancelled k q) ns h = absurd h
 founded-number (Ordered k a n c q d) ns h = absurd h
+founded-number (Carried c d) ns h = absurd h
+founded-number Closed ns h = absurd h
 
 -- a legal history has more entries than keys, as its founding has none
 fewer-keys : (H : List Entry) → IsLegal H → length (numbers H) < length H

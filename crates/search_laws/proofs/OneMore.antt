@@ -16,7 +16,7 @@ use Rattle.farm_entry.specs.Setup.{setup_of}
 use Rattle.farm_entry.specs.Standing.{standing, standing_of_reached}
 use Rattle.farm_entry.specs.declared.entry.Entry.{Entry}
 use Rattle.farm_entry.specs.declared.entry.What.{What}
-use Rattle.farm_entry.specs.declared.entry.What.TheVariants.{Founded, Opened, Leased, Reported, Skipped, Cancelled, Ordered}
+use Rattle.farm_entry.specs.declared.entry.What.TheVariants.{Founded, Opened, Leased, Reported, Skipped, Cancelled, Ordered, Carried, Closed}
 use Rattle.farm_entry.specs.declared.lease.LeasedRun.{LeasedRun}
 use Rattle.farm_entry.specs.declared.lease.ReportedRun.{ReportedRun}
 use Rattle.farm_entry.specs.declared.lease.SkippedRun.{SkippedRun}
@@ -157,6 +157,8 @@ not_about-report H (Opened o) s other r l is known = absurd (none-some r is)
 not_about-report H (Leased k w q t p d x) s other r l is known = absurd (none-some r is)
 not_about-report H (Cancelled k q) s other r l is known = absurd (none-some r is)
 not_about-report H (Ordered k a n c q d) s other r l is known = absurd (none-some r is)
+not_about-report H (Carried c d) s other r l is known = absurd (none-some r is)
+not_about-report H Closed s other r l is known = absurd (none-some r is)
 
 abbrev run_of_skip : Option SkippedRun → ℕ
 run_of_skip None = 0
@@ -172,6 +174,8 @@ not_about-skip H (Leased k w q t p d x) s other r l is known = absurd (none-some
 not_about-skip H (Reported run verdict _) s other r l is known = absurd (none-some r is)
 not_about-skip H (Cancelled k q) s other r l is known = absurd (none-some r is)
 not_about-skip H (Ordered k a n c q d) s other r l is known = absurd (none-some r is)
+not_about-skip H (Carried c d) s other r l is known = absurd (none-some r is)
+not_about-skip H Closed s other r l is known = absurd (none-some r is)
 
 pub not_about-cancel : (H : List Entry) (what : What) (s : ℕ) → (IsAbout H what s → ⊥) → (x : ℕ) →
     cancelled_in what ≡ Some x → x == s ≡ false
@@ -184,6 +188,8 @@ not_about-cancel H (Leased k w q t p d y) s other x is = absurd (none-some x is)
 not_about-cancel H (Reported run verdict _) s other x is = absurd (none-some x is)
 not_about-cancel H (Skipped run _) s other x is = absurd (none-some x is)
 not_about-cancel H (Ordered k a n c q d) s other x is = absurd (none-some x is)
+not_about-cancel H (Carried c d) s other x is = absurd (none-some x is)
+not_about-cancel H Closed s other x is = absurd (none-some x is)
 
 pub runs-same : (H : List Entry) (e : Entry) (s : ℕ) (stage : Stage) → IsLegal H → Stepped H e.at e.what →
     (IsAbout H e.what s → ⊥) →

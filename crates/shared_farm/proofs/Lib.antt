@@ -1,3 +1,4 @@
+pub mod ByCommands
 pub mod Crossing
 pub mod Handing
 pub mod Members

@@ -1,7 +1,9 @@
 -- What became of a store by the turns at its farm, and what a crash left meanwhile.
-use Rattle.std.specs.Prelude.{◌≡◌, ◌⊎◌, ◌≤◌, ◌++◌, Bool, true, ℕ, List, [], ◌∷◌}
+use Rattle.std.specs.Prelude.{◌≡◌, ◌⊎◌, ◌≤◌, ◌++◌, Bool, true, false, ℕ, List, [], ◌∷◌}
 use Rattle.farm_disk.specs.Images.{DiskState, LeavesOnly}
 use Rattle.farm_disk.specs.declared.disk.Disk as disk
+use Rattle.farm_entry.specs.History.{is_closed}
+use Rattle.farm_entry.specs.Orders.{carried}
 use Rattle.farm_entry.specs.declared.entry.Entry.{Entry}
 use Rattle.farm_store.specs.Bytes.{StandsFor}
 use Rattle.farm_store.specs.State.{IsStored, IsWithOrWithout, StoreState}
@@ -47,17 +49,29 @@ abbrev pub AreTurns : (first : Rest) → List Rest → (last : Rest) → Type 0
 AreTurns first [] last = last ≡ first
 AreTurns first (rest ∷ earlier) last = AreTurns first earlier rest × TurnLeaves rest last
 
--- what a farm began with: whether its disk told what it holds, and its store at rest
-pub record Begun : Type 0 where
-  pub tells : Bool
-  pub store : Rest
+-- every entry of a history is its founding or one that a command adds: it wasn't closed, and carried no orders over
+pub record IsByCommands (H : List Entry) : Type 0 where
+  pub unclosed : is_closed H ≡ false
+  pub none_carried : carried H ≡ []
 
--- a store came from that at the beginning by turns
-pub record CameBy {D : Type 0} (meant : disk.Ghosts D) (begun : Begun) (store : StoreState D) : Type 0 where
-  pub same : meant.tells store.disk ≡ begun.tells
+-- What is asked of a farm at its end, where that is picked: that commands alone added to it; or what it began with,
+-- whether its disk told what it holds, and its store at rest.
+pub data Begun : Type 0 where
+  commanded : Begun
+  rested : (tells : Bool) → Rest → Begun
+
+-- a store came from a first rest by turns
+pub record CameByTurns {D : Type 0} (meant : disk.Ghosts D) (tells : Bool) (first : Rest) (store : StoreState D)
+    : Type 0 where
+  pub same : meant.tells store.disk ≡ tells
   pub turns : List Rest
-  pub turned : begun.tells ≡ true → AreTurns begun.store turns (rest_of meant store)
+  pub turned : tells ≡ true → AreTurns first turns (rest_of meant store)
+
+-- a store came from that at the beginning: by commands alone, with what is pending too, or by turns
+abbrev pub CameBy : {D : Type 0} → disk.Ghosts D → Begun → StoreState D → Type 0
+CameBy meant commanded store = IsByCommands (store.history ++ store.pending)
+CameBy meant (rested tells first) store = CameByTurns meant tells first store
 
 -- what a farm begins with that is shared now
 abbrev pub begun_of : {D : Type 0} → disk.Ghosts D → StoreState D → Begun
-begun_of meant store = record { tells = meant.tells store.disk; store = rest_of meant store }
+begun_of meant store = rested (meant.tells store.disk) (rest_of meant store)

@@ -2,8 +2,9 @@
 
 use std::marker::Brand;
 
-/// What a farm began with when it was shared, where its caller wants to know at the end what became of it turn by
-/// turn. The call that shares the farm picks it. Where none is picked, nothing is said of the turns together.
+/// What a farm began with when it was shared, where its caller wants to know at the end what became of it: turn by
+/// turn, or that commands alone added to it. The call that shares the farm picks it. Where none is picked, nothing is
+/// said of the turns together.
 pub trait Beginning {
     ghost use Rattle.std.specs.Prelude.{Option};
     ghost use Rattle.shared_farm.specs.Rests.{Begun};

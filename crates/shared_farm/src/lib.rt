@@ -16,7 +16,8 @@
 //!
 //! `SharedFarm::close` gives the store back: its history begins with all that the pass has seen, and its disk's count
 //! of faults is at least what the pass knew of it. Where the call that shares the farm picks its [`Beginning`], it is
-//! known too what became of the store turn by turn, and so what a crash leaves at each moment (`specs/Rests`).
+//! known too what became of the store turn by turn, and so what a crash leaves at each moment; or that commands alone
+//! added to it, so that it isn't closed (`specs/Rests`).
 //!
 //! The crate stands on `farm_store` for the farm, on `turn_lock` for turns and passes, on `job_table` for errands, on
 //! `farm_board` for the totals, and on `entry_codec` for log pages. Contracts see a shared farm as the name of its

@@ -8,7 +8,7 @@ use Rattle.farm_entry.specs.History.{cancelled_in, lease_of, opening_in, opening
 use Rattle.farm_entry.specs.Legal.{IsLegal}
 use Rattle.farm_entry.specs.declared.entry.Entry.{Entry}
 use Rattle.farm_entry.specs.declared.entry.What.{What}
-use Rattle.farm_entry.specs.declared.entry.What.TheVariants.{Founded, Opened, Leased, Reported, Skipped, Cancelled, Ordered}
+use Rattle.farm_entry.specs.declared.entry.What.TheVariants.{Founded, Opened, Leased, Reported, Skipped, Cancelled, Ordered, Carried, Closed}
 use Rattle.farm_entry.specs.declared.lease.LeasedRun.{LeasedRun}
 use Rattle.farm_entry.specs.declared.lease.ReportedRun.{ReportedRun}
 use Rattle.farm_entry.specs.declared.lease.SkippedRun.{SkippedRun}
@@ -71,6 +71,8 @@ about-told H (Opened o) run l s is known same = absurd (none-some run is)
 about-told H (Leased k w n q t p d) run l s is known same = absurd (none-some run is)
 about-told H (Cancelled k q) run l s is known same = absurd (none-some run is)
 about-told H (Ordered k a n c q d) run l s is known same = absurd (none-some run is)
+about-told H (Carried c d) run l s is known same = absurd (none-some run is)
+about-told H Closed run l s is known same = absurd (none-some run is)
 
 about-cancel : (H : List Entry) (w : What) (q s : ℕ) → cancelled_in w ≡ Some q → q ≡ s → IsAbout H w s
 about-cancel H (Cancelled k x) q s is same = let it : x ≡ q = cc in it ∙ same
@@ -80,6 +82,8 @@ about-cancel H (Leased k w n x t p d) q s is same = absurd (none-some q is)
 about-cancel H (Reported run v _) q s is same = absurd (none-some q is)
 about-cancel H (Skipped run _) q s is same = absurd (none-some q is)
 about-cancel H (Ordered k a n c x d) q s is same = absurd (none-some q is)
+about-cancel H (Carried c d) q s is same = absurd (none-some q is)
+about-cancel H Closed q s is same = absurd (none-some q is)
 
 -- an entry that neither reports a run, with a verdict or not, nor cancels a search
 about-none : (H : List Entry) (w : What) (s : ℕ) → told_in w ≡ None → cancelled_in w ≡ None → IsAbout H w s → ⊥
@@ -90,6 +94,8 @@ about-none H (Founded x) s none_told no_end about = about
 about-none H (Opened o) s none_told no_end about = about
 about-none H (Leased k w n x t p d) s none_told no_end about = about
 about-none H (Ordered k a n c x d) s none_told no_end about = about
+about-none H (Carried c d) s none_told no_end about = about
+about-none H Closed s none_told no_end about = about
 
 -- What appending an entry makes of all searches.
 

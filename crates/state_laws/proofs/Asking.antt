@@ -8,7 +8,7 @@ use Rattle.weight_exact.specs.declared.run.Run.{Run}
 use Rattle.weight_exact.specs.declared.run.Verdict.{Verdict}
 use Rattle.farm_entry.specs.Decision.{fate_of, run_with, skip_fate_of}
 use Rattle.farm_entry.specs.History.{counted_run, is_counted, lease_of, opening_numbered, openings, report_in, reports, reruns, run_of, runs, same_stage, skip_in}
-use Rattle.farm_entry.specs.Legal.{IsLegal}
+use Rattle.farm_entry.specs.Legal.{IsFounding, IsLegal}
 use Rattle.farm_entry.specs.Standing.{at_bar, standing}
 use Rattle.farm_entry.specs.declared.entry.Entry.{Entry}
 use Rattle.farm_entry.specs.declared.lease.LeasedRun.{LeasedRun}
@@ -19,7 +19,7 @@ use Rattle.farm_entry.specs.declared.opening.Opening.{Opening}
 use Rattle.farm_laws.proofs.Bounds.{entries-bounded}
 use Rattle.farm_laws.proofs.EntryParts.{reported-facts, skipped-facts}
 use Rattle.farm_laws.proofs.InRange.{lease-fits}
-use Rattle.farm_laws.proofs.Numbered.{lease-there}
+use Rattle.farm_laws.proofs.Numbered.{lease-there, no_report}
 use Rattle.farm_laws.proofs.RunSteps.{fate-here, skip_fate-here}
 use Rattle.farm_laws.proofs.Stepped.{Stepped}
 use Rattle.search_laws.proofs.Counting.{some-equal}
@@ -94,16 +94,23 @@ one-run s v true None = inl refl
 one-run s v true (Some l) = one-stage (l.search == s) l.stage (record { position = l.position; verdict = v })
 one-run s v false x = inl refl
 
+-- a founding reports nothing
+reported-behind : (f : Entry) (H : List Entry) → IsFounding f.what → reports (f ∷ H) ≡ reports H
+reported-behind f H founding = ap (λ (x : Option ReportedRun). cons_option x (reports H)) (no_report f.what founding)
+
 pub reports-few : (H : List Entry) (e : Entry) (s : ℕ) → IsLegal (H ++ e ∷ []) →
     length (runs H s) + length (reruns H s) < MAX_ENTRIES
-reports-few H e s legal =
+reports-few [] e s legal = omega arith
+reports-few (f ∷ K) e s legal =
+    let H : List Entry = f ∷ K in
     let counted_few : length (runs H s) + length (reruns H s) ≤ length (reports H) =
     both-le (counted_run H s Search) (counted_run H s Verify)
     (λ r. one-run s r.verdict (is_counted r.fate) (lease_of H r.run)) (reports H) in
-    let reports_few : length (reports H) + length (filter_map none_of H) ≤ length H =
-    both-le (λ (x : Entry). report_in x.what) none_of (λ x. inr refl) H in
-    let longer : length (H ++ e ∷ []) ≡ length H + 1 = length-append H (e ∷ []) in
-    omega (arith, counted_few, reports_few, longer, entries-bounded (H ++ e ∷ []) legal)
+    let reports_few : length (reports K) + length (filter_map none_of K) ≤ length K =
+    both-le (λ (x : Entry). report_in x.what) none_of (λ x. inr refl) K in
+    let behind : length (reports H) ≡ length (reports K) = ap length (reported-behind f K legal.0) in
+    let longer : length (H ++ e ∷ []) ≡ suc (length K) + 1 = length-append H (e ∷ []) in
+    omega (arith, counted_few, reports_few, behind, longer, entries-bounded (H ++ e ∷ []) legal)
 
 -- The fate of a report.
 

@@ -16,7 +16,7 @@ use Rattle.farm_entry.specs.declared.entry.Fate.TheVariants.{Counted, Late, Over
 use Rattle.farm_entry.specs.declared.entry.SkipFate.{SkipFate}
 use Rattle.farm_entry.specs.declared.entry.SkipFate.TheVariants as skip
 use Rattle.farm_entry.specs.declared.entry.What.{What}
-use Rattle.farm_entry.specs.declared.entry.What.TheVariants.{Founded, Opened, Leased, Reported, Skipped, Cancelled, Ordered}
+use Rattle.farm_entry.specs.declared.entry.What.TheVariants.{Founded, Opened, Leased, Reported, Skipped, Cancelled, Ordered, Carried, Closed}
 use Rattle.farm_entry.specs.declared.lease.LeasedRun.{LeasedRun}
 use Rattle.farm_entry.specs.declared.lease.ReportedRun.{ReportedRun}
 use Rattle.farm_entry.specs.declared.lease.SkippedRun.{SkippedRun}
@@ -56,6 +56,8 @@ report-not_cancelled (Leased k w n q t p d) r h = absurd (none-some r h)
 report-not_cancelled (Skipped n _) r h = absurd (none-some r h)
 report-not_cancelled (Cancelled k q) r h = absurd (none-some r h)
 report-not_cancelled (Ordered k a n c q d) r h = absurd (none-some r h)
+report-not_cancelled (Carried c d) r h = absurd (none-some r h)
+report-not_cancelled Closed r h = absurd (none-some r h)
 
 pub skip-not_cancelled : (w : What) (r : SkippedRun) → skip_in w ≡ Some r → cancelled_in w ≡ None
 skip-not_cancelled (Skipped n _) r h = refl
@@ -65,6 +67,8 @@ skip-not_cancelled (Leased k w n q t p d) r h = absurd (none-some r h)
 skip-not_cancelled (Reported n v _) r h = absurd (none-some r h)
 skip-not_cancelled (Cancelled k q) r h = absurd (none-some r h)
 skip-not_cancelled (Ordered k a n c q d) r h = absurd (none-some r h)
+skip-not_cancelled (Carried c d) r h = absurd (none-some r h)
+skip-not_cancelled Closed r h = absurd (none-some r h)
 
 pub cancelled-not_told : (w : What) (q : ℕ) → cancelled_in w ≡ Some q → told_in w ≡ None
 cancelled-not_told (Cancelled k x) q h = refl
@@ -74,6 +78,8 @@ cancelled-not_told (Leased k w n x t p d) q h = absurd (none-some q h)
 cancelled-not_told (Reported n v _) q h = absurd (none-some q h)
 cancelled-not_told (Skipped n _) q h = absurd (none-some q h)
 cancelled-not_told (Ordered k a n c x d) q h = absurd (none-some q h)
+cancelled-not_told (Carried c d) q h = absurd (none-some q h)
+cancelled-not_told Closed q h = absurd (none-some q h)
 
 pub report-not_opened : (w : What) (r : ReportedRun) → report_in w ≡ Some r → opening_in w ≡ None
 report-not_opened (Reported n v _) r h = refl
@@ -83,6 +89,8 @@ report-not_opened (Leased k w n q t p d) r h = absurd (none-some r h)
 report-not_opened (Skipped n _) r h = absurd (none-some r h)
 report-not_opened (Cancelled k q) r h = absurd (none-some r h)
 report-not_opened (Ordered k a n c q d) r h = absurd (none-some r h)
+report-not_opened (Carried c d) r h = absurd (none-some r h)
+report-not_opened Closed r h = absurd (none-some r h)
 
 pub skip-not_opened : (w : What) (r : SkippedRun) → skip_in w ≡ Some r → opening_in w ≡ None
 skip-not_opened (Skipped n _) r h = refl
@@ -92,6 +100,8 @@ skip-not_opened (Leased k w n q t p d) r h = absurd (none-some r h)
 skip-not_opened (Reported n v _) r h = absurd (none-some r h)
 skip-not_opened (Cancelled k q) r h = absurd (none-some r h)
 skip-not_opened (Ordered k a n c q d) r h = absurd (none-some r h)
+skip-not_opened (Carried c d) r h = absurd (none-some r h)
+skip-not_opened Closed r h = absurd (none-some r h)
 
 pub cancelled-not_opened : (w : What) (q : ℕ) → cancelled_in w ≡ Some q → opening_in w ≡ None
 cancelled-not_opened (Cancelled k x) q h = refl
@@ -101,6 +111,8 @@ cancelled-not_opened (Leased k w n x t p d) q h = absurd (none-some q h)
 cancelled-not_opened (Reported n v _) q h = absurd (none-some q h)
 cancelled-not_opened (Skipped n _) q h = absurd (none-some q h)
 cancelled-not_opened (Ordered k a n c x d) q h = absurd (none-some q h)
+cancelled-not_opened (Carried c d) q h = absurd (none-some q h)
+cancelled-not_opened Closed q h = absurd (none-some q h)
 
 pub opened-not_told : (w : What) (o : Opening) → opening_in w ≡ Some o → told_in w ≡ None
 opened-not_told (Opened x) o h = refl
@@ -110,6 +122,8 @@ opened-not_told (Reported n v _) o h = absurd (none-some o h)
 opened-not_told (Skipped n _) o h = absurd (none-some o h)
 opened-not_told (Cancelled k q) o h = absurd (none-some o h)
 opened-not_told (Ordered k a n c q d) o h = absurd (none-some o h)
+opened-not_told (Carried c d) o h = absurd (none-some o h)
+opened-not_told Closed o h = absurd (none-some o h)
 
 pub opened-not_cancelled : (w : What) (o : Opening) → opening_in w ≡ Some o → cancelled_in w ≡ None
 opened-not_cancelled (Opened x) o h = refl
@@ -119,6 +133,8 @@ opened-not_cancelled (Reported n v _) o h = absurd (none-some o h)
 opened-not_cancelled (Skipped n _) o h = absurd (none-some o h)
 opened-not_cancelled (Cancelled k q) o h = absurd (none-some o h)
 opened-not_cancelled (Ordered k a n c q d) o h = absurd (none-some o h)
+opened-not_cancelled (Carried c d) o h = absurd (none-some o h)
+opened-not_cancelled Closed o h = absurd (none-some o h)
 
 -- An entry that isn't about the search.
 
@@ -364,6 +380,8 @@ no-cancelled (Reported run v _) h = absurd h
 no-cancelled (Skipped run _) h = absurd h
 no-cancelled (Cancelled k q) h = absurd h
 no-cancelled (Ordered k a n c s d) h = absurd h
+no-cancelled (Carried c d) h = absurd h
+no-cancelled Closed h = absurd h
 
 cancellations-known : (H : List Entry) → IsLegal H → All (λ (s : ℕ). HasOpening H s) (cancellations H)
 cancellations-known =

@@ -13,7 +13,7 @@ use Rattle.farm_entry.specs.Legal.{IsLegal, ask_of}
 use Rattle.farm_entry.specs.Standing.{is_active, standing}
 use Rattle.farm_entry.specs.declared.entry.Entry.{Entry}
 use Rattle.farm_entry.specs.declared.entry.What.{What}
-use Rattle.farm_entry.specs.declared.entry.What.TheVariants.{Founded, Opened, Leased, Reported, Skipped, Cancelled, Ordered}
+use Rattle.farm_entry.specs.declared.entry.What.TheVariants.{Founded, Opened, Leased, Reported, Skipped, Cancelled, Ordered, Carried, Closed}
 use Rattle.farm_entry.specs.declared.lease.LeasedRun.{LeasedRun}
 use Rattle.farm_entry.specs.declared.opening.Opening.{Opening}
 use Rattle.farm_entry.proofs.Growing.{openings-grow}
@@ -80,6 +80,8 @@ opens-no_lease (Reported r v _) o h = refl
 opens-no_lease (Skipped r _) o h = refl
 opens-no_lease (Cancelled k q) o h = refl
 opens-no_lease (Ordered k a n c q d) o h = refl
+opens-no_lease (Carried c d) o h = refl
+opens-no_lease Closed o h = refl
 
 about-no_lease : (H : List Entry) (w : What) (s : ℕ) → IsAbout H w s → lease_in w ≡ None
 about-no_lease H (Reported run v _) s a = refl
@@ -89,6 +91,8 @@ about-no_lease H (Founded settings) s a = absurd a
 about-no_lease H (Opened o) s a = absurd a
 about-no_lease H (Leased k w q u p d y) s a = absurd a
 about-no_lease H (Ordered k a n c q d) s x = absurd x
+about-no_lease H (Carried c d) s x = absurd x
+about-no_lease H Closed s x = absurd x
 
 leases-no_opening : (w : What) (l : LeasedRun) → lease_in w ≡ Some l → opening_in w ≡ None
 leases-no_opening (Leased k w r q t p d) l h = refl
@@ -98,6 +102,8 @@ leases-no_opening (Reported r v _) l h = refl
 leases-no_opening (Skipped r _) l h = refl
 leases-no_opening (Cancelled k q) l h = refl
 leases-no_opening (Ordered k a n c q d) l h = refl
+leases-no_opening (Carried c d) l h = refl
+leases-no_opening Closed l h = refl
 
 abbrev IsStepTo : List Entry → Entry → Type 0
 IsStepTo H e = Stepped H e.at e.what

@@ -132,6 +132,23 @@ evidence-at (a ∷ b ∷ []) = taken_at refl refl refl
 evidence-at (a ∷ b ∷ c ∷ ws) =
     refused_at refl (ap (λ (b : Bool). b || false) (many 2 2 (length (a ∷ b ∷ c ∷ ws)) (omega arith)))
 
+close-at : (ws : List Text) → DecidedAt (codes "close") (sub 11) ws
+unfolding clap_on_literals
+close-at [] = refused_at refl refl
+close-at (a ∷ []) = taken_at refl refl refl
+close-at (a ∷ b ∷ ws) =
+    refused_at refl (ap (λ (b : Bool). b || false) (many 1 1 (length (a ∷ b ∷ ws)) (omega arith)))
+
+inherit-at : (ws : List Text) → DecidedAt (codes "inherit") (sub 12) ws
+unfolding clap_on_literals
+inherit-at [] = refused_at refl refl
+inherit-at (a ∷ []) = refused_at refl refl
+inherit-at (a ∷ b ∷ []) = refused_at refl refl
+inherit-at (a ∷ b ∷ c ∷ []) = refused_at refl refl
+inherit-at (a ∷ b ∷ c ∷ d ∷ []) = taken_at refl refl refl
+inherit-at (a ∷ b ∷ c ∷ d ∷ e ∷ ws) =
+    refused_at refl (ap (λ (b : Bool). b || false) (many 4 4 (length (a ∷ b ∷ c ∷ d ∷ e ∷ ws)) (omega arith)))
+
 -- from the command's words to all
 decided-at : (name : Text) (s : Shape) (ws : List Text) → Leads name s → is_plain name ≡ true → list_all is_plain ws ≡ true
     → DecidedAt name s ws → Decided (name ∷ ws)
@@ -195,6 +212,14 @@ evidence-leads : Leads (codes "evidence") (sub 10)
 unfolding clap_on_literals
 evidence-leads = record { stops = refl; faultless = refl; finds = refl }
 
+close-leads : Leads (codes "close") (sub 11)
+unfolding clap_on_literals
+close-leads = record { stops = refl; faultless = refl; finds = refl }
+
+inherit-leads : Leads (codes "inherit") (sub 12)
+unfolding clap_on_literals
+inherit-leads = record { stops = refl; faultless = refl; finds = refl }
+
 -- a fault of the first word is one of all
 first-fault : (k rest more : Kinds) → is_faultless k ≡ false → is_faultless (or_else (or_else k rest) more) ≡ false
 first-fault [] rest more fault = absurd (cc)
@@ -235,9 +260,39 @@ decided (w ∷ ws) plain =
     by_name (codes "drill") w ws (sub 8) drill-leads refl rest (drill-at ws) (λ not_drill.
     by_name (codes "follow") w ws (sub 9) follow-leads refl rest (follow-at ws) (λ not_follow.
     by_name (codes "evidence") w ws (sub 10) evidence-leads refl rest (evidence-at ws) (λ not_evidence.
+    by_name (codes "close") w ws (sub 11) close-leads refl rest (close-at ws) (λ not_close.
+    by_name (codes "inherit") w ws (sub 12) inherit-leads refl rest (inherit-at ws) (λ not_inherit.
     unnamed-refused w ws plain
-    (rw (not_judge, not_run, not_found, not_show, not_audit, not_serve, not_work, not_rates, not_drill, not_follow, not_evidence) refl)
-    (rw (not_judge, not_run, not_found, not_show, not_audit, not_serve, not_work, not_rates, not_drill, not_follow, not_evidence) refl))))))))))))
+    (rw (
+      not_judge,
+      not_run,
+      not_found,
+      not_show,
+      not_audit,
+      not_serve,
+      not_work,
+      not_rates,
+      not_drill,
+      not_follow,
+      not_evidence,
+      not_close,
+      not_inherit,
+    ) refl)
+    (rw (
+      not_judge,
+      not_run,
+      not_found,
+      not_show,
+      not_audit,
+      not_serve,
+      not_work,
+      not_rates,
+      not_drill,
+      not_follow,
+      not_evidence,
+      not_close,
+      not_inherit,
+    ) refl))))))))))))))
 
 -- where no fault came, what was read is what fits
 pub taken-fitting : (ws : List Text) → Decided ws → fault_of command_line ws ≡ []

@@ -94,9 +94,21 @@ evidence_ids = codes "journal" ∷ codes "search" ∷ []
 abbrev pub evidence_line : App
 evidence_line = with_subcommand follow_line (leaf (codes "evidence") evidence_ids).top
 
+abbrev pub close_ids : List Text
+close_ids = codes "journal" ∷ []
+
+abbrev pub close_line : App
+close_line = with_subcommand evidence_line (leaf (codes "close") close_ids).top
+
+abbrev pub inherit_ids : List Text
+inherit_ids = codes "journal" ∷ codes "lease_ms" ∷ codes "daily" ∷ codes "zone" ∷ []
+
+abbrev pub inherit_line : App
+inherit_line = with_subcommand close_line (leaf (codes "inherit") inherit_ids).top
+
 -- the whole command line
 abbrev pub command_line : App
-command_line = evidence_line
+command_line = inherit_line
 
 -- the name of a command and the words found under these names, where each was
 abbrev pub read_words : List Text → List Row → Option (List Text)
@@ -126,6 +138,8 @@ read_of name found =
     else if bytes_eq name (codes "drill") then read_named (codes "drill") drill_ids found
     else if bytes_eq name (codes "follow") then read_named (codes "follow") follow_ids found
     else if bytes_eq name (codes "evidence") then read_named (codes "evidence") evidence_ids found
+    else if bytes_eq name (codes "close") then read_named (codes "close") close_ids found
+    else if bytes_eq name (codes "inherit") then read_named (codes "inherit") inherit_ids found
     else None
 
 abbrev pub read_rows : Option (Text × List Row) → Option (List Text)

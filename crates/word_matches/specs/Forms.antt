@@ -34,6 +34,8 @@ rows =
     ∷ taking (codes "drill") 2
     ∷ taking (codes "follow") 3
     ∷ taking (codes "evidence") 2
+    ∷ taking (codes "close") 1
+    ∷ taking (codes "inherit") 4
     ∷ []
 
 -- the name of the row, and as many words as it takes
@@ -66,3 +68,6 @@ words_of (matched.Rates journal) = codes "rates" ∷ journal.now ∷ []
 words_of (matched.Drill searches workers) = codes "drill" ∷ searches.now ∷ workers.now ∷ []
 words_of (matched.Follow journal address rounds) = codes "follow" ∷ journal.now ∷ address.now ∷ rounds.now ∷ []
 words_of (matched.Evidence journal search) = codes "evidence" ∷ journal.now ∷ search.now ∷ []
+words_of (matched.Close journal) = codes "close" ∷ journal.now ∷ []
+words_of (matched.Inherit journal lease_ms daily zone) =
+    codes "inherit" ∷ journal.now ∷ lease_ms.now ∷ daily.now ∷ zone.now ∷ []

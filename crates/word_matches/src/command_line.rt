@@ -96,5 +96,12 @@ pub(crate) fn command_line<'a>(alloc: Global) -> Result<Command<'a>, AllocError>
     let line = with_leaf(alloc, line, "rates", &["journal"])?;
     let line = with_leaf(alloc, line, "drill", &["searches", "workers"])?;
     let line = with_leaf(alloc, line, "follow", &["journal", "address", "rounds"])?;
-    with_leaf(alloc, line, "evidence", &["journal", "search"])
+    let line = with_leaf(alloc, line, "evidence", &["journal", "search"])?;
+    let line = with_leaf(alloc, line, "close", &["journal"])?;
+    with_leaf(
+        alloc,
+        line,
+        "inherit",
+        &["journal", "lease_ms", "daily", "zone"],
+    )
 }

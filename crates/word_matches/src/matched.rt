@@ -80,4 +80,20 @@ pub enum Matched<'a> {
         /// The number of the search.
         search: &'a str,
     },
+    /// `close JOURNAL`.
+    Close {
+        /// The journal's path.
+        journal: &'a str,
+    },
+    /// `inherit JOURNAL LEASE_MS DAILY ZONE`.
+    Inherit {
+        /// The journal's path.
+        journal: &'a str,
+        /// How long a lease lasts, in milliseconds.
+        lease_ms: &'a str,
+        /// How many orders a day may have.
+        daily: &'a str,
+        /// How far the farm's zone lies east or west of UTC.
+        zone: &'a str,
+    },
 }

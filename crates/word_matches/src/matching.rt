@@ -3,7 +3,7 @@
 ghost use Rattle.std.specs.Prelude.{◌≡◌, ◌≢◌, [], IfOk, MatchOption, codes, map, option_map, string_bytes, true};
 ghost use Rattle.std.specs.List.{list_all};
 ghost use Rattle.clap.specs.Words.{fault_of, first_of, found_of, rows_of, subcommand_of, subcommand_rows_of};
-ghost use Rattle.word_matches.specs.CommandLine.{command_line, drill_ids, evidence_ids, follow_ids, found_ids, rates_ids, read_named, read_of, read_rows, read_run, serve_ids, work_ids};
+ghost use Rattle.word_matches.specs.CommandLine.{command_line, drill_ids, evidence_ids, follow_ids, found_ids, inherit_ids, rates_ids, read_named, read_of, read_rows, read_run, serve_ids, work_ids};
 ghost use Rattle.word_matches.specs.Forms.{fitting, is_plain, words_of};
 
 use crate::command_line::command_line;
@@ -98,6 +98,10 @@ fn read_command<'a>(name: &str, words: &ArgMatches<'a>) -> Option<Matched<'a>>
         "drill" => read_drill(words),
         "follow" => read_follow(words),
         "evidence" => read_evidence(words),
+        "close" => Some(Matched::Close {
+            journal: word(words, "journal")?,
+        }),
+        "inherit" => read_inherit(words),
         _ => None,
     }
 }
@@ -182,6 +186,18 @@ fn read_follow<'a>(words: &ArgMatches<'a>) -> Option<Matched<'a>>
         journal: word(words, "journal")?,
         address: word(words, "address")?,
         rounds: word(words, "rounds")?,
+    })
+}
+
+/// `inherit`.
+fn read_inherit<'a>(words: &ArgMatches<'a>) -> Option<Matched<'a>>
+    ensures { option_map words_of result ≡ read_named (codes "inherit") inherit_ids (rows_of (found_of words.now)) }
+{
+    Some(Matched::Inherit {
+        journal: word(words, "journal")?,
+        lease_ms: word(words, "lease_ms")?,
+        daily: word(words, "daily")?,
+        zone: word(words, "zone")?,
     })
 }
 

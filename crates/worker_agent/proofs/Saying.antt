@@ -23,12 +23,12 @@ use Rattle.worker_core.specs.declared.event.Event.TheVariants as event
 use Rattle.worker_io.specs.Runs.{Asked, asked}
 use Rattle.worker_io.specs.declared.runner.Ran as runner
 use Rattle.worker_io.specs.declared.runner.Ran.TheVariants as ran_is
-use Rattle.worker_wire.specs.Answers.{lease_reading, tells_no_run}
+use Rattle.worker_wire.specs.Answers.{lease_reading, tells_closed, tells_no_run}
 use Rattle.worker_wire.specs.Requests.{lease_request, report_request}
 use Rattle.worker_wire.specs.declared.answer.AnswerFault.{AnswerFault}
 use Rattle.worker_wire.specs.declared.answer.LeaseAnswer.{LeaseAnswer}
 use Rattle.worker_agent.specs.Agent.{AsksRunner, Holds, IsAgent, IsTest, StepSays}
-use Rattle.worker_agent.specs.Replies.{is_network, lease_by, lease_event, lease_held, lease_reply, lease_with, leased_event, lost_status, refused_by, report_event, run_event}
+use Rattle.worker_agent.specs.Replies.{is_network, lease_by, lease_event, lease_held, lease_reply, lease_with, leased_event, lost_status, noted_by, refused_by, report_event, run_event}
 use Rattle.worker_agent.specs.Steps.{AgentState, Does, Step, agent_after, drew, event_of, lease_after, ran, sent}
 use Rattle.worker_agent.specs.Told.{Told}
 use Rattle.worker_agent.specs.Work.{IsEndedBy, Last, Tries, cut_off, ended_by, nothing}
@@ -211,8 +211,15 @@ lease-peer : (s : Sent) → IsOrPeer (lease_event s)
 lease-peer (came.Answered r) = leased-peer (lease_reply r) (reply-peer r)
 lease-peer (came.Lost by) = tt
 
+noted-peer : (status : ℕ) (closed : Bool) → IsOrPeer (noted_by status closed)
+noted-peer status true = tt
+noted-peer status false = tt
+
 report-peer : (s : Sent) → IsOrPeer (report_event s)
-report-peer (came.Answered r) = if-peer (r.status == status_number status.Ok) (Ok event.Noted) (Err (Peer r.status)) tt tt
+report-peer (came.Answered r) =
+    if-peer (r.status == status_number status.Ok) (Ok event.Noted) _ tt
+    (if-peer (r.status == status_number status.Conflict) (noted_by r.status (tells_closed r.body)) (Err (Peer r.status))
+    (noted-peer r.status (tells_closed r.body)) tt)
 report-peer (came.Lost by) = tt
 
 -- no step is ended by a fault of the network: the request is lost then

@@ -14,10 +14,11 @@ use Rattle.worker_core.specs.declared.event.Event.{Event}
 use Rattle.worker_core.specs.declared.event.Event.TheVariants.{Drew, Leased, Nothing, Ran, Noted, Lost}
 use Rattle.worker_io.specs.declared.runner.Ran as runner
 use Rattle.worker_io.specs.declared.runner.Ran.TheVariants as answer
+use Rattle.worker_wire.specs.Answers.{tells_closed}
 use Rattle.worker_wire.specs.declared.answer.LeaseAnswer.{LeaseAnswer}
 use Rattle.worker_agent.proofs.Measure.{Suits, less, work_left}
 use Rattle.worker_agent.specs.Agent.{IsOther}
-use Rattle.worker_agent.specs.Replies.{lease_event, lease_reply, leased_event, lost_status, report_event, run_event}
+use Rattle.worker_agent.specs.Replies.{lease_event, lease_reply, leased_event, lost_status, noted_by, report_event, run_event}
 use Rattle.worker_agent.specs.Steps.{AgentState, Does, IsStep, Step, drew, event_of, ran, sent}
 use Rattle.worker_agent.specs.declared.worked.WorkFault.{WorkFault}
 use Rattle.worker_agent.specs.declared.worked.WorkFault.TheVariants.{Peer}
@@ -49,15 +50,24 @@ reported : (run : ℕ) (tested : Tested) (event other : Event) → IsOfReport ru
 reported run tested event other of same =
     let is : event ≡ other = cc in subst (λ (e : Event). IsOfReport run tested e) is of
 
-noted-is : (run : ℕ) (tested : Tested) (ok : Bool) (status : ℕ) (event : Event) →
-    (if ok then ok_of Noted else Err (Peer status)) ≡ Ok event → IsOfReport run tested event
-noted-is run tested true status event e = reported run tested Noted event (record { suits = tt; other = tt }) e
-noted-is run tested false status event e = absurd (cc e)
+closed-is : (run : ℕ) (tested : Tested) (closed : Bool) (status : ℕ) (event : Event) →
+    noted_by status closed ≡ Ok event → IsOfReport run tested event
+closed-is run tested true status event e = reported run tested Noted event (record { suits = tt; other = tt }) e
+closed-is run tested false status event e = absurd (cc e)
+
+noted-is : (run : ℕ) (tested : Tested) (ok conflict closed : Bool) (status : ℕ) (event : Event) →
+    (if ok then ok_of Noted else if conflict then noted_by status closed else Err (Peer status)) ≡ Ok event →
+    IsOfReport run tested event
+noted-is run tested true conflict closed status event e =
+    reported run tested Noted event (record { suits = tt; other = tt }) e
+noted-is run tested false true closed status event e = closed-is run tested closed status event e
+noted-is run tested false false closed status event e = absurd (cc e)
 
 pub report-is : (run : ℕ) (tested : Tested) (s : Sent) (event : Event) → report_event s ≡ Ok event →
     IsOfReport run tested event
 report-is run tested (came.Answered r) event e =
-    noted-is run tested (r.status == status_number status.Ok) r.status event e
+    noted-is run tested (r.status == status_number status.Ok) (r.status == status_number status.Conflict)
+    (tells_closed r.body) r.status event e
 report-is run tested (came.Lost lost) event e =
     reported run tested (Lost (lost_status lost)) event (record { suits = tt; other = tt }) e
 

@@ -12,7 +12,7 @@ use Rattle.worker_core.specs.declared.event.Event.{Event}
 use Rattle.worker_core.specs.declared.event.Event.TheVariants as event
 use Rattle.worker_io.specs.declared.runner.Ran.{Ran}
 use Rattle.worker_io.specs.declared.runner.Ran.TheVariants as ran
-use Rattle.worker_wire.specs.Answers.{lease_reading, tells_no_run}
+use Rattle.worker_wire.specs.Answers.{lease_reading, tells_closed, tells_no_run}
 use Rattle.worker_wire.specs.declared.answer.AnswerFault.{AnswerFault}
 use Rattle.worker_wire.specs.declared.answer.LeaseAnswer.{LeaseAnswer}
 use Rattle.worker_agent.specs.declared.worked.WorkFault.{WorkFault}
@@ -65,10 +65,17 @@ abbrev pub lease_held : Sent → (held : Option LeaseAnswer) → Option LeaseAns
 lease_held (Answered response) held = lease_with (lease_reply response) held
 lease_held (Lost lost) held = held
 
+-- a report that a closed farm refuses is noted: there is nobody left who needs it
+abbrev pub noted_by : (status : ℕ) → (closed : Bool) → Result Event WorkFault
+noted_by status true = Ok event.Noted
+noted_by status false = Err (Peer status)
+
 -- what comes of a report
 abbrev pub report_event : Sent → Result Event WorkFault
 report_event (Answered response) =
-    if response.status == status_number status.Ok then Ok event.Noted else Err (Peer response.status)
+    if response.status == status_number status.Ok then Ok event.Noted
+    else if response.status == status_number status.Conflict then noted_by response.status (tells_closed response.body)
+    else Err (Peer response.status)
 report_event (Lost lost) = Ok (event.Lost (lost_status lost))
 
 -- what comes of a test

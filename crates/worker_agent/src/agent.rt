@@ -158,7 +158,7 @@ impl Agent {
     {
         let request = report_request(alloc, run, tested)?;
         let sent = send_once(alloc, network, &request)?;
-        let event = report_event(&sent)?;
+        let event = report_event(alloc, &sent)?;
         self.note(event, is_network(&sent));
         Ok(())
     }

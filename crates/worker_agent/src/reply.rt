@@ -7,7 +7,7 @@ use http_exchange::{Lost, Response, Sent, status_number};
 use http_words::StatusCode;
 use std::alloc::Global;
 use worker_core::Event;
-use worker_wire::{AnswerFault, LeaseAnswer, is_no_run, lease_of};
+use worker_wire::{AnswerFault, LeaseAnswer, is_closed, is_no_run, lease_of};
 
 /// What a response to a request for a run says: a lease, or that there is no run to hand out.
 pub(crate) fn lease_reply(
@@ -36,18 +36,32 @@ pub(crate) fn lease_reply(
 }
 
 /// What comes of a report.
-pub(crate) fn report_event(sent: &Sent) -> Result<Event, WorkFault>
-    ensures { result ≡ report_event sent.now }
+pub(crate) fn report_event(alloc: Global, sent: &Sent) -> Result<Event, WorkFault>
+    ensures read { IfOk result (λ event. report_event sent.now ≡ Ok event) }
+    ensures ended { IfErr result (λ fault. fault ≢ WorkFault.Memory → report_event sent.now ≡ Err fault) }
 {
     match sent {
-        Sent::Answered(response) => {
-            if response.status == status_number(StatusCode::Ok) {
-                Ok(Event::Noted)
-            } else {
-                Err(WorkFault::Peer(response.status))
-            }
-        }
+        Sent::Answered(response) => report_reply(alloc, response),
         Sent::Lost(lost) => Ok(Event::Lost(lost_status(*lost))),
+    }
+}
+
+/// What a response to a report says: that it is noted, as it is where the farm is closed.
+fn report_reply(alloc: Global, response: &Response) -> Result<Event, WorkFault>
+    ensures read { IfOk result (λ event. report_event (Sent.Answered response.now) ≡ Ok event) }
+    ensures ended { IfErr result
+        (λ fault. fault ≢ WorkFault.Memory → report_event (Sent.Answered response.now) ≡ Err fault) }
+{
+    if response.status == status_number(StatusCode::Ok) {
+        return Ok(Event::Noted);
+    }
+    if response.status != status_number(StatusCode::Conflict) {
+        return Err(WorkFault::Peer(response.status));
+    }
+    match is_closed(alloc, response.body.as_slice()) {
+        Ok(true) => Ok(Event::Noted),
+        Ok(false) => Err(WorkFault::Peer(response.status)),
+        Err(_) => Err(WorkFault::Memory),
     }
 }
 

@@ -15,7 +15,7 @@ use worker_io::{KeySource, Runner};
 pub struct Worked {
     /// How many leases it took.
     pub leased: u32,
-    /// How many of its reports the farm noted.
+    /// How many of its reports the farm noted, or refused as it was closed.
     pub reported: u32,
     /// Whether it stopped as the farm had no run to hand out, and not as it took as many leases as it was to take.
     pub idle: bool,
@@ -47,8 +47,8 @@ impl From<Memory> for WorkFault {
 }
 
 /// Leases runs under a name, runs their tests and reports what came of them, until the farm has no run to hand out, or
-/// so many leases were taken. A request that is lost is sent again as it was, three times in all. Every connection is
-/// given back to the network.
+/// so many leases were taken. A closed farm has no run, and needs no report: one that it refuses counts as noted. A
+/// request that is lost is sent again as it was, three times in all. Every connection is given back to the network.
 pub fn work<N: Network, R: Runner, Q: KeySource>(
     alloc: Global,
     network: &mut N,

@@ -8,7 +8,7 @@ use Rattle.farm_rules.specs.declared.orders.NoOrder.TheVariants as none
 use Rattle.farm_types.specs.declared.key.Key.{Key}
 use Rattle.farm_types.specs.declared.moment.Moment.{Moment}
 use Rattle.weight_exact.specs.declared.run.Verdict.{Verdict}
-use Rattle.farm_entry.specs.Decision.{add_at, add_opening, asked_before, cancel_decision, decide, fate_of, full_decision, keyed_decision, known_decision, lease_decision, moment_used, or_else, own_decision, page_decision, refuse_opening, repeat_or_clash, report_decision, revert_decision, runs_decision, shape_decision, skip_decision, skip_fate_of}
+use Rattle.farm_entry.specs.Decision.{add_at, add_opening, asked_before, cancel_decision, closed_decision, decide, fate_of, full_decision, keyed_decision, known_decision, lease_decision, moment_used, or_else, own_decision, page_decision, refuse_opening, repeat_or_clash, report_decision, revert_decision, runs_decision, shape_decision, skip_decision, skip_fate_of}
 use Rattle.farm_entry.specs.History.{opening_numbered, place_of_key, place_of_report, report_in, skip_in}
 use Rattle.farm_entry.specs.Standing.{is_active, standing}
 use Rattle.farm_entry.specs.declared.command.Command.{Command}
@@ -23,7 +23,7 @@ use Rattle.farm_entry.specs.declared.lease.ReportedRun.{ReportedRun}
 use Rattle.farm_entry.specs.declared.lease.SkippedRun.{SkippedRun}
 use Rattle.farm_entry.specs.declared.opening.Opening.{Opening}
 use Rattle.farm_entry.specs.declared.refusal.OpenFault.{OpenFault}
-use Rattle.farm_entry.specs.declared.refusal.Refusal.TheVariants.{Full, KeyClash, SearchEnded, TooManySearches}
+use Rattle.farm_entry.specs.declared.refusal.Refusal.TheVariants.{Closed, Full, KeyClash, SearchEnded, TooManySearches}
 use Rattle.worker_laws.specs.Workers.{lease_in_answer}
 use Rattle.worker_laws.specs.World.{replied}
 
@@ -156,6 +156,12 @@ maybe-plain : (q : Command) (b : Bool) (d : Decision) → IsPlain q d → IsPlai
 maybe-plain q true d plain = plain
 maybe-plain q false d plain = tt
 
+-- a history that takes no more adds nothing, whether it is full or closed
+full-plain : (q : Command) (b : Bool) (o : Option Decision) → IsPlainIn q o →
+    IsPlainIn q (if b then Some (Refuse Full) else o)
+full-plain q true o plain = tt
+full-plain q false o plain = plain
+
 first-plain : (q : Command) (o : Option Decision) (d : Decision) → IsPlainIn q o → IsPlain q d → IsPlain q (or_else o d)
 first-plain q None d first second = second
 first-plain q (Some e) d first second = first
@@ -164,4 +170,5 @@ pub decide-plain : (H : List Entry) (q : Command) (m : Moment) → IsPlain q (de
 decide-plain H q m =
     first-plain q (shape_decision q) _ (shape-plain q)
     (first-plain q (known_decision H q) _ (known-plain H q)
-    (first-plain q (full_decision H q) _ (maybe-plain q _ (Refuse Full) tt) (own-plain H q (moment_used H m))))
+    (first-plain q (full_decision H q) _
+    (full-plain q _ (closed_decision H q) (maybe-plain q _ (Refuse Closed) tt)) (own-plain H q (moment_used H m))))

@@ -4,10 +4,12 @@ use Rattle.std.specs.List.{cons_option}
 use Rattle.std.specs.Option.{option_map}
 use Rattle.std.proofs.lemmas.List.Elements.{All-append, All-cons, All-nil, All-weaker}
 use Rattle.std.proofs.lemmas.Option.{none-some, same_Some}
+use Rattle.farm_types.specs.declared.commit_id.CommitId.{CommitId}
 use Rattle.farm_types.specs.declared.moment.Moment.{Moment}
+use Rattle.farm_entry.specs.Closing.{may_carry, may_close}
 use Rattle.farm_entry.specs.Decision.{decide}
 use Rattle.farm_entry.specs.History.{report_in, reports, skip_in, skips}
-use Rattle.farm_entry.specs.Legal.{IsLegal}
+use Rattle.farm_entry.specs.Legal.{IsLegal, IsNext}
 use Rattle.farm_entry.specs.Playing.{after}
 use Rattle.farm_entry.specs.Reply.{reply_at}
 use Rattle.farm_entry.specs.declared.command.Command.{Command}
@@ -15,14 +17,16 @@ use Rattle.farm_entry.specs.declared.command.Command.TheVariants as command
 use Rattle.farm_entry.specs.declared.decision.Decision.{Decision}
 use Rattle.farm_entry.specs.declared.decision.Decision.TheVariants.{New, Refuse, Repeat, Show}
 use Rattle.farm_entry.specs.declared.entry.Entry.{Entry}
+use Rattle.farm_entry.specs.declared.entry.What.TheVariants.{Carried, Closed}
 use Rattle.farm_entry.specs.declared.lease.ReportedRun.{ReportedRun}
 use Rattle.farm_entry.specs.declared.lease.SkippedRun.{SkippedRun}
 use Rattle.farm_entry.specs.declared.reply.Reply.{Reply}
 use Rattle.farm_entry.proofs.Growing.{reports-grow, skips-grow}
+use Rattle.farm_laws.proofs.Induct.{IsLegal-push}
 use Rattle.decision_laws.proofs.Played.{decided-legal}
 use Rattle.worker_core.specs.declared.tested.Tested.TheVariants.{Untestable, Verdict}
 use Rattle.worker_laws.specs.Given.{IsGiven}
-use Rattle.worker_laws.specs.Happenings.{Reach, answer_to, answered, decides, farm_is_asked, farm_takes, is_report, nothing_appended, nothing_sent, said_of}
+use Rattle.worker_laws.specs.Happenings.{Reach, answer_to, answered, decides, farm_is_asked, farm_takes, is_report, nothing_appended, nothing_sent, said_of, unasked}
 use Rattle.worker_laws.specs.Workers.{lease_in_answer}
 use Rattle.worker_laws.specs.World.{Answer, LeaseAnswer, Made, Request, Said, Worker, World, refused, replied}
 use Rattle.worker_laws.proofs.Decided.{IsPlain, decide-plain}
@@ -62,19 +66,18 @@ optional : {X : Type 0} (P : X → Type 0) (o : Option X) → ((x : X) → o ≡
 optional P None h = All-nil P
 optional P (Some x) h = All-cons P x [] (h x refl) (All-nil P)
 
-after-sound : (world : World) (q : Command) (d : Decision) → IsSound world → IsLegal (after world.history d) → IsPlain q d →
-    IsBacked world.history world.made q →
+-- one entry more, which reports nothing but what a runner said
+more-sound : (world : World) (e : Entry) → IsSound world → IsLegal (world.history ++ e ∷ []) →
+    ((r : ReportedRun) → report_in e.what ≡ Some r → IsGiven world.history world.made r.run (Verdict r.verdict)) →
+    ((s : SkippedRun) → skip_in e.what ≡ Some s → IsGiven world.history world.made s.run Untestable) →
     IsSound (record {
-      history = after world.history d;
+      history = world.history ++ e ∷ [];
       workers = world.workers;
       requests = world.requests;
       answers = world.answers;
       made = world.made;
     })
-after-sound world q (Refuse cause) sound legal plain backed = sound
-after-sound world q (Repeat place) sound legal plain backed = sound
-after-sound world q (Show page) sound legal plain backed = sound
-after-sound world q (New e) sound legal plain backed =
+more-sound world e sound legal given untestable =
     let H = world.history in
     let G = H ++ e ∷ [] in
     let made = world.made in
@@ -83,15 +86,13 @@ after-sound world q (New e) sound legal plain backed =
     All-weaker (λ (r : ReportedRun). IsGiven H made r.run (Verdict r.verdict)) P
     (λ r is. given-stays H e made r.run (Verdict r.verdict) is) (reports H) sound.reported in
     let new : All P (cons_option (report_in e.what) []) =
-    optional P (report_in e.what)
-    (λ r is. given-stays H e made r.run (Verdict r.verdict) (backed r.run (Verdict r.verdict) (plain.0 r is))) in
+    optional P (report_in e.what) (λ r is. given-stays H e made r.run (Verdict r.verdict) (given r is)) in
     let S : SkippedRun → Type 0 = λ s. IsGiven G made s.run Untestable in
     let old_said : All S (skips H) =
     All-weaker (λ (s : SkippedRun). IsGiven H made s.run Untestable) S
     (λ s is. given-stays H e made s.run Untestable is) (skips H) sound.said in
     let new_said : All S (cons_option (skip_in e.what) []) =
-    optional S (skip_in e.what)
-    (λ s is. given-stays H e made s.run Untestable (backed s.run Untestable (plain.1 s is))) in
+    optional S (skip_in e.what) (λ s is. given-stays H e made s.run Untestable (untestable s is)) in
     record {
       legal = legal;
       reported = subst (All P) (sym (reports-grow H e)) (All-append P (reports H) (cons_option (report_in e.what) []) old new);
@@ -107,6 +108,22 @@ after-sound world q (New e) sound legal plain backed =
           All-weaker (λ (w : Worker). IsHonest H made w) (λ (w : Worker). IsHonest G made w)
           (λ w is. honest-stays H e made w is) world.workers sound.staffed;
     }
+
+after-sound : (world : World) (q : Command) (d : Decision) → IsSound world → IsLegal (after world.history d) → IsPlain q d →
+    IsBacked world.history world.made q →
+    IsSound (record {
+      history = after world.history d;
+      workers = world.workers;
+      requests = world.requests;
+      answers = world.answers;
+      made = world.made;
+    })
+after-sound world q (Refuse cause) sound legal plain backed = sound
+after-sound world q (Repeat place) sound legal plain backed = sound
+after-sound world q (Show page) sound legal plain backed = sound
+after-sound world q (New e) sound legal plain backed =
+    more-sound world e sound legal
+    (λ r is. backed r.run (Verdict r.verdict) (plain.0 r is)) (λ s is. backed s.run Untestable (plain.1 s is))
 
 decides-sound : (world : World) (sender : ℕ) (q : Command) (d : Decision) (reach : Reach) → IsSound world →
     IsLegal (after world.history d) → IsPlain q d → IsBacked world.history world.made q → IsSound (decides world sender d reach)
@@ -158,3 +175,23 @@ asked-at world sender q m reach sound false is =
 pub is_asked-sound : (world : World) (sender : ℕ) (q : Command) (m : Moment) (reach : Reach) → IsSound world →
     IsSound (farm_is_asked world sender q m reach)
 is_asked-sound world sender q m reach sound = asked-at world sender q m reach sound (is_report q) refl
+
+-- Entries that no command adds.
+
+unasked-sound : (world : World) (may : Bool) (e : Entry) → IsSound world → (may ≡ true → IsNext world.history e) →
+    report_in e.what ≡ None → skip_in e.what ≡ None → IsSound (unasked world may e)
+unasked-sound world true e sound next untold unsaid =
+    more-sound world e sound (IsLegal-push world.history e sound.legal (next refl))
+    (λ r is. absurd (none-some r (sym untold ∙ is))) (λ s is. absurd (none-some s (sym unsaid ∙ is)))
+unasked-sound world false e sound next untold unsaid = sound
+
+pub carries-sound : (world : World) (m : Moment) (commit : CommitId) (day : ℕ) → IsSound world →
+    IsSound (unasked world (may_carry world.history m commit day) (record { at = m; what = Carried commit day }))
+carries-sound world m commit day sound =
+    unasked-sound world (may_carry world.history m commit day) (record { at = m; what = Carried commit day }) sound
+    (λ may. may) refl refl
+
+pub closes-sound : (world : World) (m : Moment) → IsSound world →
+    IsSound (unasked world (may_close world.history m) (record { at = m; what = Closed }))
+closes-sound world m sound =
+    unasked-sound world (may_close world.history m) (record { at = m; what = Closed }) sound (λ may. may) refl refl

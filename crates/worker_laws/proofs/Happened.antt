@@ -8,10 +8,10 @@ use Rattle.farm_entry.specs.declared.lease.SkippedRun.{SkippedRun}
 use Rattle.farm_entry.specs.declared.settings.Settings.{Settings}
 use Rattle.worker_core.specs.declared.tested.Tested.TheVariants.{Untestable, Verdict}
 use Rattle.worker_laws.specs.Given.{IsGiven}
-use Rattle.worker_laws.specs.Happenings.{Happening, all_happen, begins, draws, farm_starts_anew, happens, is_asked, loses, receives, runner_answers, starts_anew, takes}
+use Rattle.worker_laws.specs.Happenings.{Happening, all_happen, begins, draws, farm_carries, farm_is_closed, farm_starts_anew, happens, is_asked, loses, receives, runner_answers, starts_anew, takes}
 use Rattle.worker_laws.specs.Workers.{crew, fresh}
 use Rattle.worker_laws.specs.World.{Answer, Request, Worker, World, founded}
-use Rattle.worker_laws.proofs.Farm.{is_asked-sound, takes-sound}
+use Rattle.worker_laws.proofs.Farm.{carries-sound, closes-sound, is_asked-sound, takes-sound}
 use Rattle.worker_laws.proofs.Sound.{IsBacked, IsHonest, IsSound, IsTruthful}
 use Rattle.worker_laws.proofs.Steps.{begins-sound, draws-sound, fresh-honest, gets-sound, loses-sound, restarts-sound, says-sound}
 
@@ -38,6 +38,8 @@ happens-sound world (starts_anew worker runs) sound = restarts-sound world worke
 happens-sound world (takes request m reach) sound = takes-sound world request m reach sound
 happens-sound world (is_asked sender q m reach) sound = is_asked-sound world sender q m reach sound
 happens-sound world farm_starts_anew sound = sound
+happens-sound world (farm_carries m commit day) sound = carries-sound world m commit day sound
+happens-sound world (farm_is_closed m) sound = closes-sound world m sound
 
 all-sound : (world : World) (all : List Happening) → IsSound world → IsSound (all_happen world all)
 all-sound world [] sound = sound

@@ -17,7 +17,7 @@ use Rattle.farm_entry.specs.declared.entry.Entry.{Entry}
 use Rattle.farm_entry.specs.declared.entry.Fate.{Fate}
 use Rattle.farm_entry.specs.declared.entry.SkipFate.{SkipFate}
 use Rattle.farm_entry.specs.declared.entry.What.{What}
-use Rattle.farm_entry.specs.declared.entry.What.TheVariants.{Founded, Opened, Leased, Reported, Skipped, Cancelled, Ordered}
+use Rattle.farm_entry.specs.declared.entry.What.TheVariants.{Founded, Opened, Leased, Reported, Skipped, Cancelled, Ordered, Carried, Closed}
 use Rattle.farm_entry.specs.declared.lease.LeasedRun.{LeasedRun}
 use Rattle.farm_entry.specs.declared.opening.Opening.{Opening}
 use Rattle.farm_entry.specs.declared.reply.Reply.{Reply}
@@ -139,6 +139,8 @@ entry-told G (Reported run v fate) a is = absurd (none-some a (sym (report-untol
 entry-told G (Skipped run fate) a is = absurd (none-some a (sym (skip-untold G fate (lease_of G run)) ∙ is))
 entry-told G (Cancelled key s) a is = absurd (none-some a is)
 entry-told G (Ordered key agent order commit s day) a is = absurd (none-some a is)
+entry-told G (Carried commit day) a is = absurd (none-some a is)
+entry-told G Closed a is = absurd (none-some a is)
 
 at-true : (H : List Entry) (place : ℕ) (a : LeaseAnswer) (o : Option Entry) → IsLegal H → slice_get H place ≡ o →
     lease_in_reply (option_and_then (λ (e : Entry). reply_to (take (place + 1) H) e.what) o) ≡ Some a → IsTrueLease H a

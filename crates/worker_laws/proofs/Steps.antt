@@ -7,7 +7,7 @@ use Rattle.farm_types.specs.declared.key.Key.{Key}
 use Rattle.farm_entry.specs.Setup.{commit_of}
 use Rattle.farm_entry.specs.declared.command.Command.TheVariants.{Lease}
 use Rattle.farm_entry.specs.declared.entry.Entry.{Entry}
-use Rattle.farm_entry.specs.declared.refusal.Refusal.TheVariants.{NoRun}
+use Rattle.farm_entry.specs.declared.refusal.Refusal.TheVariants.{Closed, NoRun}
 use Rattle.farm_entry.specs.declared.reply.Reply.TheVariants as reply
 use Rattle.worker_core.specs.Core.{Core}
 use Rattle.worker_core.specs.Origins.{Asked, ComesFrom, is_test}
@@ -15,12 +15,12 @@ use Rattle.worker_core.specs.Steps.{core_step}
 use Rattle.worker_core.specs.declared.action.Action.{Action}
 use Rattle.worker_core.specs.declared.action.Action.TheVariants.{Draw, AskLease, RunTest, SendReport, Stop}
 use Rattle.worker_core.specs.declared.event.Event.{Event}
-use Rattle.worker_core.specs.declared.event.Event.TheVariants.{Begin, Drew, Leased, Ran, Lost}
+use Rattle.worker_core.specs.declared.event.Event.TheVariants.{Begin, Drew, Leased, Noted, Nothing, Ran, Lost}
 use Rattle.worker_core.specs.declared.tested.Tested.{Tested}
 use Rattle.worker_core.specs.declared.tested.Tested.TheVariants.{Untestable, Verdict}
 use Rattle.worker_core.proofs.Origins.{last-is, step-origin}
 use Rattle.worker_laws.specs.Given.{IsGiven}
-use Rattle.worker_laws.specs.Workers.{event_of, fresh, gets, hears, lease_after, lease_in_answer, report_of, request_of, restarts, runner_says, runs_test, steps, told, worker_steps}
+use Rattle.worker_laws.specs.Workers.{closed_event, event_of, fresh, gets, hears, last_of, lease_after, lease_in_answer, report_of, request_of, restarts, runner_says, runs_test, steps, told, worker_steps}
 use Rattle.worker_laws.specs.World.{Answer, LeaseAnswer, Made, Request, Said, Worker, World, refused, replied}
 use Rattle.worker_laws.proofs.Leases.{IsTrueLease}
 use Rattle.worker_laws.proofs.Sound.{IsBacked, IsHonest, IsSound, IsTruthful, got, made-more}
@@ -167,49 +167,68 @@ loses-sound world worker status sound =
 
 -- Answers.
 
+-- that the farm is closed tells no lease, and nothing that a runner said
+closed-unleased : (last : Option Action) (run : ℕ) → Some (closed_event last) ≡ Some (Leased run) → ⊥
+closed-unleased None run is = absurd cc
+closed-unleased (Some Draw) run is = absurd cc
+closed-unleased (Some (AskLease key)) run is = absurd cc
+closed-unleased (Some (RunTest other)) run is = absurd cc
+closed-unleased (Some (SendReport other t)) run is = absurd cc
+closed-unleased (Some (Stop end)) run is = absurd cc
+
+closed-untested : (last : Option Action) (t : Tested) → Some (closed_event last) ≡ Some (Ran t) → ⊥
+closed-untested None t is = absurd cc
+closed-untested (Some Draw) t is = absurd cc
+closed-untested (Some (AskLease key)) t is = absurd cc
+closed-untested (Some (RunTest run)) t is = absurd cc
+closed-untested (Some (SendReport run other)) t is = absurd cc
+closed-untested (Some (Stop end)) t is = absurd cc
+
 -- what an answer tells of a lease comes with the lease
-tells-lease : (said : Said) (run : ℕ) → event_of said ≡ Some (Leased run) →
+tells-lease : (last : Option Action) (said : Said) (run : ℕ) → event_of last said ≡ Some (Leased run) →
     (a : LeaseAnswer) × (lease_in_answer said ≡ Some a) × (a.run ≡ run)
-tells-lease (replied (reply.Leased n search stage position commit test deadline)) run is =
+tells-lease last (replied (reply.Leased n search stage position commit test deadline)) run is =
     let same : n ≡ run = cc in (record { run = n; test = test; commit = commit }, refl, same)
-tells-lease (replied (reply.Reported n search verdict _ standing)) run is = absurd cc
-tells-lease (replied (reply.Skipped n search _ standing)) run is = absurd cc
-tells-lease (replied (reply.Opened search budget standing)) run is = absurd (none-some _ is)
-tells-lease (replied (reply.Cancelled search)) run is = absurd (none-some _ is)
-tells-lease (replied (reply.Ordered order commit search day)) run is = absurd (none-some _ is)
-tells-lease (replied (reply.Search page)) run is = absurd (none-some _ is)
-tells-lease (replied (reply.Farm totals)) run is = absurd (none-some _ is)
-tells-lease (replied (reply.Orders page)) run is = absurd (none-some _ is)
-tells-lease (replied (reply.Runs page)) run is = absurd (none-some _ is)
-tells-lease (replied (reply.Searches page)) run is = absurd (none-some _ is)
-tells-lease (refused NoRun) run is = absurd cc
-tells-lease (refused _) run is = absurd (none-some _ is)
+tells-lease last (replied (reply.Reported n search verdict _ standing)) run is = absurd cc
+tells-lease last (replied (reply.Skipped n search _ standing)) run is = absurd cc
+tells-lease last (replied (reply.Opened search budget standing)) run is = absurd (none-some _ is)
+tells-lease last (replied (reply.Cancelled search)) run is = absurd (none-some _ is)
+tells-lease last (replied (reply.Ordered order commit search day)) run is = absurd (none-some _ is)
+tells-lease last (replied (reply.Search page)) run is = absurd (none-some _ is)
+tells-lease last (replied (reply.Farm totals)) run is = absurd (none-some _ is)
+tells-lease last (replied (reply.Orders page)) run is = absurd (none-some _ is)
+tells-lease last (replied (reply.Runs page)) run is = absurd (none-some _ is)
+tells-lease last (replied (reply.Searches page)) run is = absurd (none-some _ is)
+tells-lease last (refused NoRun) run is = absurd cc
+tells-lease last (refused Closed) run is = absurd (closed-unleased last run is)
+tells-lease last (refused _) run is = absurd (none-some _ is)
 
 -- no answer tells what a runner said
-tells-none : (said : Said) (t : Tested) → event_of said ≡ Some (Ran t) → ⊥
-tells-none (replied (reply.Leased n search stage position commit test deadline)) t is = absurd cc
-tells-none (replied (reply.Reported n search verdict _ standing)) t is = absurd cc
-tells-none (replied (reply.Skipped n search _ standing)) t is = absurd cc
-tells-none (replied (reply.Opened search budget standing)) t is = none-some _ is
-tells-none (replied (reply.Cancelled search)) t is = none-some _ is
-tells-none (replied (reply.Ordered order commit search day)) t is = none-some _ is
-tells-none (replied (reply.Search page)) t is = none-some _ is
-tells-none (replied (reply.Farm totals)) t is = none-some _ is
-tells-none (replied (reply.Orders page)) t is = none-some _ is
-tells-none (replied (reply.Runs page)) t is = none-some _ is
-tells-none (replied (reply.Searches page)) t is = none-some _ is
-tells-none (refused NoRun) t is = absurd cc
-tells-none (refused _) t is = none-some _ is
+tells-none : (last : Option Action) (said : Said) (t : Tested) → event_of last said ≡ Some (Ran t) → ⊥
+tells-none last (replied (reply.Leased n search stage position commit test deadline)) t is = absurd cc
+tells-none last (replied (reply.Reported n search verdict _ standing)) t is = absurd cc
+tells-none last (replied (reply.Skipped n search _ standing)) t is = absurd cc
+tells-none last (replied (reply.Opened search budget standing)) t is = none-some _ is
+tells-none last (replied (reply.Cancelled search)) t is = none-some _ is
+tells-none last (replied (reply.Ordered order commit search day)) t is = none-some _ is
+tells-none last (replied (reply.Search page)) t is = none-some _ is
+tells-none last (replied (reply.Farm totals)) t is = none-some _ is
+tells-none last (replied (reply.Orders page)) t is = none-some _ is
+tells-none last (replied (reply.Runs page)) t is = none-some _ is
+tells-none last (replied (reply.Searches page)) t is = none-some _ is
+tells-none last (refused NoRun) t is = absurd cc
+tells-none last (refused Closed) t is = closed-untested last t is
+tells-none last (refused _) t is = none-some _ is
 
-hears-sound : (world : World) (worker : ℕ) (said : Said) → IsSound world → IsTruthful world.history said → (o : Option Event) →
-    event_of said ≡ o → IsSound (hears world worker said o)
-hears-sound world worker said sound so None tells = sound
-hears-sound world worker said sound so (Some event) tells =
+hears-sound : (world : World) (worker : ℕ) (last : Option Action) (said : Said) → IsSound world →
+    IsTruthful world.history said → (o : Option Event) → event_of last said ≡ o → IsSound (hears world worker said o)
+hears-sound world worker last said sound so None tells = sound
+hears-sound world worker last said sound so (Some event) tells =
     step-sound world worker event (lease_in_answer said) sound (slice_get world.workers worker) refl
     (λ w there. record {
       so = so;
-      leased = λ run is. tells-lease said run (tells ∙ ap (λ (x : Event). Some x) is);
-      ran = λ run t last is. absurd (tells-none said t (tells ∙ ap (λ (x : Event). Some x) is));
+      leased = λ run is. tells-lease last said run (tells ∙ ap (λ (x : Event). Some x) is);
+      ran = λ run t running is. absurd (tells-none last said t (tells ∙ ap (λ (x : Event). Some x) is));
     })
 
 either-sound : (b : Bool) (one other : World) → IsSound one → IsSound other → IsSound (if b then one else other)
@@ -221,8 +240,9 @@ gets-at : (world : World) (worker place : ℕ) → IsSound world → (o : Option
 gets-at world worker place sound None there = sound
 gets-at world worker place sound (Some answer) there =
     let so = got (λ (a : Answer). IsTruthful world.history a.said) world.answers place answer sound.answered there in
-    either-sound (answer.to == worker) (hears world worker answer.said (event_of answer.said)) world
-    (hears-sound world worker answer.said sound so (event_of answer.said) refl) sound
+    let event = event_of (last_of world worker) answer.said in
+    either-sound (answer.to == worker) (hears world worker answer.said event) world
+    (hears-sound world worker (last_of world worker) answer.said sound so event refl) sound
 
 pub gets-sound : (world : World) (worker place : ℕ) → IsSound world → IsSound (gets world worker (slice_get world.answers place))
 gets-sound world worker place sound = gets-at world worker place sound (slice_get world.answers place) refl

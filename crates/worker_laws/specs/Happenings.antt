@@ -1,9 +1,11 @@
 -- What may happen to workers and their farm, in any order and any number.
 use Rattle.std.specs.Prelude.{ℕ, Bool, true, false, List, [], ◌∷◌, ◌++◌, length, slice_get, if◌then◌else◌, Option, Some, None}
 use Rattle.std.specs.Option.{option_map}
+use Rattle.farm_types.specs.declared.commit_id.CommitId.{CommitId}
 use Rattle.farm_types.specs.declared.key.Key.{Key}
 use Rattle.farm_types.specs.declared.moment.Moment.{Moment}
 use Rattle.worker_core.specs.declared.tested.Tested.{Tested}
+use Rattle.farm_entry.specs.Closing.{may_carry, may_close}
 use Rattle.farm_entry.specs.Decision.{decide}
 use Rattle.farm_entry.specs.Playing.{after}
 use Rattle.farm_entry.specs.Reply.{reply_at}
@@ -12,6 +14,7 @@ use Rattle.farm_entry.specs.declared.command.Command.TheVariants.{Report, Skip}
 use Rattle.farm_entry.specs.declared.decision.Decision.{Decision}
 use Rattle.farm_entry.specs.declared.decision.Decision.TheVariants.{New, Refuse, Repeat, Show}
 use Rattle.farm_entry.specs.declared.entry.Entry.{Entry}
+use Rattle.farm_entry.specs.declared.entry.What.TheVariants.{Carried, Closed}
 use Rattle.worker_core.specs.declared.event.Event.TheVariants.{Begin, Drew, Lost}
 use Rattle.worker_laws.specs.World.{Answer, Request, Said, World, refused, replied}
 use Rattle.worker_laws.specs.Workers.{gets, restarts, runner_says, worker_steps}
@@ -33,6 +36,8 @@ pub data Happening : Type 0 where
   takes : (request : ℕ) → Moment → Reach → Happening  -- the farm takes any request that was ever sent, at any moment
   is_asked : (sender : ℕ) → Command → Moment → Reach → Happening  -- anybody asks it anything, but for a report
   farm_starts_anew : Happening  -- it starts anew, with its history
+  farm_carries : Moment → CommitId → (day : ℕ) → Happening  -- it begins with one order more of a farm before it, if legal
+  farm_is_closed : Moment → Happening  -- it starts anew with a closing behind it, where that may come next
 
 -- what a command is answered, by what it comes to
 abbrev pub said_of : List Entry → Decision → Option Said
@@ -78,6 +83,16 @@ abbrev pub farm_is_asked : World → (sender : ℕ) → Command → Moment → R
 farm_is_asked world sender q at reach =
     if is_report q then world else decides world sender (decide world.history q at) reach
 
+-- an entry that no command adds comes next, where it may
+abbrev pub unasked : World → (may : Bool) → Entry → World
+unasked world may e = record {
+  history = if may then world.history ++ e ∷ [] else world.history;
+  workers = world.workers;
+  requests = world.requests;
+  answers = world.answers;
+  made = world.made;
+}
+
 -- the world after something happened. What names nothing that is there changes nothing
 abbrev pub happens : World → Happening → World
 happens world (begins worker) = worker_steps world worker Begin None
@@ -89,6 +104,9 @@ happens world (starts_anew worker runs) = restarts world worker runs (slice_get 
 happens world (takes request at reach) = farm_takes world (slice_get world.requests request) at reach
 happens world (is_asked sender q at reach) = farm_is_asked world sender q at reach
 happens world farm_starts_anew = world
+happens world (farm_carries at commit day) =
+    unasked world (may_carry world.history at commit day) (record { at = at; what = Carried commit day })
+happens world (farm_is_closed at) = unasked world (may_close world.history at) (record { at = at; what = Closed })
 
 -- the world after a list of happenings
 abbrev pub all_happen : World → List Happening → World

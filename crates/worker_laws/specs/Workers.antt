@@ -1,8 +1,9 @@
 -- The steps of the workers in a world.
 use Rattle.std.specs.Prelude.{ℕ, ◌==◌, not, ◌&&◌, List, [], ◌∷◌, ◌++◌, map, slice_get, slice_set, if◌then◌else◌, Option, Some, None}
+use Rattle.std.specs.Option.{option_and_then}
 use Rattle.farm_entry.specs.declared.command.Command.{Command}
 use Rattle.farm_entry.specs.declared.command.Command.TheVariants.{Lease, Report, Skip}
-use Rattle.farm_entry.specs.declared.refusal.Refusal.TheVariants.{NoRun}
+use Rattle.farm_entry.specs.declared.refusal.Refusal.TheVariants.{Closed, NoRun}
 use Rattle.farm_entry.specs.declared.reply.Reply.TheVariants as reply
 use Rattle.worker_core.specs.Origins.{is_test}
 use Rattle.worker_core.specs.Steps.{core_start, core_step}
@@ -59,13 +60,25 @@ steps world worker event came (Some w) = record {
 abbrev pub worker_steps : World → (worker : ℕ) → Event → (came : Option LeaseAnswer) → World
 worker_steps world worker event came = steps world worker event came (slice_get world.workers worker)
 
--- What an answer tells a worker. Any other answer ends its work: it takes no step by it, and may start anew
-abbrev pub event_of : Said → Option Event
-event_of (replied (reply.Leased run search stage position commit test deadline)) = Some (Leased run)
-event_of (replied (reply.Reported run search verdict _ standing)) = Some Noted
-event_of (replied (reply.Skipped run search _ standing)) = Some Noted
-event_of (refused NoRun) = Some Nothing
-event_of _ = None
+-- what a worker makes of it that the farm is closed, by what it did last: nobody needs its report any more, or there
+-- is no run for it
+abbrev pub closed_event : (last : Option Action) → Event
+closed_event (Some (SendReport run tested)) = Noted
+closed_event _ = Nothing
+
+-- What an answer tells a worker that did this last. Any other answer ends its work: it takes no step by it, and may
+-- start anew
+abbrev pub event_of : (last : Option Action) → Said → Option Event
+event_of last (replied (reply.Leased run search stage position commit test deadline)) = Some (Leased run)
+event_of last (replied (reply.Reported run search verdict _ standing)) = Some Noted
+event_of last (replied (reply.Skipped run search _ standing)) = Some Noted
+event_of last (refused NoRun) = Some Nothing
+event_of last (refused Closed) = Some (closed_event last)
+event_of last _ = None
+
+-- what a worker did last
+abbrev pub last_of : World → (worker : ℕ) → Option Action
+last_of world worker = option_and_then (λ w. w.core.last) (slice_get world.workers worker)
 
 -- the lease in an answer
 abbrev pub lease_in_answer : Said → Option LeaseAnswer
@@ -81,7 +94,7 @@ hears world worker said (Some event) = worker_steps world worker event (lease_in
 abbrev pub gets : World → (worker : ℕ) → Option Answer → World
 gets world worker None = world
 gets world worker (Some answer) =
-    if answer.to == worker then hears world worker answer.said (event_of answer.said) else world
+    if answer.to == worker then hears world worker answer.said (event_of (last_of world worker) answer.said) else world
 
 -- the runner of a worker makes its run, of the test and at the commit of its lease
 abbrev pub runs_test : World → (worker : ℕ) → Tested → (last : Option Action) → Option LeaseAnswer → World

@@ -12,10 +12,11 @@ use farm_entry::{ReportedRun, Settings, SkippedRun};
 use farm_types::Moment;
 use worker_core::Tested;
 
-/// Whatever the network loses, repeats and reorders, whenever workers and farm stop and start anew, whatever keys are
-/// drawn and whatever others ask of the farm: its history is legal, each report in it, counted or not, has the verdict
-/// that a runner gave of the run's test at the run's commit, each skip is of a run of which a runner said there that
-/// the tree can't be tested, and no run has two of these.
+/// Whatever the network loses, repeats and reorders, whenever workers and farm stop and start anew, whatever orders the
+/// farm carries over and whenever it is closed, whatever keys are drawn and whatever others ask of the farm: its history
+/// is legal, each report in it, counted or not, has the verdict that a runner gave of the run's test at the run's
+/// commit, each skip is of a run of which a runner said there that the tree can't be tested, and no run has two of
+/// these.
 pub fn reports_are_what_runners_said()
     ensures legal { (settings : Settings) (at : Moment) (starts : List (List ℕ × ℕ)) (all : List Happening)
         → IsLegal (all_happen (founded settings at (crew starts)) all).history }

@@ -1,5 +1,5 @@
 -- What the body of an answer tells a worker that asked for a lease.
-use Rattle.std.specs.Prelude.{ℕ, Bool, false, List, Option, Some, None, option_and_then, Result, Ok, Err, codes}
+use Rattle.std.specs.Prelude.{ℕ, Bool, false, ◌||◌, List, Option, Some, None, option_and_then, Result, Ok, Err, codes}
 use Rattle.std.specs.Option.{ok_or}
 use Rattle.std.specs.Str.{bytes_eq}
 use Rattle.serde_json.specs.Data.{Data}
@@ -35,10 +35,15 @@ lease_in json =
 unfoldable pub lease_reading : List ℕ → Result LeaseAnswer AnswerFault
 lease_reading body = and_then (object_of body) lease_in
 
--- the word of a refusal says that there is no run
+-- the word of a refusal says that there is no run to be had: none is due, or the farm is closed
 abbrev pub is_no_run_word : Option (List ℕ) → Bool
 is_no_run_word None = false
-is_no_run_word (Some text) = bytes_eq text (codes "NoRun")
+is_no_run_word (Some text) = bytes_eq text (codes "NoRun") || bytes_eq text (codes "Closed")
+
+-- the word of a refusal says that the farm is closed
+abbrev pub is_closed_word : Option (List ℕ) → Bool
+is_closed_word None = false
+is_closed_word (Some text) = bytes_eq text (codes "Closed")
 
 -- an object refuses a lease, as there is no run
 unfoldable pub refuses_run : Data → Bool
@@ -51,3 +56,15 @@ tells_refusal (Err fault) = false
 -- a body says that there is no run
 unfoldable pub tells_no_run : List ℕ → Bool
 tells_no_run body = tells_refusal (object_of body)
+
+-- an object refuses a report, as the farm is closed
+unfoldable pub refuses_closed : Data → Bool
+refuses_closed json = is_closed_word (option_and_then as_str (get (codes "refused") json))
+
+abbrev pub tells_closing : Result Data AnswerFault → Bool
+tells_closing (Ok json) = refuses_closed json
+tells_closing (Err fault) = false
+
+-- a body says that the farm is closed
+unfoldable pub tells_closed : List ℕ → Bool
+tells_closed body = tells_closing (object_of body)

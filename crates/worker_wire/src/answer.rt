@@ -2,7 +2,7 @@
 
 ghost use Rattle.std.specs.Prelude.{◌≡◌, ◌≢◌, Err, IfErr, IfOk, Ok};
 ghost use Rattle.serde_json.specs.View.{view};
-ghost use Rattle.worker_wire.specs.Answers.{lease_in, lease_reading, object_of, refuses_run, tells_no_run};
+ghost use Rattle.worker_wire.specs.Answers.{lease_in, lease_reading, object_of, refuses_closed, refuses_run, tells_closed, tells_no_run};
 
 use crate::members::{commit_in, name_in, ordinal_in};
 use farm_types::{CommitId, Memory, Name};
@@ -45,13 +45,25 @@ pub fn lease_of(alloc: Global, body: &[u8]) -> Result<LeaseAnswer, AnswerFault>
     lease_in(alloc, &object)
 }
 
-/// Whether the body of an answer says that the farm has no run to hand out.
+/// Whether the body of an answer says that the farm has no run to hand out: none is due, or it is closed.
 #[tactic(auto, unfolding(crate::specs::Answers::tells_no_run))]
 pub fn is_no_run(alloc: Global, body: &[u8]) -> Result<bool, Memory>
     ensures { IfOk result (λ told. told ≡ tells_no_run body.now) }
 {
     match object_of(alloc, body) {
         Ok(object) => Ok(refuses_run(&object)),
+        Err(AnswerFault::Shape) => Ok(false),
+        Err(AnswerFault::Memory) => Err(Memory),
+    }
+}
+
+/// Whether the body of an answer says that the farm is closed.
+#[tactic(auto, unfolding(crate::specs::Answers::tells_closed))]
+pub fn is_closed(alloc: Global, body: &[u8]) -> Result<bool, Memory>
+    ensures { IfOk result (λ told. told ≡ tells_closed body.now) }
+{
+    match object_of(alloc, body) {
+        Ok(object) => Ok(refuses_closed(&object)),
         Err(AnswerFault::Shape) => Ok(false),
         Err(AnswerFault::Memory) => Err(Memory),
     }
@@ -100,7 +112,20 @@ fn refuses_run(object: &Value) -> bool
         return false;
     };
     match value.as_str() {
-        Some(text) => text == "NoRun",
+        Some(text) => text == "NoRun" || text == "Closed",
+        None => false,
+    }
+}
+
+#[tactic(auto, unfolding(crate::specs::Answers::refuses_closed))]
+fn refuses_closed(object: &Value) -> bool
+    ensures { result ≡ refuses_closed (view object.now) }
+{
+    let Some(value) = object.get("refused") else {
+        return false;
+    };
+    match value.as_str() {
+        Some(text) => text == "Closed",
         None => false,
     }
 }

@@ -2,9 +2,9 @@
 use Rattle.std.specs.Prelude.{List, [], ◌∷◌}
 use Rattle.weight_exact.specs.declared.run.Verdict.TheVariants.{Fail, Pass}
 use Rattle.farm_entry.specs.declared.command.Command.TheVariants.{Open}
-use Rattle.farm_worked.specs.Example.{ask_for, at_first, the_key, the_settings, the_worker}
+use Rattle.farm_worked.specs.Example.{ask_for, at_first, revert_with, the_key, the_settings, the_worker}
 use Rattle.worker_core.specs.declared.tested.Tested.TheVariants.{Verdict}
-use Rattle.worker_laws.specs.Happenings.{Happening, all_happen, answered, begins, draws, is_asked, loses, receives, runner_answers, takes}
+use Rattle.worker_laws.specs.Happenings.{Happening, all_happen, answered, begins, draws, farm_is_closed, is_asked, loses, receives, runner_answers, starts_anew, takes}
 use Rattle.worker_laws.specs.Workers.{crew}
 use Rattle.worker_laws.specs.World.{World, founded}
 
@@ -35,3 +35,18 @@ what_happens =
 
 abbrev pub played : World
 played = all_happen (founded the_settings at_first (crew ((the_worker, 5) ∷ []))) what_happens
+
+-- then the order is taken, and the farm is closed; the worker starts anew, and asks it for a run
+abbrev pub then_closed : List Happening
+then_closed =
+    is_asked 9 (revert_with 5) at_first answered
+    ∷ farm_is_closed at_first
+    ∷ starts_anew 0 5
+    ∷ begins 0
+    ∷ draws 0 (the_key 6)
+    ∷ takes 6 at_first answered
+    ∷ receives 0 8
+    ∷ []
+
+abbrev pub played_closed : World
+played_closed = all_happen played then_closed

@@ -4,16 +4,16 @@
 //! `specs/Example` has what happens, over a farm of `farm_worked`. Nothing stands on this crate.
 #![tactic(auto)]
 
-ghost use Rattle.std.specs.Prelude.{◌≡◌, ◌∷◌, [], length, map, slice_get, Some};
+ghost use Rattle.std.specs.Prelude.{◌≡◌, ◌∷◌, [], length, map, slice_get, true, Some};
 ghost use Rattle.std.specs.Option.{option_map};
-ghost use Rattle.farm_entry.specs.History.{reports};
+ghost use Rattle.farm_entry.specs.History.{is_closed, reports};
 ghost use Rattle.farm_worked.specs.Example.{the_commit, the_test};
 ghost use Rattle.weight_exact.specs.declared.run.Verdict.TheVariants.{Fail, Pass};
 ghost use Rattle.worker_core.specs.declared.action.Action.TheVariants.{Stop};
 ghost use Rattle.worker_core.specs.declared.action.End.TheVariants.{Idle};
 ghost use Rattle.worker_core.specs.declared.tested.Tested.TheVariants.{Verdict};
 ghost use Rattle.worker_laws.specs.World.{Worker};
-ghost use Rattle.worker_worked.specs.Example.{played};
+ghost use Rattle.worker_worked.specs.Example.{played, played_closed};
 
 use farm_entry::ReportedRun;
 
@@ -27,4 +27,14 @@ pub fn a_lost_report_is_sent_again()
     ensures made { played.made ≡ record { test = the_test; commit = the_commit 1; tested = Verdict Fail }
         ∷ record { test = the_test; commit = the_commit 0; tested = Verdict Pass } ∷ [] }
     ensures ends { option_map (λ (w : Worker). w.core.last) (slice_get played.workers 0) ≡ Some (Some (Stop Idle)) }
+{}
+
+/// Its order is taken, and the farm is closed. The worker starts anew and hears that it is, and stops as where the farm
+/// has no run: nothing is run any more.
+pub fn a_closed_farm_has_no_run()
+    ensures entries { length played_closed.history ≡ 8 }
+    ensures closed { is_closed played_closed.history ≡ true }
+    ensures made { length played_closed.made ≡ 2 }
+    ensures ends { option_map (λ (w : Worker). w.core.last) (slice_get played_closed.workers 0)
+        ≡ Some (Some (Stop Idle)) }
 {}

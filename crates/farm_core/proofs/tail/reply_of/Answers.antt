@@ -5,5 +5,8 @@ use Rattle.farm_core.proofs.tail.reply_of.Goals as goal
 
 pub unreachable-requires : goal.unreachable-requires
 unreachable-requires c =
-    let there = reply-there c.args.kept.now c.args.place c.history-history.ensures.legal c.requires.later c.requires.there in
+    let made = c.requires in
+    let there =
+    reply-there c.args.kept.now c.args.place made.entry made.command c.history-history.ensures.legal made.there
+    made.named in
     none-some there.0 (sym c.in-Ok-None.field-0-is ∙ c.in-Ok-None.ensures ∙ there.1)

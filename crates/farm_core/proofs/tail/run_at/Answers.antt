@@ -10,4 +10,4 @@ returns c =
     subst (IsRunAt c.args.kept.now c.args.place)
     (sym (c.lease.ensures ∙ ap (λ (e : Entry). lease_in e.what) (sym c.index-history-place.is)))
     (run-read c.args.kept.now c.history.result.now c.args.place c.index-history-place.result c.history.ensures.history
-    c.history.ensures.legal c.requires.later c.requires.there c.index-history-place.is)
+    c.history.ensures.legal c.requires c.index-history-place.is)

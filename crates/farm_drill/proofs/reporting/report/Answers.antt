@@ -7,6 +7,7 @@ use Rattle.farm_entry.specs.Playing.{after}
 use Rattle.farm_entry.specs.declared.command.Command.TheVariants.{Report}
 use Rattle.farm_entry.specs.declared.entry.Entry.{Entry}
 use Rattle.drill_plan.specs.Plan.{planned_verdict}
+use Rattle.shared_farm.proofs.ByCommands.{by-whole}
 use Rattle.farm_drill.specs.Ends.{IsFull}
 use Rattle.farm_drill.proofs.Steps.{asked-after, report-says}
 use Rattle.farm_drill.proofs.reporting.report.Goals as goal
@@ -24,7 +25,7 @@ returns-clause-said c =
 pub returns-clause-reported : goal.returns-clause-reported
 returns-clause-reported c =
     let said = report-says c.args.store.now.history c.args.lease c.planned_verdict.result c.drill_moment.result
-    c.in_ok-given.given c.ask.new.store.history c.requires.legal c.requires.lease
+    c.in_ok-given.given c.ask.new.store.history c.requires.legal c.requires.by_commands.unclosed c.requires.lease
     (c.in_ok-given.ensures.says c.requires.decided) in
     subst (λ (b : Bool). MatchBool b (is_reported c.ask.new.store.history c.args.lease.run ≡ true)
     (IsFull c.ask.new.store.history)) (sym c.is_ok.ensures.value) said.reported
@@ -32,13 +33,17 @@ returns-clause-reported c =
 pub returns-clause-leases : goal.returns-clause-leases
 returns-clause-leases c =
     let said = report-says c.args.store.now.history c.args.lease c.planned_verdict.result c.drill_moment.result
-    c.in_ok-given.given c.ask.new.store.history c.requires.legal c.requires.lease
+    c.in_ok-given.given c.ask.new.store.history c.requires.legal c.requires.by_commands.unclosed c.requires.lease
     (c.in_ok-given.ensures.says c.requires.decided) in
     said.leases
 
 pub returns-clause-keys : goal.returns-clause-keys
 returns-clause-keys c =
     let said = report-says c.args.store.now.history c.args.lease c.planned_verdict.result c.drill_moment.result
-    c.in_ok-given.given c.ask.new.store.history c.requires.legal c.requires.lease
+    c.in_ok-given.given c.ask.new.store.history c.requires.legal c.requires.by_commands.unclosed c.requires.lease
     (c.in_ok-given.ensures.says c.requires.decided) in
     said.keys
+
+pub returns-clause-by_commands : goal.returns-clause-by_commands
+returns-clause-by_commands c = c.in_ok-given.ensures.by_commands
+    (by-whole c.args.store.now.history c.args.store.now.pending c.requires.decided c.requires.by_commands)

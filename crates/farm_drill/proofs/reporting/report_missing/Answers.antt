@@ -38,6 +38,7 @@ loop-lease-preserved c =
     record {
       decided = c.in_ok-report.ensures.decided;
       legal = c.report.ensures.legal;
+      by_commands = c.in_ok-report.ensures.by_commands;
       longer = prefix-trans c.args.store.now.history G new c.loop-lease.invariant.longer c.report.ensures.longer;
       leases = c.in_ok-report.ensures.leases ∙ c.loop-lease.invariant.leases;
       keys = λ key none. c.in_ok-report.ensures.keys key (c.loop-lease.invariant.keys key none);

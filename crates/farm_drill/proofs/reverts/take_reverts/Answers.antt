@@ -14,6 +14,7 @@ loop-key-init c = record {
   decided = c.requires.decided;
   founded = c.requires.founded;
   legal = c.requires.legal;
+  by_commands = c.requires.by_commands;
   free = c.requires.free;
   orders = orders-none c.args.store.now.history;
 }
@@ -40,6 +41,7 @@ loop-key-preserved c =
       founded = prefix-trans (drill_founding ∷ []) c.loop-key.store.history c.take_revert.new.store.history
           c.loop-key.invariant.founded on.longer;
       legal = c.take_revert.ensures.legal;
+      by_commands = c.in_ok-take_revert.ensures.by_commands;
       free = on.free;
       orders = on.orders;
     }

@@ -4,6 +4,7 @@ use Rattle.farm_entry.specs.Legal.{IsLegal}
 use Rattle.farm_entry.specs.declared.entry.Entry.{Entry}
 use Rattle.farm_entry.specs.declared.limits.TheConstants.{MAX_ENTRIES}
 use Rattle.drill_plan.specs.Start.{drill_founding}
+use Rattle.shared_farm.specs.Rests.{IsByCommands}
 use Rattle.farm_drill.specs.Ends.{AreOrders}
 use Rattle.farm_drill.specs.Free.{AreFree}
 use Rattle.farm_drill.proofs.reverts.take_reverts.Given as goal
@@ -13,6 +14,7 @@ invariant-loop-key l = record {
   decided : l.store.pending ≡ [];
   founded : IsPrefix (drill_founding ∷ []) l.store.history;
   legal : IsLegal l.store.history;
+  by_commands : IsByCommands l.store.history;
   free : AreFree l.store.history l.keys;
   orders : (orders : List Entry) × AreOrders orders × (l.store.history ≡ l.fn.store.history ++ orders);
 }

@@ -16,6 +16,7 @@ loop-key-init c = record {
   decided = c.requires.decided;
   founded = c.requires.founded;
   legal = c.requires.legal;
+  by_commands = c.requires.by_commands;
   reported = c.requires.reported;
   longer = ([], sym (append-nil c.args.store.now.history));
   free = c.requires.free;
@@ -48,6 +49,7 @@ loop-key-preserved c =
       decided = c.in_ok-report-in-Some.ensures.decided;
       founded = prefix-trans (drill_founding ∷ []) H new c.loop-key.invariant.founded more;
       legal = c.report.ensures.legal;
+      by_commands = c.in_ok-report-in-Some.ensures.by_commands;
       reported = on.reported;
       longer = prefix-trans c.args.store.now.history H new c.loop-key.invariant.longer more;
       free = on.free;
@@ -70,7 +72,7 @@ returns-in-None-clause-ended c =
     let new : List Entry = c.lease.new.store.history in
     let none = subst (λ (o : Option LeasedRun). IfNone o ((new ≡ H) × (IsFull new ⊎ FindsNone new))) c.in-None.is
     c.in_ok-lease.ensures.none in
-    rest-ended H new c.lease.ensures.legal
+    rest-ended H new c.lease.ensures.legal c.in_ok-lease.ensures.by_commands.unclosed
     (prefix-trans (drill_founding ∷ []) H new c.loop-key.invariant.founded c.lease.ensures.longer)
     c.loop-key.invariant.reported none.0 none.1
 

@@ -13,3 +13,9 @@ returns-clause-a_day_is_full _ c d differ = rw (other_id c d differ) refl
 
 pub returns-clause-another_day_is_free : goal.returns-clause-another_day_is_free
 returns-clause-another_day_is_free _ c d differ = rw (other_id c d differ) refl
+
+pub returns-clause-a_carried_order_has_no_number : goal.returns-clause-a_carried_order_has_no_number
+returns-clause-a_carried_order_has_no_number _ c d differ = rw (other_id c d differ) refl
+
+pub returns-clause-a_carried_order_fills_its_day : goal.returns-clause-a_carried_order_fills_its_day
+returns-clause-a_carried_order_fills_its_day _ c d differ = rw (other_id c d differ) refl

@@ -2,8 +2,10 @@ use Rattle.std.proofs.Common.{inl, inr, refl}
 use Rattle.farm_script.specs.Shown.{shown_text}
 use Rattle.link_io.specs.Streams.{streams}
 use Rattle.rates_report.specs.RateLines.{rates_text}
+use Rattle.connection_laws.specs.Moments.{MayGive}
 use Rattle.farm_serve.specs.Outside.{disk_seen, output_seen}
-use Rattle.finder_program.proofs.Completing.{evidence-completes, found-completes, run_journal-completes, shown-completes}
+use Rattle.finder_program.proofs.Completing.{close-completes, evidence-completes, found-completes, inherit-completes, run_journal-completes, shown-completes}
+use Rattle.finder_program.proofs.Inheritings.{inherit-says}
 use Rattle.finder_program.proofs.Saying.{asked-named, asked-none, unread-says}
 use Rattle.finder_program.proofs.program.finder.Goals as goal
 
@@ -74,6 +76,32 @@ returns-in-Ok-Some-Evidence-clause-says g c =
       completes = evidence-completes read.search done.result.0 (output_seen g.K.Sink c.args.output.now)
           (output_seen g.K.Sink done.new.output) (disk_seen g.D.Disk c.args.disk) (disk_seen g.D.Disk done.result.1)
           done.ensures.ends done.ensures.cause;
+    })
+
+pub returns-in-Ok-Some-Close-clause-says : goal.returns-in-Ok-Some-Close-clause-says
+returns-in-Ok-Some-Close-clause-says g c =
+    let read = c.in-Ok-Some-Close in
+    let done = c.close_command-status in
+    rw (asked-named read.ensures.asked read.field-0-is read.field-0-0-is)
+    (record {
+      ends = done.ensures.ends;
+      completes = close-completes (MayGive g.C.Clock c.args.clock.now) done.result.0
+          (output_seen g.K.Sink c.args.output.now) (output_seen g.K.Sink done.new.output)
+          (disk_seen g.D.Disk c.args.disk) (disk_seen g.D.Disk done.result.1) done.ensures.ends done.ensures.cause;
+    })
+
+pub returns-in-Ok-Some-Inherit-clause-says : goal.returns-in-Ok-Some-Inherit-clause-says
+returns-in-Ok-Some-Inherit-clause-says g c =
+    let read = c.in-Ok-Some-Inherit in
+    let done = c.inherit_command-status in
+    let before = streams g.S.Source g.K.Sink c.args.input.now c.args.output.now in
+    let after = streams g.S.Source g.K.Sink done.new.input done.new.output in
+    rw (asked-named read.ensures.asked read.field-0-is read.field-0-0-is)
+    (record {
+      ends = inherit-says read.settings (MayGive g.C.Clock c.args.clock.now) done.result.0 before after
+          (disk_seen g.D.Disk c.args.disk) (disk_seen g.D.Disk done.result.1) done.ensures.ends;
+      completes = inherit-completes (MayGive g.C.Clock c.args.clock.now) read.settings done.result.0 before after
+          (disk_seen g.D.Disk c.args.disk) (disk_seen g.D.Disk done.result.1) done.ensures.ends done.ensures.cause;
     })
 
 pub returns-in-Ok-Some-RunJournal-clause-says : goal.returns-in-Ok-Some-RunJournal-clause-says

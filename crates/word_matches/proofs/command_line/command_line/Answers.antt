@@ -1,7 +1,7 @@
 use Rattle.std.proofs.Common.{◌≡◌, ◌∙◌, ap, ap₂, codes, []}
 use Rattle.std.proofs.lemmas.Result.{IfOk-weaker}
 use Rattle.clap.specs.Words.{App, app_of, with_subcommand}
-use Rattle.word_matches.specs.CommandLine.{audit_line, drill_ids, drill_line, empty_line, evidence_ids, follow_ids, follow_line, found_ids, found_line, judge_line, leaf, rates_ids, rates_line, run_leaf, run_line, serve_ids, serve_line, show_ids, show_line, work_ids, work_line}
+use Rattle.word_matches.specs.CommandLine.{audit_line, close_ids, close_line, drill_ids, drill_line, empty_line, evidence_ids, evidence_line, follow_ids, follow_line, found_ids, found_line, inherit_ids, judge_line, leaf, rates_ids, rates_line, run_leaf, run_line, serve_ids, serve_line, show_ids, show_line, work_ids, work_line}
 use Rattle.word_matches.proofs.Commands.{third-denied}
 use Rattle.word_matches.proofs.command_line.command_line.Goals as goal
 
@@ -30,6 +30,10 @@ returns c =
     c.in_ok-line-9.ensures ∙ ap (λ (a : App). with_subcommand a (leaf (codes "drill") drill_ids).top) rates in
     let follow : app_of c.in_ok-line-10.line ≡ follow_line =
     c.in_ok-line-10.ensures ∙ ap (λ (a : App). with_subcommand a (leaf (codes "follow") follow_ids).top) drill in
-    IfOk-weaker c.with_leaf-10.result _ _
-    (λ line is. is ∙ ap (λ (a : App). with_subcommand a (leaf (codes "evidence") evidence_ids).top) follow)
-    c.with_leaf-10.ensures
+    let evidence : app_of c.in_ok-line-11.line ≡ evidence_line =
+    c.in_ok-line-11.ensures ∙ ap (λ (a : App). with_subcommand a (leaf (codes "evidence") evidence_ids).top) follow in
+    let close : app_of c.in_ok-line-12.line ≡ close_line =
+    c.in_ok-line-12.ensures ∙ ap (λ (a : App). with_subcommand a (leaf (codes "close") close_ids).top) evidence in
+    IfOk-weaker c.with_leaf-12.result _ _
+    (λ line is. is ∙ ap (λ (a : App). with_subcommand a (leaf (codes "inherit") inherit_ids).top) close)
+    c.with_leaf-12.ensures

@@ -1,4 +1,4 @@
-use Rattle.std.proofs.Common.{◌≤◌, ◌++◌, length, take, drop, sym, ap, ◌∙◌, arith}
+use Rattle.std.proofs.Common.{◌≤◌, ◌+◌, ◌++◌, length, take, drop, sym, ap, ◌∙◌, arith}
 use Rattle.std.proofs.Math.Seq.{take-add}
 use Rattle.farm_entry.specs.declared.limits.TheConstants.{MAX_ENTRIES}
 use Rattle.farm_laws.proofs.Bounds.{entries-bounded}
@@ -9,7 +9,7 @@ use Rattle.farm_core.proofs.farm.Farm.commit_next.Goals as goal
 pub overflow_add-self : goal.overflow_add-self
 overflow_add-self c =
     let within = c.self.invariant.within in
-    let few : length c.self.inside.kept ≤ MAX_ENTRIES = entries-bounded c.self.inside.kept c.self.invariant.legal in
+    let few : length c.self.inside.kept ≤ MAX_ENTRIES + 1 = entries-bounded c.self.inside.kept c.self.invariant.legal in
     omega arith
 
 pub returns-clause-history : goal.returns-clause-history

@@ -38,6 +38,7 @@ pub with_entry-counted-requires : goal.with_entry-counted-requires
 with_entry-counted-requires c =
     let s = c.self.inside in
     let H : List Entry = s.ledger in
+    let e : Entry = c.args.entry in
     let h = c.self.invariant in
     let some : 0 < length H = some-legal H h.legal in
     let count : c.len-entries.result ≡ length s.rows.items = omega (arith, c.len-entries.ensures) in
@@ -47,7 +48,8 @@ with_entry-counted-requires c =
     (omega (arith, some, count, h.rows.as_many)) in
     let is : c.totals.result ≡ totals H =
     c.totals.ensures ∙ row-totals H c.index.result.now c.len-entries.result row (count ∙ h.rows.as_many) in
-    subst AreFew (sym is) (few H h.legal)
+    subst AreFew (sym is)
+    (few H e h.legal (subst (λ (X : List Entry). IsLegal (X ++ e ∷ [])) (sym c.self.view_is) c.requires))
 
 pub with_standings-totals-requires : goal.with_standings-totals-requires
 with_standings-totals-requires c =
@@ -165,7 +167,8 @@ invariant_of-self-in-Err c =
     record {
       legal = subst IsLegal (sym kept) h.legal;
       rows =
-          beside-same row_of H c.push.new.self s.rows.items c.reserve.new.self.items h.rows kept c.in_ok-reserve.ensures.items;
+          beside-same row_of H c.push.new.self s.rows.items c.reserve.new.self.items h.rows kept
+          c.in_ok-reserve.ensures.items;
       places = c.in_ok-reserve-2.ensures.items ∙ h.places ∙ ap (order_places 0) (sym kept);
       searches =
           searches-popped H e c.add.new.self c.take_back.new.self c.kind_of-kind.result c.len-entries.result more

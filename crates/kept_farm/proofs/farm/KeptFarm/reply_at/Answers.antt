@@ -21,7 +21,8 @@ reply_with-requires c =
     let e : Entry = c.index-history-place.result in
     let below : k < length L = omega (arith, c.if-place-history.false) in
     let read : slice_get L k ≡ Some e = slice_get_read L (length L) k e refl below c.index-history-place.is in
-    let there : slice_get H k ≡ Some e = subst (λ (X : List Entry). slice_get X k ≡ Some e) c.history-history.ensures.history read in
+    let there : slice_get H k ≡ Some e =
+    subst (λ (X : List Entry). slice_get X k ≡ Some e) c.history-history.ensures.history read in
     λ o opens. opened-fits H k e o c.history-history.ensures.legal there
     (ap (λ (x : Entry). opening_in x.what) c.index-history-place.is ∙ opens)
 
@@ -34,7 +35,8 @@ returns c =
     let e : Entry = c.index-history-place.result in
     let below : k < length L = omega (arith, c.if-place-history.false) in
     let read : slice_get L k ≡ Some e = slice_get_read L (length L) k e refl below c.index-history-place.is in
-    let there : slice_get H k ≡ Some e = subst (λ (X : List Entry). slice_get X k ≡ Some e) c.history-history.ensures.history read in
+    let there : slice_get H k ≡ Some e =
+    subst (λ (X : List Entry). slice_get X k ≡ Some e) c.history-history.ensures.history read in
     let inside : k < length I =
     subst (λ (X : List Entry). k < length X) (c.history-history.ensures.history ∙ sym c.self.view_is) below in
     let stood : c.index.result.now.standing ≡ last_standing (take (k + 1) H) =

@@ -20,8 +20,8 @@ returns c =
     ap (λ (lines : List RunLine). record { search = o.search; from = from; runs = lines })
     (c.of.ensures
     ∙ c.in_ok-runs.ensures
-    ∙ ap (λ (X : List Entry). run_lines_at X o c.page_of-places.result.now) c.books.ensures
+    ∙ ap (λ (X : List Entry). run_lines_at X o c.lines_from-places.result.now) c.books.ensures
     ∙ ap (run_lines_at H o)
-    (c.page_of-places.ensures
+    (c.lines_from-places.ensures
     ∙ ap (lines_from from) (c.runs_in.ensures ∙ ap runs_in (c.row.ensures ∙ ap (row_numbered o.search) rows)))
     ∙ runs-paged H o from legal)

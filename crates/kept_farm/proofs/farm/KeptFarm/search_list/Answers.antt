@@ -17,6 +17,6 @@ returns c =
     ap (λ (lines : List SearchLine). record { from = from; searches = lines })
     (c.of.ensures
     ∙ c.in_ok-lines.ensures
-    ∙ ap (λ (X : List Entry). search_lines_at X c.page_of-rows.result.now) c.self.view_is
-    ∙ ap (search_lines_at H) (c.page_of-rows.ensures ∙ ap (lines_from from) (c.rows.ensures ∙ rows))
+    ∙ ap (λ (X : List Entry). search_lines_at X c.lines_from-rows.result.now) c.self.view_is
+    ∙ ap (search_lines_at H) (c.lines_from-rows.ensures ∙ ap (lines_from from) (c.rows.ensures ∙ rows))
     ∙ list-paged H from legal)

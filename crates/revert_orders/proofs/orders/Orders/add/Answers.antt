@@ -17,5 +17,12 @@ invariant_of-self c =
       linked = linked.linked;
       apart = subst IsOnePerCommit (sym linked.orders)
           (IsOnePerCommit-push (orders_in items) c.args.draft.commit c.args.draft.day c.self.invariant.apart lacks);
-      few = omega (arith, linked.len, length-orders_in items, ap (λ (book : Book). length book.orders) c.self.view_is, c.requires.number);
+      few = omega (
+        arith,
+        linked.len,
+        length-orders_in items,
+        ap (λ (book : Book). length book.orders) c.self.view_is,
+        c.requires.few,
+      );
+      given_here = omega (arith, linked.len, c.self.invariant.given_here);
     }

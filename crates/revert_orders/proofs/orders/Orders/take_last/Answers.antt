@@ -15,4 +15,5 @@ invariant_of-self c =
       apart = IsOnePerCommit-front (orders_in c.unlink_last-last.new.items.items) (ordered last.commit last.day)
           (subst IsOnePerCommit left.orders c.self.invariant.apart);
       few = omega (arith, left.len, c.self.invariant.few);
+      given_here = omega (arith, left.len, c.saturating_sub-self-inside.ensures, c.self.invariant.given_here);
     }

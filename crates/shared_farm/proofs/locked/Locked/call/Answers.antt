@@ -4,6 +4,7 @@ use Rattle.farm_store.specs.Answering.{as_batch}
 use Rattle.farm_store.specs.State.{StoreState}
 use Rattle.fault_types.specs.Counts.{Rose}
 use Rattle.shared_farm.specs.Answered.{GoesOn}
+use Rattle.shared_farm.proofs.ByCommands.{by-says}
 use Rattle.shared_farm.proofs.Recorded.{cause-as_batch, goes-on_by, says-decided, says-grown}
 use Rattle.shared_farm.proofs.Resting.{came-on}
 use Rattle.shared_farm.proofs.locked.Locked.call.Goals as goal
@@ -29,7 +30,9 @@ invariant_of-self g c =
       ap (λ p. p.posts) now,
       ap (λ p. p.seen) now,
       came-on g.D.Disk g.B.Beginning.begun (λ P. OnOk (as_batch c.call-result.result) P) c.self.inside.store
-          c.call-result.new.self c.self.invariant.3 e.keeps (decided g c),
+          c.call-result.new.self c.self.invariant.3 e.keeps (decided g c)
+          (by-says (record { command = c.args.command.now; at = c.args.at } ∷ [])
+          (as_batch c.call-result.result) c.self.inside.store c.call-result.new.self e.says),
     )
 
 pub returns-clause-goes_on : goal.returns-clause-goes_on

@@ -3,6 +3,7 @@ use Rattle.std.specs.Prelude.{OnOk}
 use Rattle.farm_store.specs.State.{StoreState}
 use Rattle.fault_types.specs.Counts.{Rose}
 use Rattle.shared_farm.specs.Answered.{GoesOn}
+use Rattle.shared_farm.proofs.ByCommands.{by-says}
 use Rattle.shared_farm.proofs.Recorded.{goes-on_by, says-decided, says-grown}
 use Rattle.shared_farm.proofs.Resting.{came-on}
 use Rattle.shared_farm.proofs.locked.Locked.call_batch.Goals as goal
@@ -26,7 +27,9 @@ invariant_of-self g c =
       ap (λ p. p.posts) now,
       ap (λ p. p.seen) now,
       came-on g.D.Disk g.B.Beginning.begun (λ P. OnOk c.call_batch-result.result P) c.self.inside.store
-          c.call_batch-result.new.self c.self.invariant.3 e.keeps (decided g c),
+          c.call_batch-result.new.self c.self.invariant.3 e.keeps (decided g c)
+          (by-says c.args.asks.now c.call_batch-result.result c.self.inside.store
+          c.call_batch-result.new.self e.says),
     )
 
 pub returns-clause-goes_on : goal.returns-clause-goes_on

@@ -3,6 +3,7 @@ use Rattle.std.specs.Prelude.{OnOk}
 use Rattle.farm_store.specs.State.{StoreState}
 use Rattle.fault_types.specs.Counts.{Rose}
 use Rattle.shared_farm.specs.Answered.{GoesOn}
+use Rattle.shared_farm.proofs.ByCommands.{by-together}
 use Rattle.shared_farm.proofs.Recorded.{goes-on_by, together-decided, together-grown}
 use Rattle.shared_farm.proofs.Resting.{came-on}
 use Rattle.shared_farm.proofs.locked.Locked.call_together.Goals as goal
@@ -27,7 +28,9 @@ invariant_of-self g c =
       ap (λ p. p.posts) now,
       ap (λ p. p.seen) now,
       came-on g.D.Disk g.B.Beginning.begun (λ P. OnOk c.call_together-result.result P) c.self.inside.store
-          c.call_together-result.new.self c.self.invariant.3 e.keeps (decided g c),
+          c.call_together-result.new.self c.self.invariant.3 e.keeps (decided g c)
+          (by-together c.args.parts.now c.call_together-result.new.parts c.call_together-result.result
+          c.self.inside.store c.call_together-result.new.self e.says),
     )
 
 pub returns-clause-goes_on : goal.returns-clause-goes_on

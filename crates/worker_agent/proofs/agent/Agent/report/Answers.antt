@@ -1,4 +1,4 @@
-use Rattle.std.proofs.Common.{Bool, List, ℕ, Ok, Err, ap, subst, sym, ◌∙◌}
+use Rattle.std.proofs.Common.{Bool, List, ℕ, Ok, Err, ap, subst, ◌∙◌}
 use Rattle.std.proofs.lemmas.Result.{err_from_is_err_and}
 use Rattle.http_exchange.specs.Sending.{SendsOnce}
 use Rattle.worker_wire.specs.Requests.{report_request}
@@ -34,11 +34,11 @@ returns-in_err-event-clause-says g c = λ worker runner keys.
     (asks-report worker c.args.self.now.core.last c.args.run c.args.tested c.requires)
     (subst (λ (r : List ℕ). SendsOnce r (g.N.Network.told c.args.network.now) (g.N.Network.told c.send_once.new.network)
     (Ok c.in_ok-sent.sent)) (c.deref.ensures.value ∙ c.in_ok-request.ensures) c.in_ok-sent.ensures.sends)
-    (λ _. sym c.in_err-event.ensures))
+    c.in_err-event.ensures.ended)
 
 pub note-requires : goal.note-requires
 note-requires g c =
-    (report-is c.args.run c.args.tested c.in_ok-sent.sent c.in_ok-event.event (sym c.in_ok-event.ensures)).other
+    (report-is c.args.run c.args.tested c.in_ok-sent.sent c.in_ok-event.event c.in_ok-event.ensures.read).other
 
 pub returns-clause-says : goal.returns-clause-says
 returns-clause-says g c = λ worker runner keys.
@@ -48,6 +48,6 @@ returns-clause-says g c = λ worker runner keys.
     (asks-report worker c.args.self.now.core.last c.args.run c.args.tested c.requires)
     (subst (λ (r : List ℕ). SendsOnce r (g.N.Network.told c.args.network.now) (g.N.Network.told c.send_once.new.network)
     (Ok c.in_ok-sent.sent)) (c.deref.ensures.value ∙ c.in_ok-request.ensures) c.in_ok-sent.ensures.sends)
-    (sym c.in_ok-event.ensures)
+    c.in_ok-event.ensures.read
     (c.note.ensures
     ∙ ap (λ (b : Bool). agent_after c.args.self.now c.args.self.now.lease c.in_ok-event.event b) c.is_network.ensures)

@@ -1,6 +1,6 @@
 use Rattle.std.proofs.Common.{◌∙◌, ℕ, ap, length, min}
 use Rattle.kept_farm.proofs.Looked.{page-taken}
-use Rattle.kept_farm.proofs.run_page.page_of.Goals as goal
+use Rattle.kept_farm.proofs.run_page.lines_from.Goals as goal
 
 pub returns : goal.returns
 returns g c =
