@@ -3,7 +3,7 @@
 
     bench/succession.py [FARMS [SEARCHES [SEED]]]      10 farms of 2000 searches, seed 1
 
-Run it after `./finder build`; it needs `cc`. Each farm is worked to its end: in nine of ten searches a culprit is confirmed, which one
+Run it after `./finder build`; it needs `cc`, and FINDER a file named culprit_finder. Each farm is worked to its end: in nine of ten searches a culprit is confirmed, which one
 time in two was one before, in this farm or in an earlier one. `./finder succeed` then hands the farm over. It is killed at each call by
 which `close`, `inherit` or `audit` opens, writes, cuts, syncs or closes a file, writes also by half (killing_calls.c), each time over
 copies of its own, and called again: the new farm has to begin with each order once. At the end no commit may have two orders in all
@@ -111,7 +111,7 @@ def kills(folder, old, lines, library):
                 ended = succeed(copy, new)
                 assert ended.returncode == 0, (word, at, ended.stderr)
                 assert carried(new) == lines and handed(copy) == lines, (word, at)
-            assert at > 3, f"{word} makes no calls: is the library loaded?"
+            assert at > 3, f"{word} makes no calls: is the library loaded, and the program's file named culprit_finder?"
     return count
 
 
