@@ -1,6 +1,6 @@
 //! A leader, as a store in memory.
 
-ghost use Rattle.std.specs.Prelude.{◌≤◌, All, IsTrue, length};
+ghost use Rattle.std.specs.Prelude.{◌≡◌, ◌≤◌, [], All, IfOk, IsTrue, length};
 ghost use Rattle.entry_codec.specs.Grammar.{IsWithinLimits};
 ghost use Rattle.entry_codec.specs.Spelling.{spelling};
 ghost use Rattle.farm_journal.specs.declared.layout.TheConstants.{MAX_PAYLOAD};
@@ -9,7 +9,7 @@ use entry_codec::write_entries;
 use farm_disk::{CalmDisk, DiskFail, MemDisk};
 use farm_entry::{Entry, Settings};
 use farm_journal::{Journal, MAX_PAYLOAD};
-use farm_store::Store;
+use farm_store::{CloseFault, Store};
 use farm_types::{MOMENT_MIN_MS, Moment};
 use farm_wire::line_of;
 use journal_follow::Follower;
@@ -58,6 +58,29 @@ impl Leader {
     }
 }
 
+/// A leader over a journal of one record that holds the entries with these digits.
+pub(crate) fn holding(alloc: Global, digits: &str) -> Result<Leader, AllocError> {
+    match hex::decode(alloc, digits) {
+        Ok(payload) => led(alloc, payload),
+        Err(_) => Err(AllocError),
+    }
+}
+
+/// A leader with the entries of another, closed at a moment in milliseconds, and what came of that.
+pub(crate) fn closing(
+    alloc: Global,
+    leader: &Leader,
+    ms: u64,
+) -> Result<(Leader, Result<(), CloseFault>), AllocError> {
+    let Ok(at) = Moment::of(ms) else {
+        return Err(AllocError);
+    };
+    match write_entries(alloc, leader.entries(1, u32::MAX)) {
+        Ok(payload) => closing_at(alloc, payload, at),
+        Err(_) => Err(AllocError),
+    }
+}
+
 /// A follower over a disk that holds so many of the leader's entries, on which these calls fail from then on.
 pub(crate) fn follower_of(
     alloc: Global,
@@ -100,9 +123,14 @@ pub(crate) fn fits(alloc: Global, entries: &[Entry]) -> bool
 fn spelled(alloc: Global, entries: &[Entry]) -> Result<Vec<u8>, AllocError>
     requires { All (λ entry. IsWithinLimits entry.what) entries.now }
 {
-    let Ok(payload) = write_entries(alloc, entries) else {
-        return Err(AllocError);
-    };
+    match write_entries(alloc, entries) {
+        Ok(payload) => recorded(alloc, payload),
+        Err(_) => Err(AllocError),
+    }
+}
+
+/// The bytes of a journal of one record with this payload.
+fn recorded(alloc: Global, payload: Vec<u8>) -> Result<Vec<u8>, AllocError> {
     if payload.is_empty() {
         return Err(AllocError);
     }
@@ -112,5 +140,31 @@ fn spelled(alloc: Global, entries: &[Entry]) -> Result<Vec<u8>, AllocError>
     match Journal::create(alloc, CalmDisk::of(Vec::new(alloc)), payload) {
         Ok(journal) => journal.into_disk().bytes().to_vec(alloc),
         Err(_) => Err(AllocError),
+    }
+}
+
+/// A leader over a journal of one record with this payload.
+fn led(alloc: Global, payload: Vec<u8>) -> Result<Leader, AllocError>
+    ensures { IfOk result (λ leader. leader.store.pending ≡ []) }
+{
+    let bytes = recorded(alloc, payload)?;
+    match Store::open_on(alloc, CalmDisk::of(bytes)) {
+        Ok(store) => Ok(Leader { store }),
+        Err(_) => Err(AllocError),
+    }
+}
+
+/// The same, closed at a moment, and what came of that.
+fn closing_at(
+    alloc: Global,
+    payload: Vec<u8>,
+    at: Moment,
+) -> Result<(Leader, Result<(), CloseFault>), AllocError> {
+    match led(alloc, payload) {
+        Ok(mut leader) => {
+            let closed = leader.store.close(alloc, at);
+            Ok((leader, closed))
+        }
+        Err(fault) => Err(fault),
     }
 }

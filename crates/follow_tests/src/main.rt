@@ -1,8 +1,9 @@
 //! Plays the cases of standard input over followers in memory, and prints what each comes to. A line that begins with
 //! `{` is a command of a script, whose entry the leader holds from then on, as a journal that was founded at the first
-//! moment. Any other line is a case: a word, how many of the leader's entries the follower holds at first, with
-//! `daily` for a journal that was founded with another limit, and the words of what follows. `F:N` is a page of the
-//! leader's N entries from its entry F on.
+//! moment. `close MS` closes its farm at this moment, unless it is busy. `holds`, and hexadecimal digits, gives the
+//! leader another journal, with the entries that these spell. Any other line is a case: a word, how many of the
+//! leader's entries the follower holds at first, with `daily` for a journal that was founded with another limit, and
+//! the words of what follows. `F:N` is a page of the leader's N entries from its entry F on.
 //!
 //! - `follow HELD ROUNDS`, and the answers to its asks: pages, `F:N@G` for a page that says it begins with entry G,
 //!   statuses as `503`, `cut` for an answer that isn't whole, and `bad` for a page whose digits spell no entries;
@@ -16,8 +17,9 @@ mod leader;
 mod takes;
 mod words;
 
+use farm_store::CloseFault;
 use follows::play_follow;
-use leader::{Leader, founded};
+use leader::{Leader, closing, founded, holding};
 use std::alloc::Global;
 use std::io;
 use takes::play_take;
@@ -28,9 +30,29 @@ fn play(rt: &impl Print, alloc: Global, leader: &mut Leader, line: &str) -> io::
     match name {
         "follow" => play_follow(rt, alloc, leader, rest),
         "take" => play_take(rt, alloc, leader, rest),
+        "close" => play_close(rt, alloc, leader, rest),
+        "holds" => play_holds(alloc, leader, rest),
         _ if line.starts_with("{") => leader.record(alloc, line),
         _ => println!(rt; "{line}"),
     }
+}
+
+/// Gives the leader another journal.
+fn play_holds(alloc: Global, leader: &mut Leader, digits: &str) -> io::Result<()> {
+    *leader = holding(alloc, digits)?;
+    Ok(())
+}
+
+/// Prints what closing the leader's farm comes to.
+fn play_close(rt: &impl Print, alloc: Global, leader: &mut Leader, at: &str) -> io::Result<()> {
+    let (left, closed) = closing(alloc, leader, at.parse::<u64>().unwrap_or(0))?;
+    *leader = left;
+    let outcome = match closed {
+        Ok(()) => "closed",
+        Err(CloseFault::Busy) => "busy",
+        Err(_) => "not closed",
+    };
+    println!(rt; "close {at}: {outcome}")
 }
 
 fn main(rt: HostRuntime) -> io::Result<()> {

@@ -9,7 +9,7 @@ use std::alloc::{AllocError, Global};
 use std::io;
 
 /// The most calls of a disk that a case makes.
-const MOST_CALLS: u64 = 200;
+pub(crate) const MOST_CALLS: u64 = 200;
 
 /// Asks the words of a script, each by a call or, in batches of three, by one call each. Answers how many entries stand
 /// in the history for sure by then: it ends at the first fault.
@@ -46,7 +46,11 @@ fn is_answered<D: Disk>(alloc: Global, store: &mut Store<D>, asks: &[Ask]) -> bo
 }
 
 /// The whole history of a script.
-fn whole_store(alloc: Global, script: &str, batches: bool) -> Result<Store<CalmDisk>, AllocError> {
+pub(crate) fn whole_store(
+    alloc: Global,
+    script: &str,
+    batches: bool,
+) -> Result<Store<CalmDisk>, AllocError> {
     let (settings, at) = founding(false)?;
     let Ok(mut store) = Store::found(alloc, CalmDisk::of(Vec::new(alloc)), settings, at) else {
         return Err(AllocError);
@@ -117,6 +121,26 @@ fn all_hold(
     Ok((good, failed))
 }
 
+/// Prints what was found with a fault at a call, where that ends a case: something wasn't held, or there is no such
+/// call. Answers whether it ends it.
+pub(crate) fn print_call_found(
+    rt: &impl Print,
+    entries: usize,
+    call: u64,
+    good: bool,
+    failed: bool,
+) -> io::Result<bool> {
+    if !good {
+        println!(rt; "call {call}: not held")?;
+        return Ok(true);
+    }
+    if !failed {
+        println!(rt; "entries {entries}, each held at each of the calls before {call}")?;
+        return Ok(true);
+    }
+    Ok(false)
+}
+
 /// Plays a script with a fault at each call in turn, by its whole history.
 fn play_each(
     rt: &impl Print,
@@ -128,12 +152,8 @@ fn play_each(
 ) -> io::Result<()> {
     for call in 1..MOST_CALLS {
         let (good, failed) = all_hold(alloc, file, script, batches, call, whole)?;
-        if !good {
-            return println!(rt; "call {call}: not held");
-        }
-        if !failed {
-            let entries = whole.len();
-            return println!(rt; "entries {entries}, each held at each of the calls before {call}");
+        if print_call_found(rt, whole.len(), call, good, failed)? {
+            return Ok(());
         }
     }
     println!(rt; "more calls")

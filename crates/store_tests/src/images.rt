@@ -52,3 +52,32 @@ pub(crate) fn held_in_images(
         low_0.max(low_7).max(high_0).max(high_7),
     ))
 }
+
+/// Whether an image holds a whole history, or none where so few entries are sure: it is unborn then.
+fn holds_so(
+    alloc: Global,
+    disk: &MemDisk,
+    size: u64,
+    fill: u8,
+    sure: usize,
+    whole: &[Entry],
+) -> bool {
+    match held_in_image(alloc, disk, size, fill, whole) {
+        Some(0) => sure == 0,
+        Some(count) => count == whole.len(),
+        None => false,
+    }
+}
+
+/// Whether each of those images holds a whole history, or, where no entry is sure, none.
+pub(crate) fn holds_all_or_none(
+    alloc: Global,
+    disk: &MemDisk,
+    sure: usize,
+    whole: &[Entry],
+) -> bool {
+    holds_so(alloc, disk, 0, 0, sure, whole)
+        && holds_so(alloc, disk, 0, 7, sure, whole)
+        && holds_so(alloc, disk, u64::MAX, 0, sure, whole)
+        && holds_so(alloc, disk, u64::MAX, 7, sure, whole)
+}

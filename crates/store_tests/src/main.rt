@@ -3,15 +3,19 @@
 //! it was worked out by hand.
 #![tactic(auto)]
 
+mod closing;
 mod commands;
 mod faults;
 mod images;
+mod inheriting;
 mod openings;
 mod plays;
 mod sharing;
 mod words;
 
+use closing::{play_close, play_close_faults};
 use faults::play_faults;
+use inheriting::{play_inherit, play_inherit_faults};
 use openings::play_open;
 use plays::{play_batches, play_calls, play_found};
 use sharing::play_together;
@@ -30,6 +34,10 @@ fn play(rt: &impl Print, alloc: Global, line: &str) -> io::Result<()> {
         "together" => play_together(rt, alloc, first, second),
         "calls_with_faults" => play_faults(rt, alloc, false, first, second),
         "batches_with_faults" => play_faults(rt, alloc, true, first, second),
+        "close" => play_close(rt, alloc, rest),
+        "close_with_faults" => play_close_faults(rt, alloc, rest),
+        "inherit" => play_inherit(rt, alloc, first, second),
+        "inherit_with_faults" => play_inherit_faults(rt, alloc, first, second),
         _ => println!(rt; "{line}"),
     }
 }

@@ -10,6 +10,14 @@ use farm_types::Moment;
 use std::alloc::{AllocError, Global};
 use std::io;
 
+/// A moment.
+pub(crate) fn moment(ms: u64) -> Result<Moment, AllocError> {
+    match Moment::of(ms) {
+        Ok(at) => Ok(at),
+        Err(_) => Err(AllocError),
+    }
+}
+
 /// With what the store of a case is founded, and when: leases of a minute; ten orders a day and UTC, or one and an
 /// hour east of it; at the first moment.
 pub(crate) fn founding(east: bool) -> Result<(Settings, Moment), AllocError> {
@@ -163,7 +171,7 @@ pub(crate) fn print_held(rt: &impl Print, alloc: Global, disk: MemDisk) -> io::R
 }
 
 /// Asks a word of a script by a single call, and prints the answer.
-fn print_call<D: Disk>(
+pub(crate) fn print_call<D: Disk>(
     rt: &impl Print,
     alloc: Global,
     store: &mut Store<D>,
