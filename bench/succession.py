@@ -3,11 +3,12 @@
 
     bench/succession.py [FARMS [SEARCHES [SEED]]]      10 farms of 2000 searches, seed 1
 
-Run it after `./finder build`; it needs `cc`, and FINDER a file named culprit_finder. Each farm is worked to its end: in nine of ten searches a culprit is confirmed, which one
-time in two was one before, in this farm or in an earlier one. `./finder succeed` then hands the farm over. It is killed at each call by
-which `close`, `inherit` or `audit` opens, writes, cuts, syncs or closes a file, writes also by half (killing_calls.c), each time over
-copies of its own, and called again: the new farm has to begin with each order once. At the end no commit may have two orders in all
-farms, and no day more orders than the limit of the farm in which the last of them was taken.
+Run it after `./finder build`; it needs `cc`, and FINDER a file named culprit_finder. Each farm is worked to its end: in nine of
+ten searches a culprit is confirmed, which one time in two was one before, in this farm or in an earlier one. `./finder succeed`
+then hands the farm over. It is killed at each call by which `close`, `inherit` or `audit` opens, writes, cuts, syncs or closes
+a file, writes also by half (killing_calls.c), each time over copies of its own, and called again: the new farm has to begin
+with each order once. At the end no commit may have two orders in all farms, and no day more orders than the limit of the farm
+in which the last of them was taken.
 """
 import json
 import os
