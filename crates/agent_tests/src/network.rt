@@ -1,5 +1,6 @@
 //! A network whose one peer is the service, and that loses, repeats and delays what is sent by a plan.
 ghost use Rattle.std.specs.Prelude.{◌≡◌, ◌≤◌, ◌<◌, None, false, length, refl, IfSome};
+ghost use Rattle.link_io.specs.Notes.{no_output};
 ghost use Rattle.fault_types.specs.Counts.{Rose, count_with};
 ghost use Rattle.link_io.specs.Took.{IfTook};
 ghost use Rattle.agent_tests.specs.Links.{link_ended, link_faults, network_faults};
@@ -9,6 +10,7 @@ use farm_types::Memory;
 use http_words::StatusCode;
 use link_io::{Link, MemSource, Put, Sink, Source, Took};
 use net_io::{Accepted, Connected, Network};
+use past_moments::Passed;
 use std::alloc::Global;
 
 /// What becomes of a connection, by the letter of the plan.
@@ -126,7 +128,7 @@ impl<'f> Source for ServiceLink<'f> {
 
     ghost ended = { link_ended };
 
-    ghost aside = { λ _. None };
+    ghost aside = { λ _. no_output };
 
     ghost count = { link_faults };
 
@@ -150,7 +152,7 @@ impl<'f> Source for ServiceLink<'f> {
 impl<'f> Sink for ServiceLink<'f> {
     ghost written = { λ _. None };
 
-    ghost aside = { λ l. record { left = None; taken = None; ended = link_ended l } };
+    ghost aside = { λ l. record { left = None; taken = None; ended = link_ended l; notes = None } };
 
     ghost count = { link_faults };
 
@@ -167,7 +169,11 @@ impl<'f> Sink for ServiceLink<'f> {
 }
 
 impl<'f> Link for ServiceLink<'f> {
+    type Over = Passed;
+
     fn note_idle(&mut self) {}
+
+    fn note_over(&mut self, _over: &Passed) {}
 
     ghost one_count = { λ _. refl };
 
@@ -237,6 +243,8 @@ impl<'f> ServiceNetwork<'f> {
 }
 
 impl<'f> Network for ServiceNetwork<'f> {
+    type Over = Passed;
+
     type End = ServiceLink<'f>;
 
     ghost told = { λ _. None };

@@ -26,6 +26,8 @@ impl Stands for Counter {
     ghost count = { λ _. 0 };
 
     ghost pending = { λ _. [] };
+
+    ghost log = { λ _. [] };
 }
 
 /// One more.

@@ -1,5 +1,5 @@
 -- Items that were answered, and more items behind them: there are steps to which those may come too.
-use Rattle.std.proofs.Common.{ℕ, ◌≡◌, ◌≤◌, Bool, true, false, List, [], ◌∷◌, ◌++◌, length, refl, sym, ap, ◌∙◌, subst, append-nil}
+use Rattle.std.proofs.Common.{ℕ, ◌≡◌, ◌≤◌, ◌+◌, arith, Bool, true, false, List, [], ◌∷◌, ◌++◌, length, refl, sym, ap, ◌∙◌, subst, append-nil}
 use Rattle.farm_entry.specs.Legal.{IsLegal}
 use Rattle.farm_entry.specs.declared.entry.Entry.{Entry}
 use Rattle.connection_laws.specs.Moments.{Given}
@@ -7,7 +7,7 @@ use Rattle.http_requests.specs.Items.{Item, Items, End}
 use Rattle.link_io.specs.Links.{LinkState}
 use Rattle.link_io.specs.declared.source.TheConstants.{INPUT_LIMIT}
 use Rattle.list_prefix.specs.Prefix.{IsPrefix}
-use Rattle.list_prefix.proofs.Prefixes.{IsPrefix-refl, IsPrefix-trans}
+use Rattle.list_prefix.proofs.Prefixes.{IsPrefix-length, IsPrefix-refl, IsPrefix-trans}
 use Rattle.connection_laws.specs.Answers.{transcript}
 use Rattle.connection_laws.specs.Held.{HeldFrom}
 use Rattle.connection_laws.specs.Kinds.{Kind, faulty, commands, totals, log, kind_of}
@@ -17,6 +17,8 @@ use Rattle.connection_laws.specs.Progress.{Progress, IsWithin, progress_after, p
 use Rattle.connection_laws.specs.Serving.{HasPassed, IsKept, IsStopped, IsWaiting, OnReadFault}
 use Rattle.connection_laws.specs.declared.served.ServeFault.{ServeFault}
 use Rattle.connection_laws.specs.Steps.{AreSteps, IsStep, MayComeTo}
+use Rattle.connection_laws.specs.Told.{AreSaid, Saying, if_put}
+use Rattle.connection_laws.proofs.Said.{AreSaid-append, AreSaid-unput}
 use Rattle.connection_laws.proofs.Transcripts.{transcript-append}
 use Rattle.connection_laws.proofs.Progress.{progress_after-append, recorded_places-append, steps-append}
 
@@ -148,6 +150,19 @@ with_further-begins gives start put items more steps g p =
     IsPrefix-trans put (transcript items steps) (transcript (items ++ more) (steps ++ rest)) p
     (transcript more rest, transcript-append gives start items more steps rest g)
 
+-- of them no byte was put
+pub with_further-told : (gives : Given → Type 0) (said : Saying) (start : Progress) (put : List ℕ)
+    (items more : List Item) (steps : List Step)
+    → AreSteps gives start items steps → IsPrefix put (transcript items steps)
+    → AreSaid (if_put (length put) said) 0 items steps
+    → AreSaid (if_put (length put) said) 0 (items ++ more) (with_further start steps more)
+with_further-told gives said start put items more steps g p told =
+    let le : length put ≤ length (transcript items steps) = IsPrefix-length put (transcript items steps) p in
+    AreSaid-append gives start (if_put (length put) said) 0 items more steps
+    (further_steps (progress_after start steps) more) g told
+    (AreSaid-unput said (length put) (0 + length (transcript items steps)) more
+    (further_steps (progress_after start steps) more) (omega (arith, le)))
+
 -- they record nothing, and the totals stay
 pub with_further-kept : (start : Progress) (steps : List Step) (more : List Item) (mine kept : List ℕ)
     (read : List Entry)
@@ -168,31 +183,33 @@ with_further-kept start steps more mine kept read k =
     }
 
 -- What was put for some items is a prefix of the answers to all.
-pub further-held : (start : Progress) (final : Mark) (gives : Given → Type 0) (taken put : List ℕ) (over : Bool)
-    (items more : List Item) (steps : List Step) (end : End) → Items taken (items ++ more) end
+pub further-held : (start : Progress) (final : Mark) (gives : Given → Type 0) (said : Saying) (taken put : List ℕ)
+    (over : Bool) (items more : List Item) (steps : List Step) (end : End) → Items taken (items ++ more) end
     → AreSteps gives start items steps
     → IsLegal start.totals → IsWithin (progress_after start steps) final → IsPrefix put (transcript items steps)
-    → HeldFrom start final gives taken put over false
-further-held start final gives taken put over items more steps end i g legal w p = record {
+    → AreSaid (if_put (length put) said) 0 items steps
+    → HeldFrom start final gives said taken put over false
+further-held start final gives said taken put over items more steps end i g legal w p told = record {
   items = items ++ more;
   steps = with_further start steps more;
   are_steps = with_further-steps gives start items more steps g legal;
   ends = with_further-within start final more steps w;
   is_put = record { end = end; items_are = i; begins = with_further-begins gives start put items more steps g p };
+  told = with_further-told gives said start put items more steps g p told;
 }
 
 -- The serving stopped there.
 pub further-stopped : (fault : ServeFault) (start : Progress) (final : Mark) (gives : Given → Type 0)
-    (old new : LinkState) (taken put : List ℕ)
+    (said : Saying) (old new : LinkState) (taken put : List ℕ)
     (items more : List Item) (steps : List Step) (end : End) (mine kept : List ℕ) (read : List Entry)
     → HasPassed old new taken put → length taken ≤ INPUT_LIMIT
     → Items taken (items ++ more) end → AreSteps gives start items steps → IsLegal start.totals
     → IsWithin (progress_after start steps) final → IsPrefix put (transcript items steps)
-    → IsKept start steps mine kept read
-    → OnReadFault fault (IsWaiting start final gives old new mine kept read)
-    → IsStopped fault start final gives old new mine kept read
-further-stopped fault start final gives old new taken put items more steps end mine kept read passed most i g legal w p
-    k waits = record {
+    → IsKept start steps mine kept read → AreSaid (if_put (length put) said) 0 items steps
+    → OnReadFault fault (IsWaiting start final gives said old new mine kept read)
+    → IsStopped fault start final gives said old new mine kept read
+further-stopped fault start final gives said old new taken put items more steps end mine kept read passed most i g legal
+    w p k told waits = record {
       taken = taken;
       put = put;
       passed = passed;
@@ -203,6 +220,7 @@ further-stopped fault start final gives old new taken put items more steps end m
         are_steps = with_further-steps gives start items more steps g legal;
         ends = with_further-within start final more steps w;
         is_put = record { end = end; items_are = i; begins = with_further-begins gives start put items more steps g p };
+        told = with_further-told gives said start put items more steps g p told;
       };
       keeps = with_further-kept start steps more mine kept read k;
       waiting = waits;

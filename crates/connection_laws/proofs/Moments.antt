@@ -8,6 +8,7 @@ use Rattle.connection_laws.specs.Marks.{Mark}
 use Rattle.connection_laws.specs.Outcomes.{Outcome, faulted, misread, answered, counted, copied, failed, failed_too, unread, uncalled, Step}
 use Rattle.connection_laws.specs.Progress.{Progress, progress_past}
 use Rattle.connection_laws.specs.Steps.{AreSteps, IsAsked, MayComeTo}
+use Rattle.connection_laws.specs.Told.{Saying}
 
 module _ (gives other : Given → Type 0) (more : (given : Given) → gives given → other given) where
   asked-more : (item : Item) (ask : Ask) → IsAsked gives item ask → IsAsked other item ask
@@ -44,12 +45,13 @@ module _ (gives other : Given → Type 0) (more : (given : Given) → gives give
     steps-more (progress_past c step.outcome) items steps g.1,
   )
 
-  pub held-more : (start : Progress) (final : Mark) (taken put : List ℕ) (over whole : Bool)
-      → HeldFrom start final gives taken put over whole → HeldFrom start final other taken put over whole
-  held-more start final taken put over whole h = record {
+  pub held-more : (start : Progress) (final : Mark) (said : Saying) (taken put : List ℕ) (over whole : Bool)
+      → HeldFrom start final gives said taken put over whole → HeldFrom start final other said taken put over whole
+  held-more start final said taken put over whole h = record {
     items = h.items;
     steps = h.steps;
     are_steps = steps-more start h.items h.steps h.are_steps;
     ends = h.ends;
     is_put = h.is_put;
+    told = h.told;
   }

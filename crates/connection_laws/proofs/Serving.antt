@@ -1,38 +1,60 @@
 -- What the serving of a connection came to, as what is held of a link.
-use Rattle.std.proofs.Common.{Result, Ok, Err, List, ℕ}
+use Rattle.std.proofs.Common.{Result, Ok, Err, List, [], ◌++◌, ℕ, ◌≡◌, ◌+◌, length, Option, Some, IfSome, arith, le_refl, subst}
 use Rattle.farm_entry.specs.declared.entry.Entry.{Entry}
 use Rattle.connection_laws.specs.Moments.{Given}
 use Rattle.link_io.specs.Links.{LinkState, fresh_link}
+use Rattle.link_io.specs.Notes.{Note}
+use Rattle.past_moments.specs.declared.row.Row.{Row}
 use Rattle.connection_laws.specs.Marks.{Mark, Follows}
 use Rattle.connection_laws.specs.Progress.{progress_at, progress_from, IsBefore}
 use Rattle.connection_laws.specs.Serving.{IsHeldOf, Serves, is_whole}
 use Rattle.connection_laws.specs.declared.served.Served.{Served}
 use Rattle.connection_laws.specs.declared.served.ServeFault.{ServeFault}
-use Rattle.connection_laws.proofs.Loop.{held-earlier, held-longer}
+use Rattle.connection_laws.specs.Told.{IsNoted, noted_in}
+use Rattle.connection_laws.proofs.Loop.{held-earlier, held-longer, held-said}
+use Rattle.connection_laws.proofs.Noting.{noted-later}
+
+-- of a new link all that was put is what it has
+said-fresh : (rows : List Row) (link : LinkState) (notes : List Note) (place : ℕ) (H : List Entry)
+    → link.notes ≡ Some notes → noted_in rows fresh_link link place H → IsNoted rows notes place H
+said-fresh rows link notes place H is holds =
+    let n : IsNoted rows notes (0 + place) H =
+    subst (λ (o : Option (List Note)). IfSome o (λ all. IsNoted rows all (0 + place) H)) is holds in
+    noted-later rows notes (0 + place) place H H (omega arith) (le_refl (length H)) n
 
 -- of a new link, from earlier marks, for later ones
 pub served-held : (result : Result Served ServeFault) (start final later : Mark) (seen totals read : List Entry)
-    (faults : ℕ) (gives : Given → Type 0) (link : LinkState) (mine kept : List ℕ)
+    (faults : ℕ) (gives : Given → Type 0) (rows : List Row) (link : LinkState)
+    (mine kept : List ℕ)
     → IsBefore (progress_at start) (progress_from seen totals faults) → Follows final later
-    → Serves result (progress_from seen totals faults) final gives fresh_link link mine kept read
-    → IsHeldOf start later gives link (is_whole result)
-served-held (Ok served) start final later seen totals read faults gives link mine kept b f s = record {
+    → Serves result (progress_from seen totals faults) final gives (noted_in rows fresh_link link)
+    fresh_link link mine kept read
+    → IsHeldOf start later gives (λ notes. IsNoted rows notes) link (is_whole result)
+served-held (Ok served) start final later seen totals read faults gives rows link mine kept b f s = record {
   taken = s.taken;
   put = s.put;
   takes = s.passed.takes;
   puts = s.passed.puts;
+  notes = s.passed.notes.0 ++ [];
+  tells = s.passed.notes.1;
   held =
-      held-longer (progress_at start) final later gives s.taken s.put link.ended _ f
-      (held-earlier (progress_at start) (progress_from seen totals faults) final gives s.taken s.put link.ended _ b
-      s.held);
+      held-said (progress_at start) later gives (noted_in rows fresh_link link) (IsNoted rows (s.passed.notes.0 ++ []))
+      s.taken s.put link.ended _ (λ place H p. said-fresh rows link (s.passed.notes.0 ++ []) place H s.passed.notes.1)
+      (held-longer (progress_at start) final later gives (noted_in rows fresh_link link) s.taken s.put link.ended _ f
+      (held-earlier (progress_at start) (progress_from seen totals faults) final gives (noted_in rows fresh_link link)
+      s.taken s.put link.ended _ b s.held));
 }
-served-held (Err fault) start final later seen totals read faults gives link mine kept b f s = record {
+served-held (Err fault) start final later seen totals read faults gives rows link mine kept b f s = record {
   taken = s.taken;
   put = s.put;
   takes = s.passed.takes;
   puts = s.passed.puts;
+  notes = s.passed.notes.0 ++ [];
+  tells = s.passed.notes.1;
   held =
-      held-longer (progress_at start) final later gives s.taken s.put link.ended _ f
-      (held-earlier (progress_at start) (progress_from seen totals faults) final gives s.taken s.put link.ended _ b
-      s.held);
+      held-said (progress_at start) later gives (noted_in rows fresh_link link) (IsNoted rows (s.passed.notes.0 ++ []))
+      s.taken s.put link.ended _ (λ place H p. said-fresh rows link (s.passed.notes.0 ++ []) place H s.passed.notes.1)
+      (held-longer (progress_at start) final later gives (noted_in rows fresh_link link) s.taken s.put link.ended _ f
+      (held-earlier (progress_at start) (progress_from seen totals faults) final gives (noted_in rows fresh_link link)
+      s.taken s.put link.ended _ b s.held));
 }

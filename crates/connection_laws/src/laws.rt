@@ -13,6 +13,7 @@ ghost use Rattle.http_requests.specs.Framing.{has_origin};
 ghost use Rattle.http_requests.specs.Fronts.{Opens, behind};
 ghost use Rattle.http_requests.specs.Items.{Item, Items, IsNext, IsRequest, End, ended, closed};
 ghost use Rattle.list_prefix.specs.Prefix.{IsPrefix};
+ghost use Rattle.past_moments.specs.declared.row.Row.{Row};
 ghost use Rattle.fault_types.specs.Counts.{Rose};
 ghost use Rattle.connection_laws.specs.Answers.{item_bytes, response_bytes, interim_of, response_of, transcript};
 ghost use Rattle.connection_laws.specs.Batches.{AreAsked, AreAnsweredBy, AreAtOnce, failed_steps, uncalled_steps};
@@ -24,6 +25,7 @@ ghost use Rattle.connection_laws.specs.Moments.{GivenBy, IsTold, MayCount, given
 ghost use Rattle.connection_laws.specs.Outcomes.{Step, answered, failed, faulted, unread};
 ghost use Rattle.connection_laws.specs.Serving.{IsHeldOf, Serves, is_whole};
 ghost use Rattle.connection_laws.specs.Steps.{AreSteps, IsStep};
+ghost use Rattle.connection_laws.specs.Told.{AreSaid, IsNoted, noted_in};
 ghost use Rattle.connection_laws.specs.Worked.{cut_item, cut_bytes, foreign_item, foreign_bytes, lease_item, head_item, head_bytes, failed_bytes, no_memory_bytes};
 
 use crate::{ServeFault, Served};
@@ -33,77 +35,86 @@ use farm_wire::WireFault;
 use http_words::{Allow, Fault};
 use link_io::Clock;
 
+/// What is said of each answer of which a byte was put, by the place of its first byte among the bytes put, and the
+/// history that it tells of. Whoever cites a law picks it.
+pub trait Said {
+    ghost said: { ℕ → List Entry → Type 0 };
+}
+
 /// What is held for what was seen at exit is held for whatever is seen later.
-pub fn held_for_later_marks<C: Clock, D: Disk>(clock: &C)
+pub fn held_for_later_marks<C: Clock, D: Disk, S: Said>(clock: &C)
     ensures { (start final later : Mark) (taken put : List ℕ) (over whole : Bool)
-        → Follows final later → Held start final (GivenBy C.Clock clock.now D.count) taken put over whole
-        → Held start later (GivenBy C.Clock clock.now D.count) taken put over whole }
+        → Follows final later → Held start final (GivenBy C.Clock clock.now D.count) S.said taken put over whole
+        → Held start later (GivenBy C.Clock clock.now D.count) S.said taken put over whole }
 {}
 
 /// What is held from what a pass and a reader had seen at entry is held from each mark with which both began.
-pub fn held_from_earlier_marks<C: Clock, D: Disk>(clock: &C)
+pub fn held_from_earlier_marks<C: Clock, D: Disk, S: Said>(clock: &C)
     ensures { (start final : Mark) (seen totals : List Entry) (faults : ℕ) (taken put : List ℕ)
         (over whole : Bool) → IsPrefix start.seen seen → IsPrefix start.seen totals → start.faults ≤ faults
-        → HeldFrom (progress_from seen totals faults) final (GivenBy C.Clock clock.now D.count) taken put over whole
-        → Held start final (GivenBy C.Clock clock.now D.count) taken put over whole }
+        → HeldFrom (progress_from seen totals faults) final (GivenBy C.Clock clock.now D.count) S.said taken put over
+        whole
+        → Held start final (GivenBy C.Clock clock.now D.count) S.said taken put over whole }
 {}
 
 /// Where the whole is held a prefix is, and so is each shorter one.
-pub fn whole_is_held_as_a_prefix<C: Clock, D: Disk>(clock: &C)
+pub fn whole_is_held_as_a_prefix<C: Clock, D: Disk, S: Said>(clock: &C)
     ensures whole { (start final : Mark) (taken put : List ℕ) (over : Bool)
-        → Held start final (GivenBy C.Clock clock.now D.count) taken put over true
-        → Held start final (GivenBy C.Clock clock.now D.count) taken put over false }
+        → Held start final (GivenBy C.Clock clock.now D.count) S.said taken put over true
+        → Held start final (GivenBy C.Clock clock.now D.count) S.said taken put over false }
     ensures shorter { (start final : Mark) (taken put less : List ℕ) (over : Bool)
-        → IsPrefix less put → Held start final (GivenBy C.Clock clock.now D.count) taken put over false
-        → Held start final (GivenBy C.Clock clock.now D.count) taken less over false }
+        → IsPrefix less put → Held start final (GivenBy C.Clock clock.now D.count) S.said taken put over false
+        → Held start final (GivenBy C.Clock clock.now D.count) S.said taken less over false }
 {}
 
 /// The mark at exit follows the mark at entry.
-pub fn what_is_held_goes_on<C: Clock, D: Disk>(clock: &C)
+pub fn what_is_held_goes_on<C: Clock, D: Disk, S: Said>(clock: &C)
     ensures { (start final : Mark) (taken put : List ℕ) (over whole : Bool)
-        → Held start final (GivenBy C.Clock clock.now D.count) taken put over whole → Follows start final }
+        → Held start final (GivenBy C.Clock clock.now D.count) S.said taken put over whole → Follows start final }
 {}
 
 /// It begins with no item: nothing was put yet, which is a prefix of the answers to the items of whatever was taken.
 /// Of a connection on which nothing came it is the whole.
-pub fn nothing_is_answered_at_first<C: Clock, D: Disk>(clock: &C)
+pub fn nothing_is_answered_at_first<C: Clock, D: Disk, S: Said>(clock: &C)
     ensures so_far { (start : Progress) (taken : List ℕ)
-        → IsSoFar start (GivenBy C.Clock clock.now D.count) taken [] [] [] }
+        → IsSoFar start (GivenBy C.Clock clock.now D.count) S.said taken [] [] [] }
     ensures held { (start final : Mark) (taken : List ℕ) (over : Bool) (items : List Item) (end : End)
         → Items taken items end → IsLegal start.seen → Follows start final
-        → Held start final (GivenBy C.Clock clock.now D.count) taken [] over false }
+        → Held start final (GivenBy C.Clock clock.now D.count) S.said taken [] over false }
     ensures silent { (start final : Mark) → Follows start final
-        → Held start final (GivenBy C.Clock clock.now D.count) [] [] true true }
+        → Held start final (GivenBy C.Clock clock.now D.count) S.said [] [] true true }
 {}
 
 /// More bytes that are taken change nothing of the items so far.
-pub fn more_is_taken<C: Clock, D: Disk>(clock: &C)
+pub fn more_is_taken<C: Clock, D: Disk, S: Said>(clock: &C)
     ensures { (start : Progress) (taken more put : List ℕ) (items : List Item) (steps : List Step)
-        → IsSoFar start (GivenBy C.Clock clock.now D.count) taken put items steps
-        → IsSoFar start (GivenBy C.Clock clock.now D.count) (taken ++ more) put items steps }
+        → IsSoFar start (GivenBy C.Clock clock.now D.count) S.said taken put items steps
+        → IsSoFar start (GivenBy C.Clock clock.now D.count) S.said (taken ++ more) put items steps }
 {}
 
 /// The items behind those so far are answered, and none of them closes.
-pub fn more_is_answered<C: Clock, D: Disk>(clock: &C)
+pub fn more_is_answered<C: Clock, D: Disk, S: Said>(clock: &C)
     ensures { (start : Progress) (taken put : List ℕ) (items more : List Item) (steps rest : List Step)
-        → IsSoFar start (GivenBy C.Clock clock.now D.count) taken put items steps
+        → IsSoFar start (GivenBy C.Clock clock.now D.count) S.said taken put items steps
         → Opens (behind taken items) more → AreSteps (GivenBy C.Clock clock.now D.count) (progress_after start steps)
         more rest
-        → IsSoFar start (GivenBy C.Clock clock.now D.count) taken (put ++ transcript more rest) (items ++ more)
+        → AreSaid S.said (length put) more rest
+        → IsSoFar start (GivenBy C.Clock clock.now D.count) S.said taken (put ++ transcript more rest) (items ++ more)
         (steps ++ rest) }
 {}
 
 /// The serving stops on the way: a part was put of the answers to some items behind those so far. It is a prefix of the
 /// answers to all items, however many stand behind those: there are steps to which they may come, within what is seen
 /// at exit.
-pub fn a_part_is_held<C: Clock, D: Disk>(clock: &C)
+pub fn a_part_is_held<C: Clock, D: Disk, S: Said>(clock: &C)
     ensures { (start : Progress) (final : Mark) (taken put part : List ℕ) (over : Bool)
         (items more others : List Item) (steps rest : List Step) (end : End)
-        → IsSoFar start (GivenBy C.Clock clock.now D.count) taken put items steps
+        → IsSoFar start (GivenBy C.Clock clock.now D.count) S.said taken put items steps
         → Items (behind taken items) (more ++ others) end
         → AreSteps (GivenBy C.Clock clock.now D.count) (progress_after start steps) more rest → IsLegal start.totals
         → IsPrefix part (transcript more rest) → IsWithin (progress_after (progress_after start steps) rest) final
-        → HeldFrom start final (GivenBy C.Clock clock.now D.count) taken (put ++ part) over false }
+        → AreSaid S.said (length put) more rest
+        → HeldFrom start final (GivenBy C.Clock clock.now D.count) S.said taken (put ++ part) over false }
 {}
 
 /// What is put for one item is its interim answer, where it has one, and then its answer; so its interim answer is a
@@ -116,14 +127,16 @@ pub fn an_interim_answer_comes_first()
 {}
 
 /// The serving ends: all items behind those so far are answered, and no more had to be taken.
-pub fn the_whole_is_held<C: Clock, D: Disk>(clock: &C)
+pub fn the_whole_is_held<C: Clock, D: Disk, S: Said>(clock: &C)
     ensures whole { (start : Progress) (final : Mark) (taken put : List ℕ) (over : Bool)
         (items more : List Item) (steps rest : List Step) (end : End)
-        → IsSoFar start (GivenBy C.Clock clock.now D.count) taken put items steps
+        → IsSoFar start (GivenBy C.Clock clock.now D.count) S.said taken put items steps
         → Items (behind taken items) more end → AreSteps (GivenBy C.Clock clock.now D.count)
         (progress_after start steps) more rest
         → IsReadOut taken (items ++ more) end over → IsWithin (progress_after (progress_after start steps) rest) final
-        → HeldFrom start final (GivenBy C.Clock clock.now D.count) taken (put ++ transcript more rest) over true }
+        → AreSaid S.said (length put) more rest
+        → HeldFrom start final (GivenBy C.Clock clock.now D.count) S.said taken (put ++ transcript more rest) over
+        true }
     ensures shut { (taken : List ℕ) (items : List Item) (item : Item)
         → Opens taken items → item.closes ≡ true
         → ((more : List ℕ) → IsNext (behind taken items ++ more) item)
@@ -134,19 +147,19 @@ pub fn the_whole_is_held<C: Clock, D: Disk>(clock: &C)
 /// whatever is seen later: the whole where it was served to its end, and else a prefix.
 pub fn what_is_served_is_held<C: Clock, D: Disk>(clock: &C)
     ensures { (result : Result Served ServeFault) (start final later : Mark) (seen totals read : List Entry)
-        (faults : ℕ)
-        (link : LinkState) (mine kept : List ℕ)
+        (faults : ℕ) (rows : List Row) (link : LinkState) (mine kept : List ℕ)
         → IsPrefix start.seen seen → IsPrefix start.seen totals → start.faults ≤ faults → Follows final later
-        → Serves result (progress_from seen totals faults) final (GivenBy C.Clock clock.now D.count) fresh_link link
-        mine kept read
-        → IsHeldOf start later (GivenBy C.Clock clock.now D.count) link (is_whole result) }
+        → Serves result (progress_from seen totals faults) final (GivenBy C.Clock clock.now D.count)
+        (noted_in rows fresh_link link) fresh_link link mine kept read
+        → IsHeldOf start later (GivenBy C.Clock clock.now D.count) (λ notes. IsNoted rows notes) link
+        (is_whole result) }
 {}
 
 /// What is held with the moments that a clock may give is held with the one moment that the clock tells, where it does.
-pub fn held_by_the_moment_told<C: Clock, D: Disk>(clock: &C)
+pub fn held_by_the_moment_told<C: Clock, D: Disk, S: Said>(clock: &C)
     ensures { (start final : Mark) (taken put : List ℕ) (over whole : Bool)
-        → Held start final (GivenBy C.Clock clock.now D.count) taken put over whole
-        → Held start final (given_by (IsTold (C.told clock.now)) (MayCount D.count)) taken put over whole }
+        → Held start final (GivenBy C.Clock clock.now D.count) S.said taken put over whole
+        → Held start final (given_by (IsTold (C.told clock.now)) (MayCount D.count)) S.said taken put over whole }
 {}
 
 /// A batch that the farm answered: each item comes to its answer, and the places of what they recorded are the last

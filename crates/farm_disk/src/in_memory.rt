@@ -1,4 +1,5 @@
 //! Disks in memory.
+mod call_log;
 mod calm_disk;
 mod fault_plan;
 mod marks;

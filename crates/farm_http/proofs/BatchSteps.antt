@@ -1,5 +1,5 @@
 -- What a batch's turn gives its items, and what was put for them.
-use Rattle.std.proofs.Common.{ℕ, ◌≡◌, ◌≤◌, Bool, true, false, List, [], ◌∷◌, ◌++◌, length, map, Option, Result, Ok, Err, refl, sym, ap, ◌∙◌, subst, arith, append-nil, append_assoc, decimal, suc}
+use Rattle.std.proofs.Common.{ℕ, ◌≡◌, ◌≤◌, inl, inr, Bool, true, false, List, [], ◌∷◌, ◌++◌, length, map, Option, Result, Ok, Err, refl, sym, ap, ◌∙◌, subst, arith, append-nil, append_assoc, decimal, suc}
 use Rattle.std.specs.Prelude.{⊤}
 use Rattle.connection_laws.specs.Answers.{Response, interim_of, item_bytes, no_memory, response_bytes, response_of, store_fault, transcript}
 use Rattle.connection_laws.specs.Batches.{AreAnsweredBy, AreAsked, AreAtOnce, failed_steps, uncalled_steps}
@@ -31,7 +31,8 @@ use Rattle.farm_http.specs.Batches.{ArePutAs, BatchState, IsBatch, IsPutAs, all_
 use Rattle.farm_http.specs.Bytes.{PutSays, farm_responses, request_bytes, requests_bytes}
 use Rattle.farm_http.specs.Callers.{IsAfter, mark_of}
 use Rattle.farm_http.specs.declared.caller.Caller.{Caller}
-use Rattle.farm_http.specs.Fronts.{AreAnswered, AreFront, FrontSays}
+use Rattle.farm_http.specs.Fronts.{AreAnswered, AreFront, FrontSays, Halves}
+use Rattle.farm_http.specs.Noting.{ArePreceded, TookNote}
 use Rattle.farm_http.specs.Turns.{IsBatchPut, TurnPut}
 use Rattle.farm_http.specs.declared.front.Answered.{Answered}
 use Rattle.farm_http.proofs.Turns.{IsAnsweredTurn, IsFailedTurn, IsUnansweredTurn, turn-answered, turn-failed, turn-uncalled}
@@ -169,19 +170,20 @@ front-stands complete held items done f = front_by done.closes refl
 
 -- what was put for items at the front, by the steps that they came to
 pub front-says : (gives : Given → Type 0) (c : Progress) (complete : Bool) (held : List ℕ) (out : Bool)
-    (before now : Option (List ℕ)) (old new : Caller) (done : Answered) (items : List Item) (steps : List Step)
+    (link : Halves) (old new : Caller) (done : Answered) (items : List Item) (steps : List Step)
     (bytes : List ℕ)
     → 1 ≤ length items → AreFront complete held items done → done.requests ≡ length items → AreSteps gives c items steps
-    → IsAfter c steps old new → interim_of out ++ bytes ≡ transcript items steps → (result : Result Answered ServeFault)
-    → ((d : Answered) → result ≡ Ok d → d ≡ done) → PutSays bytes before now result
-    → FrontSays gives c complete held out before now old new result
-front-says gives c complete held out before now old new done items steps bytes some front count steps_are after is
+    → IsAfter c steps old new → interim_of out ++ bytes ≡ transcript items steps
+    → ArePreceded out items steps link.aside link.later link.before new.pass → (result : Result Answered ServeFault)
+    → ((d : Answered) → result ≡ Ok d → d ≡ done) → PutSays bytes link.before link.now result
+    → FrontSays gives c complete held out link old new result
+front-says gives c complete held out link old new done items steps bytes some front count steps_are after is noted
     (Ok d) same put =
     let d_is = same d refl in
     record {
       put = bytes;
       puts = put;
-      says = subst (λ (x : Answered). AreAnswered gives c complete held out bytes old new x) (sym d_is) (record {
+      says = subst (λ (x : Answered). AreAnswered gives c complete held out bytes link old new x) (sym d_is) (record {
         items = items;
         steps = steps;
         some = some;
@@ -190,9 +192,10 @@ front-says gives c complete held out before now old new done items steps bytes s
         after = after;
         put_is = is;
         requests = count;
+        noted = noted;
       });
     }
-front-says gives c complete held out before now old new done items steps bytes some front count steps_are after is
+front-says gives c complete held out link old new done items steps bytes some front count steps_are after is noted
     (Err f) same put =
     record {
       put = put.0;
@@ -206,6 +209,7 @@ front-says gives c complete held out before now old new done items steps bytes s
         begins =
             subst (λ (l : List ℕ). IsPrefix (interim_of out ++ put.0) l) is
             (IsPrefix-behind (interim_of out) put.0 bytes put.1);
+        noted = inl noted;
       };
     }
   where
@@ -272,14 +276,15 @@ answered-after c old new asks answers steps a by le =
     }
 
 module _ {D : Type 0} (count : D → ℕ) (gives : Given → Type 0) (c : Progress) (complete : Bool) (held : List ℕ)
-    (out : Bool) (before now : Option (List ℕ)) (old new : Known) (b : BatchState)
-    (counts : (disk : D) → gives (at_count (count disk))) where
+    (out : Bool) (link : Halves) (old new : Known) (b : BatchState)
+    (counts : (disk : D) → gives (at_count (count disk)))
+    (took : TookNote link.aside link.later link.before new) where
   by_turn : (is : IsBatch gives complete held b) → out ≡ is.first.interim → IsWithin c (mark_of old)
       → old.faults ≤ new.faults
       → (result : Result Answered ServeFault) → ((d : Answered) → result ≡ Ok d → d ≡ all_answered b)
       → (turn : Result (List Answer) CallFault) → IsTurn count b.asks turn old new
-      → TurnPut turn b.requests before now result
-      → FrontSays gives c complete held out before now (record { pass = old; reader = c.totals })
+      → TurnPut turn b.requests link.before link.now result
+      → FrontSays gives c complete held out link (record { pass = old; reader = c.totals })
       (record { pass = new; reader = c.totals }) result
   by_turn is shown w le result same (Ok answers) t (ws, long, put) =
       let a = turn-answered count c b.asks answers old new w t in
@@ -288,12 +293,13 @@ module _ {D : Type 0} (count : D → ℕ) (gives : Given → Type 0) (c : Progre
       let by = answered-by a.at b.asks answers ws a.answered long in
       let low = w.faults in
       let g = answered-steps gives c a.at items b.asks answers steps is.asked a.begins a.answered by in
-      front-says gives c complete held out before now _ _ (all_answered b) items steps
+      front-says gives c complete held out link _ _ (all_answered b) items steps
       (requests_bytes b.requests (farm_responses answers ws)) (omega arith) is.front
       (asked-length gives items b.asks is.asked) g
       (answered-after c old new b.asks answers steps a by (omega arith))
       (steps-put gives c out is.first is.others b.requests steps (farm_responses answers ws) shown g is.put_as
-      is.at_once (answered-say a.at b.asks answers ws a.answered long)) result same put
+      is.at_once (answered-say a.at b.asks answers ws a.answered long))
+      (shown, inr took) result same put
   by_turn is shown w le result same (Err (fault.Refused cause)) t put = absurd put
   by_turn is shown w le result same (Err (fault.StoreFault first last)) t put =
       let a = turn-failed count c b.asks first last old new w t in
@@ -305,11 +311,12 @@ module _ {D : Type 0} (count : D → ℕ) (gives : Given → Type 0) (c : Progre
       failed-steps gives c new.seen first last is.first is.others b.asks is.asked is.at_once is.few a.unanswered.begins
       a.first a.rose (subst (λ (n : ℕ). gives (at_count n)) (sym t.cause.0) (counts t.found.disk))
       (subst (λ (n : ℕ). gives (at_count n)) (sym t.cause.1) (counts t.left.disk)) in
-      front-says gives c complete held out before now _ _ (all_answered b) items steps
+      front-says gives c complete held out link _ _ (all_answered b) items steps
       (requests_bytes b.requests responses) (omega arith) is.front (asked-length gives items b.asks is.asked) g
       (failed-after gives c first last old new is.first is.others b.asks is.asked a)
       (steps-put gives c out is.first is.others b.requests steps responses shown g is.put_as is.at_once
-      (failed-say b.requests new.seen b.asks first last each)) result same put
+      (failed-say b.requests new.seen b.asks first last each))
+      (shown, inr took) result same put
   by_turn is shown w le result same (Err fault.Memory) t put =
       let a = turn-uncalled count c b.asks old new w t in
       let items = is.first ∷ is.others in
@@ -318,19 +325,20 @@ module _ {D : Type 0} (count : D → ℕ) (gives : Given → Type 0) (c : Progre
       let each = put_as-length items b.requests is.put_as ∙ sym (asked-length gives items b.asks is.asked) in
       let low = w.faults in
       let g = uncalled-steps gives c new.seen items b.asks is.asked a.begins in
-      front-says gives c complete held out before now _ _ (all_answered b) items steps
+      front-says gives c complete held out link _ _ (all_answered b) items steps
       (requests_bytes b.requests responses) (omega arith) is.front (asked-length gives items b.asks is.asked) g
       (uncalled-after c old new b.asks a (omega arith))
       (steps-put gives c out is.first is.others b.requests steps responses shown g is.put_as is.at_once
       (alike-say b.requests b.asks (λ (ask : Ask). record { outcome = uncalled new.seen ask; written = true }) no_memory
-      (λ ask. refl) each)) result same put
+      (λ ask. refl) each))
+      (shown, inr took) result same put
 
   -- what answering a batch at one turn came to
   pub batch-says : (is : IsBatch gives complete held b) → out ≡ is.first.interim → IsWithin c (mark_of old)
       → old.faults ≤ new.faults → (result : Result Answered ServeFault)
       → ((d : Answered) → result ≡ Ok d → d ≡ all_answered b)
-      → IsBatchPut count b.asks b.requests old new before now result
-      → FrontSays gives c complete held out before now (record { pass = old; reader = c.totals })
+      → IsBatchPut count b.asks b.requests old new link.before link.now result
+      → FrontSays gives c complete held out link (record { pass = old; reader = c.totals })
       (record { pass = new; reader = c.totals }) result
   batch-says is shown w le result same p = by_turn is shown w le result same p.turn p.had p.put
 

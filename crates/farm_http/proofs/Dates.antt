@@ -1,5 +1,5 @@
 -- The days that the answers of a batch show have dates.
-use Rattle.std.proofs.Common.{ℕ, suc, Ok, ◌≡◌, ◌≢◌, ◌+◌, List, [], ◌∷◌, length, refl, ap, ◌∙◌, subst, arith, length-append}
+use Rattle.std.proofs.Common.{ℕ, suc, Result, Ok, Err, ◌≡◌, ◌≢◌, ◌+◌, List, [], ◌∷◌, length, refl, ap, ◌∙◌, subst, arith, length-append}
 use Rattle.std.proofs.lemmas.List.Elements.{All-nil, All-cons}
 use Rattle.std.specs.List.{All}
 use Rattle.connection_laws.specs.Progress.{decision_on}
@@ -14,9 +14,12 @@ use Rattle.farm_laws.proofs.Induct.{IsLegal-first}
 use Rattle.farm_store.specs.Answering.{AreAnswers, history_after}
 use Rattle.farm_entry.specs.declared.answer.Answer.{Answer}
 use Rattle.farm_store.specs.declared.asking.Ask.{Ask}
+use Rattle.farm_store.specs.declared.asking.CallFault.{CallFault}
+use Rattle.farm_store.specs.declared.asking.CallFault.TheVariants as fault
 use Rattle.list_prefix.specs.Prefix.{IsPrefix}
 use Rattle.shared_farm.specs.Turns.{IsTurn}
 use Rattle.turn_lock.specs.Known.{Known}
+use Rattle.farm_http.specs.Turns.{HasAnswers}
 use Rattle.farm_http.proofs.Turns.{repaired-longer}
 
 -- what begins with a history that isn't empty isn't either
@@ -63,14 +66,23 @@ legal-busy (e ∷ H) legal none = let empty : length (e ∷ H) ≡ 0 = ap (λ (l
 
 module _ {D : Type 0} (count : D → ℕ) (asks : List Ask) (answers : List Answer) (old new : Known) where
   -- a turn answers each of its asks
-  pub turn-length : IsTurn count asks (Ok answers) old new → length answers ≡ length asks
+  turn-length : IsTurn count asks (Ok answers) old new → length answers ≡ length asks
   turn-length t = let says = t.says in answers-length says.repaired asks answers says.answers
 
   -- and the days that it shows have dates
-  pub turn-dates : IsTurn count asks (Ok answers) old new → IsLegal new.seen → All AnswerHasDates answers
+  turn-dates : IsTurn count asks (Ok answers) old new → IsLegal new.seen → All AnswerHasDates answers
   turn-dates t legal =
       let says = t.says in
       answers-dates says.repaired asks answers
       (longer-busy t.found.history says.repaired (repaired-longer t.found says.repaired says.found)
       (legal-busy t.found.history t.legal)) says.answers
       (subst (λ (H : List Entry). IsLegal H) (t.seen ∙ says.history) legal)
+
+-- so what a batch's turn came to can be put
+pub turn-answers : {D : Type 0} (count : D → ℕ) (asks : List Ask) (turn : Result (List Answer) CallFault)
+    (old new : Known) → IsTurn count asks turn old new → IsLegal new.seen → HasAnswers turn asks
+turn-answers count asks (Ok answers) old new t legal =
+    (turn-length count asks answers old new t, turn-dates count asks answers old new t legal)
+turn-answers count asks (Err (fault.Refused cause)) old new t legal = t.says
+turn-answers count asks (Err (fault.StoreFault first last)) old new t legal = tt
+turn-answers count asks (Err fault.Memory) old new t legal = tt

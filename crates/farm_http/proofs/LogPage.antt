@@ -1,5 +1,5 @@
 -- A request for a log page, answered by itself.
-use Rattle.std.proofs.Common.{ℕ, ◌≡◌, ◌≤◌, inl, inr, Bool, true, false, if◌then◌else◌, nat_lt, List, drop, length, Option, Result, Ok, Err, refl, sym, ap, ◌∙◌, subst, arith, append-nil}
+use Rattle.std.proofs.Common.{ℕ, ◌≡◌, ◌≤◌, inl, inr, Bool, true, false, if◌then◌else◌, nat_lt, List, drop, length, Result, Ok, Err, refl, sym, ap, ◌∙◌, subst, arith, append-nil}
 use Rattle.std.specs.Prelude.{⊤}
 use Rattle.connection_laws.specs.Answers.{response_of}
 use Rattle.connection_laws.specs.Kinds.{kind_by}
@@ -21,7 +21,8 @@ use Rattle.list_prefix.proofs.Prefixes.{IsPrefix-refl, IsPrefix-trans}
 use Rattle.turn_lock.specs.Known.{Known}
 use Rattle.farm_http.specs.Bytes.{PutSays, request_bytes}
 use Rattle.farm_http.specs.Callers.{mark_of}
-use Rattle.farm_http.specs.Fronts.{FrontSays}
+use Rattle.farm_http.specs.Fronts.{FrontSays, Halves}
+use Rattle.farm_http.specs.Noting.{TookNote}
 use Rattle.farm_http.specs.declared.front.Answered.{Answered}
 use Rattle.farm_http.proofs.Gathering.{next-here}
 use Rattle.farm_http.proofs.Single.{front-single, one_answered}
@@ -71,19 +72,20 @@ log-from complete held request from next asks =
 -- ---- a page of a history that begins with what was seen
 
 pub copied-says : (gives : Given → Type 0) (c : Progress) (complete : Bool) (held : List ℕ) (out : Bool)
-    (before now : Option (List ℕ)) (old new : Known) (request : Request) (from : ℕ) (w : Bool)
+    (link : Halves) (old new : Known) (request : Request) (from : ℕ) (w : Bool)
     → IsNextFor complete held request → out ≡ request.interim → IsWithin c (mark_of old)
     → request.asks ≡ Ok (endpoint.Log from) → IsPrefix old.seen new.seen → new.mine ≡ old.mine → old.faults ≤ new.faults
+    → TookNote link.aside link.later link.before new
     → (result : Result Answered ServeFault) → ((d : Answered) → result ≡ Ok d → d ≡ one_answered request)
-    → PutSays (request_bytes request (response_of (record { outcome = copied new.seen from; written = w }))) before now
-    result
-    → FrontSays gives c complete held out before now (record { pass = old; reader = c.totals })
+    → PutSays (request_bytes request (response_of (record { outcome = copied new.seen from; written = w })))
+    link.before link.now result
+    → FrontSays gives c complete held out link (record { pass = old; reader = c.totals })
     (record { pass = new; reader = c.totals }) result
-copied-says gives c complete held out before now old new request from w next shown within asks longer mine more result
+copied-says gives c complete held out link old new request from w next shown within asks longer mine more took result
     same put =
     let low = within.faults in
     let step : Step = record { outcome = copied new.seen from; written = w } in
-    front-single gives c complete held out before now (record { pass = old; reader = c.totals })
+    front-single gives c complete held out link (record { pass = old; reader = c.totals })
     (record { pass = new; reader = c.totals }) request step (response_of step) next shown (
       record {
         asked = ap (λ (a : Result Endpoint Fault). kind_by a (item_in held request).body) asks;
@@ -96,4 +98,4 @@ copied-says gives c complete held out before now old new request from w next sho
       places = mine ∙ sym (append-nil old.mine);
       counted = refl;
     })
-    refl result same put
+    refl (inr took) result same put

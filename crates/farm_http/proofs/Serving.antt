@@ -1,47 +1,39 @@
 -- The serving of a connection, step by step.
-use Rattle.std.proofs.Common.{ℕ, ◌≡◌, ◌<◌, ◌+◌, ◌==◌, ◌||◌, ◌&&◌, not, ◌⊎◌, inl, inr, Bool, true, false, List, [], ◌∷◌, ◌++◌, length, drop, Option, Result, Ok, Err, refl, sym, ap, ◌∙◌, subst, append_assoc, append-nil, length-append, length-drop, arith, le_refl}
-use Rattle.std.proofs.lemmas.Bool.Decides.{nat_tests}
+use Rattle.std.proofs.Common.{ℕ, ◌≡◌, ◌+◌, ◌||◌, ◌&&◌, not, Bool, true, false, List, [], ◌++◌, length, drop, Option, refl, sym, ap, ◌∙◌, subst, append_assoc, append-nil, length-append, length-drop, arith, le_refl}
 use Rattle.std.specs.Io.KnownBytes.{append_known}
-use Rattle.std.specs.Result.{IsErrAnd}
 use Rattle.connection_laws.specs.Answers.{interim_of, transcript}
-use Rattle.connection_laws.specs.Held.{IsReadOut}
-use Rattle.connection_laws.specs.Kinds.{kind_of}
-use Rattle.connection_laws.specs.Marks.{Mark}
 use Rattle.connection_laws.specs.Outcomes.{Step}
 use Rattle.connection_laws.specs.Progress.{Progress, IsWithin, progress_after, progress_from, recorded_places}
-use Rattle.connection_laws.specs.Serving.{IsServed, IsStopped, IsWaiting, OnReadFault, Serves, why_of}
-use Rattle.connection_laws.specs.Waiting.{AreWaiting}
-use Rattle.connection_laws.specs.declared.served.ServeFault.{ServeFault}
-use Rattle.connection_laws.specs.declared.served.Served.{Served}
-use Rattle.connection_laws.specs.declared.served.Why.{Why}
-use Rattle.connection_laws.specs.declared.served.Why.TheVariants as whys
-use Rattle.connection_laws.proofs.Answers.{interim-part}
-use Rattle.connection_laws.proofs.Further.{after-legal, further-kept, further-place, further-step, further-stopped, further-within, further_step}
-use Rattle.connection_laws.proofs.Loop.{held-follows, so_far-append, so_far-more, so_far-start}
-use Rattle.connection_laws.proofs.Progress.{progress_after-append, progress_after-longer, recorded_places-append, steps-append}
-use Rattle.connection_laws.proofs.Transcripts.{transcript-append}
+use Rattle.connection_laws.proofs.Further.{after-legal}
+use Rattle.connection_laws.proofs.Loop.{so_far-append, so_far-more, so_far-start}
+use Rattle.connection_laws.proofs.Progress.{progress_after-append, recorded_places-append}
 use Rattle.farm_entry.specs.Legal.{IsLegal}
 use Rattle.farm_entry.specs.declared.entry.Entry.{Entry}
 use Rattle.connection_laws.specs.Moments.{Given}
-use Rattle.http_requests.specs.Fronts.{Fronts, Opens, behind}
-use Rattle.http_requests.specs.Items.{Item, Items, IsIdle, End, closed, ended}
-use Rattle.http_requests.proofs.FrontLaws.{behind-append, fronts-prefix, opens-items, opens-more}
-use Rattle.http_requests.proofs.Heads.{HasHead-busy}
+use Rattle.http_requests.specs.Fronts.{Opens, behind}
+use Rattle.http_requests.proofs.FrontLaws.{behind-append, opens-more}
 use Rattle.link_io.specs.Links.{LinkState}
-use Rattle.link_io.specs.declared.source.TheConstants.{INPUT_LIMIT}
 use Rattle.link_io.proofs.Told.{append_known-nil, append_known-append}
-use Rattle.list_prefix.specs.Prefix.{IsPrefix}
-use Rattle.list_prefix.proofs.Prefixes.{IsPrefix-refl, IsPrefix-trans}
+use Rattle.list_prefix.proofs.Prefixes.{IsPrefix-refl}
 use Rattle.turn_lock.specs.Known.{Known}
 use Rattle.farm_http.specs.Callers.{IsAfter, mark_of}
 use Rattle.farm_http.specs.declared.caller.Caller.{Caller}
-use Rattle.farm_http.specs.Connection.{GoesOn, IsServing}
-use Rattle.farm_http.specs.Fronts.{AreAnswered, AreClosing, ArePartly}
-use Rattle.farm_http.specs.Received.{AsksInterim, IsTaken, ReceivedState, is_complete, nothing_received}
+use Rattle.farm_http.specs.Connection.{IsServing}
+use Rattle.farm_http.specs.Fronts.{AreAnswered, ArePartly, Halves}
+use Rattle.connection_laws.specs.Told.{noted_in}
+use Rattle.connection_laws.proofs.Noting.{TakesNotes-refl}
+use Rattle.link_io.specs.Intake.{Intake}
+use Rattle.link_io.specs.Notes.{TakesNotes}
+use Rattle.past_moments.proofs.Rows.{AreAmong-refl}
+use Rattle.past_moments.specs.Rows.{AreAmong}
+use Rattle.farm_http.specs.Received.{AsksInterim, IsTaken, ReceivedState, nothing_received}
 use Rattle.farm_http.specs.declared.front.Answered.{Answered}
-use Rattle.farm_http.proofs.Asked.{asks-append, item-asks}
-use Rattle.farm_http.proofs.Stops.{on_read}
-use Rattle.farm_http.proofs.Work.{why_by}
+use Rattle.farm_http.proofs.Asked.{asks-append}
+use Rattle.farm_http.proofs.Noted.{TakesNotes-trans, front-told, so_far-on}
+
+-- a link between two of its states, with what it keeps of its other half
+abbrev pub at_link : (now later : LinkState) → (aside after : Intake) → Halves
+at_link now later aside after = record { before = now.put; now = later.put; aside = aside; later = after }
 
 -- ---- what is known after more items
 
@@ -58,51 +50,27 @@ after-append start steps rest old mid new a b =
       counted = b.counted ∙ ap (λ (c : Progress). c.totals) same;
     }
 
--- ---- a request at the front that was cut
+-- ---- bytes that are put in two parts
 
-one-front : (bytes : List ℕ) (item : Item) (items : List Item) (end : End) → Items bytes (item ∷ items) end
-    → Fronts bytes (item ∷ [])
-one-front bytes item items end (p, inl x) = (p, inl (x.0, refl))
-one-front bytes item items end (p, inr x) = (p, inr (x.0, tt))
+-- what is put behind what was put
+pub put-joined : (before was now : Option (List ℕ)) (b : Bool) (first part : List ℕ)
+    → was ≡ append_known before (first ++ interim_of b) → now ≡ append_known was part
+    → now ≡ append_known before (first ++ (interim_of b ++ part))
+put-joined before was now b first part is puts =
+    puts ∙ ap (λ (t : Option (List ℕ)). append_known t part) is
+    ∙ append_known-append before (first ++ interim_of b) part
+    ∙ ap (λ (l : List ℕ). append_known before l) (append_assoc first (interim_of b) part)
 
--- an interim answer that may be out in part, or that is out, begins the answers to the item at the front
-cut-partly : (gives : Given → Type 0) (c : Progress) (held : List ℕ) (asks out : Bool) (put : List ℕ) (new : Caller)
-    (all : List Item) (end : End) → Items held all end → (asks ≡ true → AsksInterim held)
-    → IsPrefix (interim_of out ++ put) (interim_of asks) → IsWithin c (mark_of new.pass) → new.reader ≡ c.totals
-    → IsLegal c.totals
-    → ArePartly gives c held out put new new
-cut-partly gives c held false out put new all end whole asked begins within read legal = record {
-  items = [];
-  steps = [];
-  front = tt;
-  are_steps = tt;
-  after = record { within = within; places = sym (append-nil new.pass.mine); counted = read };
-  begins = begins;
-}
-cut-partly gives c held true out put new [] end whole asked begins within read legal =
-    let a = asked refl in absurd (HasHead-busy held a.head a.has whole.0.blank)
-cut-partly gives c held true out put new (item ∷ all) end whole asked begins within read legal =
-    let step = further_step c (kind_of item) in
-    let kept = further-kept c (kind_of item) in
-    let asks = item-asks held item (asked refl) whole.0 in
-    record {
-      items = item ∷ [];
-      steps = step ∷ [];
-      front = one-front held item all end whole;
-      are_steps = (further-step gives c item (kind_of item) refl legal, tt);
-      after = record {
-        within = further-within c (item ∷ []) (mark_of new.pass) within;
-        places =
-            sym
-            (ap (λ (l : List ℕ). new.pass.mine ++ (l ++ [])) (further-place c (kind_of item))
-            ∙ append-nil new.pass.mine);
-        counted = read ∙ sym kept.totals;
-      };
-      begins =
-          IsPrefix-trans (interim_of out ++ put) (interim_of true) (transcript (item ∷ []) (step ∷ [])) begins
-          (subst (λ (b : Bool). IsPrefix (interim_of b) (transcript (item ∷ []) (step ∷ []))) asks
-          (interim-part item step));
-    }
+pub interim_both : (out asked : Bool) → interim_of out ++ interim_of (asked && not out) ≡ interim_of (out || asked)
+interim_both false false = refl
+interim_both false true = refl
+interim_both true false = append-nil (interim_of true)
+interim_both true true = append-nil (interim_of true)
+
+pub asked_by : (out asked : Bool) (held : List ℕ) → (out ≡ true → AsksInterim held) → (asked ≡ true → AsksInterim held)
+    → (out || asked) ≡ true → AsksInterim held
+asked_by true asked held one other is = one refl
+asked_by false asked held one other is = other is
 
 -- ---- the loop
 
@@ -116,8 +84,12 @@ module _ (start : Progress) (gives : Given → Type 0) (old : Caller) (before : 
         put = [];
         items = [];
         steps = [];
-        so_far = so_far-start start gives [];
-        passed = record { takes = sym (append_known-nil before.taken); puts = sym (append_known-nil before.put) };
+        so_far = so_far-start start gives (noted_in old.pass.rows before before) [];
+        passed = record {
+          takes = sym (append_known-nil before.taken);
+          puts = sym (append_known-nil before.put);
+          notes = TakesNotes-refl before.notes;
+        };
         held = refl;
         size = refl;
         most = omega arith;
@@ -131,9 +103,9 @@ module _ (start : Progress) (gives : Given → Type 0) (old : Caller) (before : 
   -- a piece more was taken, and is held
   pub serving-takes : (new : Caller) (now later : LinkState) (r s : ReceivedState) (requests : ℕ)
       → IsServing start gives old new before now r requests → IsTaken r s now.taken later.taken later.ended
-      → later.put ≡ now.put
+      → later.put ≡ now.put → TakesNotes now.notes later.notes
       → IsServing start gives old new before later s requests
-  serving-takes new now later r s requests is t puts =
+  serving-takes new now later r s requests is t puts notes =
       let piece = t.piece in
       let more = opens-more is.taken piece is.items is.so_far.opens in
       let long = length-append r.held piece in
@@ -144,13 +116,16 @@ module _ (start : Progress) (gives : Given → Type 0) (old : Caller) (before : 
         put = is.put;
         items = is.items;
         steps = is.steps;
-        so_far = so_far-more start gives is.taken piece is.put is.items is.steps is.so_far;
+        so_far = so_far-more start gives (noted_in new.pass.rows before later) is.taken piece is.put is.items is.steps
+            (so_far-on start gives new.pass.rows new.pass.rows before now later is.taken is.put is.items is.steps
+            (AreAmong-refl new.pass.rows) notes is.so_far);
         passed = record {
           takes =
               t.takes ∙ ap (λ (o : Option (List ℕ)). append_known o piece) is.passed.takes
               ∙ append_known-append before.taken is.taken piece;
           puts = puts ∙ is.passed.puts ∙ ap (λ (b : Bool). append_known before.put (is.put ++ interim_of b))
               (sym t.interim);
+          notes = TakesNotes-trans before.notes now.notes later.notes is.passed.notes notes;
         };
         held = t.held ∙ ap (λ (l : List ℕ). l ++ piece) is.held ∙ sym more.1;
         size = t.size ∙ ap (λ (n : ℕ). n + length piece) is.size ∙ sym (length-append is.taken piece);
@@ -163,43 +138,27 @@ module _ (start : Progress) (gives : Given → Type 0) (old : Caller) (before : 
         few = omega arith;
       }
 
-  put-joined : (b : Bool) (first part : List ℕ) (was now : Option (List ℕ))
-      → was ≡ append_known before.put (first ++ interim_of b)
-      → now ≡ append_known was part → now ≡ append_known before.put (first ++ (interim_of b ++ part))
-  put-joined b first part was now is puts =
-      puts ∙ ap (λ (t : Option (List ℕ)). append_known t part) is
-      ∙ append_known-append before.put (first ++ interim_of b) part
-      ∙ ap (λ (l : List ℕ). append_known before.put l) (append_assoc first (interim_of b) part)
-
-  interim_both : (out asked : Bool) → interim_of out ++ interim_of (asked && not out) ≡ interim_of (out || asked)
-  interim_both false false = refl
-  interim_both false true = refl
-  interim_both true false = append-nil (interim_of true)
-  interim_both true true = append-nil (interim_of true)
-
-  asked_by : (out asked : Bool) (held : List ℕ) → (out ≡ true → AsksInterim held) → (asked ≡ true → AsksInterim held)
-      → (out || asked) ≡ true → AsksInterim held
-  asked_by true asked held one other is = one refl
-  asked_by false asked held one other is = other is
-
   -- the interim answer of the request at the front is out, where it is asked for
   pub serving-interim : (new : Caller) (now later : LinkState) (r s : ReceivedState) (requests : ℕ) (asked : Bool)
       → IsServing start gives old new before now r requests → (asked ≡ true → AsksInterim r.held)
       → later.taken ≡ now.taken → later.ended ≡ now.ended
-      → later.put ≡ append_known now.put (interim_of (asked && not r.interim))
+      → later.put ≡ append_known now.put (interim_of (asked && not r.interim)) → TakesNotes now.notes later.notes
       → s ≡ record r { interim = r.interim || asked } → IsServing start gives old new before later s requests
-  serving-interim new now later r s requests asked is asks takes ends puts same =
+  serving-interim new now later r s requests asked is asks takes ends puts notes same =
       subst (λ (x : ReceivedState). IsServing start gives old new before later x requests) (sym same) (record {
         taken = is.taken;
         put = is.put;
         items = is.items;
         steps = is.steps;
-        so_far = is.so_far;
+        so_far = so_far-on start gives new.pass.rows new.pass.rows before now later is.taken is.put is.items is.steps
+            (AreAmong-refl new.pass.rows) notes is.so_far;
         passed = record {
           takes = takes ∙ is.passed.takes;
           puts =
-              put-joined r.interim is.put (interim_of (asked && not r.interim)) now.put later.put is.passed.puts puts
+              put-joined before.put now.put later.put r.interim is.put (interim_of (asked && not r.interim))
+              is.passed.puts puts
               ∙ ap (λ (l : List ℕ). append_known before.put (is.put ++ l)) (interim_both r.interim asked);
+          notes = TakesNotes-trans before.notes now.notes later.notes is.passed.notes notes;
         };
         held = is.held;
         size = is.size;
@@ -213,13 +172,17 @@ module _ (start : Progress) (gives : Given → Type 0) (old : Caller) (before : 
 
   -- items at the front were answered, none of which closes, and are passed over
   pub serving-answers : (mid new : Caller) (now later : LinkState) (r s : ReceivedState) (requests total : ℕ)
-      (put : List ℕ) (complete : Bool) (done : Answered) (is : IsServing start gives old mid before now r requests)
-      → AreAnswered gives (progress_after start is.steps) complete r.held r.interim put mid new done
-      → done.closes ≡ false
+      (put : List ℕ) (complete : Bool) (done : Answered) (aside after : Intake)
+      (is : IsServing start gives old mid before now r requests)
+      → AreAnswered gives (progress_after start is.steps) complete r.held r.interim put (at_link now later aside after)
+      mid new done
+      → aside.notes ≡ now.notes → after.notes ≡ later.notes → TakesNotes now.notes later.notes
+      → AreAmong mid.pass.rows new.pass.rows → done.closes ≡ false
       → later.taken ≡ now.taken → later.ended ≡ now.ended → later.put ≡ append_known now.put put
       → s ≡ record r { held = drop done.size r.held; interim = false } → total ≡ requests + done.requests
       → IsServing start gives old new before later s total
-  serving-answers mid new now later r s requests total put complete done is a open_ takes ends puts same sum =
+  serving-answers mid new now later r s requests total put complete done aside after is a aside_is after_is notes rows
+      open_ takes ends puts same sum =
       let front = a.front.1 open_ in
       let len = length-drop done.size r.held in
       let within = front.within in let some = front.few in let few = is.few in let each = a.requests in
@@ -229,15 +192,21 @@ module _ (start : Progress) (gives : Given → Type 0) (old : Caller) (before : 
         items = is.items ++ a.items;
         steps = is.steps ++ a.steps;
         so_far =
-            so_far-append start gives is.taken is.put is.items a.items is.steps a.steps is.so_far
-            (subst (λ (l : List ℕ). Opens l a.items) is.held front.open_) a.are_steps;
+            so_far-append start gives (noted_in new.pass.rows before later) is.taken is.put is.items a.items is.steps
+            a.steps
+            (so_far-on start gives mid.pass.rows new.pass.rows before now later is.taken is.put is.items is.steps rows
+            notes is.so_far)
+            (subst (λ (l : List ℕ). Opens l a.items) is.held front.open_) a.are_steps
+            (front-told gives (progress_after start is.steps) before now later is.put r.interim new.pass a.items a.steps
+            aside after a.noted aside_is after_is is.passed.puts a.are_steps a.after.within.seen);
         passed = record {
           takes = takes ∙ is.passed.takes;
           puts =
-              put-joined r.interim is.put put now.put later.put is.passed.puts puts
+              put-joined before.put now.put later.put r.interim is.put put is.passed.puts puts
               ∙ ap (λ (l : List ℕ). append_known before.put (is.put ++ l)) a.put_is
               ∙ ap (λ (l : List ℕ). append_known before.put l)
               (sym (append-nil (is.put ++ transcript a.items a.steps)));
+          notes = TakesNotes-trans before.notes now.notes later.notes is.passed.notes notes;
         };
         held =
             sym front.rest ∙ ap (λ (l : List ℕ). behind l a.items) is.held
@@ -253,269 +222,6 @@ module _ (start : Progress) (gives : Given → Type 0) (old : Caller) (before : 
         few = omega arith;
       })
 
-  -- a fault stopped it on the way
-  pub serving-stops : (fault : ServeFault) (mid new : Caller) (now later : LinkState) (r : ReceivedState) (requests : ℕ)
-      (put : List ℕ)
-      (all : List Item) (end : End) (is : IsServing start gives old mid before now r requests) → IsLegal start.totals
-      → ArePartly gives (progress_after start is.steps) r.held r.interim put mid new
-      → later.taken ≡ now.taken → later.put ≡ append_known now.put put → Items r.held all end
-      → OnReadFault fault (IsWaiting start (mark_of new.pass) gives before later old.pass.mine new.pass.mine new.reader)
-      → IsStopped fault start (mark_of new.pass) gives before later old.pass.mine new.pass.mine new.reader
-  serving-stops fault mid new now later r requests put all end is legal a takes puts whole waits =
-      let after = after-append start is.steps a.steps old mid new is.after a.after in
-      let most = is.most in let size = is.size in
-      let left = fronts-prefix r.held a.items all end a.front whole in
-      let items_are : Items is.taken ((is.items ++ a.items) ++ left.0) end =
-      subst (λ (l : List Item). Items is.taken l end) (sym (append_assoc is.items a.items left.0))
-      (opens-items is.taken is.items (a.items ++ left.0) end is.so_far.opens
-      (subst (λ (l : List ℕ). Items l (a.items ++ left.0) end) is.held
-      (subst (λ (l : List Item). Items r.held l end) left.1 whole))) in
-      further-stopped fault start (mark_of new.pass) gives before later is.taken
-      (is.put ++ (interim_of r.interim ++ put))
-      (is.items ++ a.items) left.0 (is.steps ++ a.steps) end old.pass.mine new.pass.mine new.reader
-      (record {
-        takes = takes ∙ is.passed.takes;
-        puts = put-joined r.interim is.put put now.put later.put is.passed.puts
-            puts;
-      }) (omega arith) items_are
-      (steps-append gives start is.items a.items is.steps a.steps is.so_far.are_steps a.are_steps) legal after.within (
-        a.begins.0,
-        transcript-append gives start is.items a.items is.steps a.steps is.so_far.are_steps
-            ∙ ap (λ (l : List ℕ). l ++ transcript a.items a.steps) (sym is.so_far.put_is)
-            ∙ ap (λ (l : List ℕ). is.put ++ l) a.begins.1
-            ∙ sym (append_assoc is.put (interim_of r.interim ++ put) a.begins.0),
-      )
-      (record { places = after.places; counted = after.counted }) waits
-
-  -- it stopped before anything of the request at the front was answered, but for its interim answer
-  pub serving-cut : (fault : ServeFault) (new : Caller) (now later : LinkState) (r : ReceivedState) (requests : ℕ)
-      (put : List ℕ) (asks : Bool)
-      (all : List Item) (end : End) → IsServing start gives old new before now r requests → IsLegal start.totals
-      → (asks ≡ true → AsksInterim r.held) → IsPrefix (interim_of r.interim ++ put) (interim_of asks)
-      → later.taken ≡ now.taken → later.put ≡ append_known now.put put → Items r.held all end
-      → OnReadFault fault (IsWaiting start (mark_of new.pass) gives before later old.pass.mine new.pass.mine new.reader)
-      → IsStopped fault start (mark_of new.pass) gives before later old.pass.mine new.pass.mine new.reader
-  serving-cut fault new now later r requests put asks all end is legal asked begins takes puts whole waits =
-      let c = progress_after start is.steps in
-      serving-stops fault new new now later r requests put all end is legal
-      (cut-partly gives c r.held asks r.interim put new all end whole asked begins is.after.within is.after.counted
-      (after-legal gives start is.items is.steps is.so_far.are_steps legal))
-      takes puts whole waits
-
-  -- all that is whole was answered, and more is waited for
-  serving-waits : (new : Caller) (now later : LinkState) (r : ReceivedState) (requests : ℕ)
-      → IsServing start gives old new before now r requests → later.taken ≡ now.taken → later.put ≡ now.put
-      → AreWaiting r.held r.interim
-      → IsWaiting start (mark_of new.pass) gives before later old.pass.mine new.pass.mine new.reader
-  serving-waits new now later r requests is takes puts waits = record {
-    taken = is.taken;
-    put = is.put;
-    items = is.items;
-    steps = is.steps;
-    interim = r.interim;
-    so_far = is.so_far;
-    waits = subst (λ (l : List ℕ). AreWaiting l r.interim) is.held waits;
-    passed = record { takes = takes ∙ is.passed.takes; puts = puts ∙ is.passed.puts };
-    ends = is.after.within;
-    keeps = record { places = is.after.places; counted = is.after.counted };
-  }
-
-  -- a take failed, or memory ran out for it
-  pub serving-untaken : (fault : ServeFault) (new : Caller) (now later : LinkState) (r : ReceivedState) (requests : ℕ)
-      (all : List Item) (end : End)
-      → IsServing start gives old new before now r requests → IsLegal start.totals → later.taken ≡ now.taken
-      → later.put ≡ now.put
-      → Items r.held all end → AreWaiting r.held r.interim
-      → IsStopped fault start (mark_of new.pass) gives before later old.pass.mine new.pass.mine new.reader
-  serving-untaken fault new now later r requests all end is legal takes puts whole waits =
-      serving-cut fault new now later r requests [] r.interim all end is legal is.interim
-      ([], sym (ap (λ (l : List ℕ). l ++ []) (append-nil (interim_of r.interim)) ∙ append-nil (interim_of r.interim)))
-      takes (puts ∙ sym (append_known-nil now.put)) whole
-      (on_read fault (IsWaiting start (mark_of new.pass) gives before later old.pass.mine new.pass.mine new.reader)
-      (serving-waits new now later r requests is takes puts waits))
-
-  -- the put of an interim answer failed
-  pub serving-unput : (fault : ServeFault) (new : Caller) (now later : LinkState) (r : ReceivedState) (requests : ℕ)
-      (asked : Bool) (all : List Item)
-      (end : End) → IsServing start gives old new before now r requests → IsLegal start.totals
-      → (asked ≡ true → AsksInterim r.held)
-      → later.taken ≡ now.taken
-      → (part : List ℕ) × IsPrefix part (interim_of (asked && not r.interim)) × (later.put ≡ append_known now.put part)
-      → Items r.held all end
-      → OnReadFault fault (IsWaiting start (mark_of new.pass) gives before later old.pass.mine new.pass.mine new.reader)
-      → IsStopped fault start (mark_of new.pass) gives before later old.pass.mine new.pass.mine new.reader
-  serving-unput fault new now later r requests asked all end is legal asks takes puts whole waits =
-      serving-cut fault new now later r requests puts.0 (r.interim || asked) all end is legal
-      (asked_by r.interim asked r.held is.interim asks) (
-        puts.1.0,
-        sym (interim_both r.interim asked) ∙ ap (λ (l : List ℕ). interim_of r.interim ++ l) puts.1.1
-            ∙ sym (append_assoc (interim_of r.interim) puts.0 puts.1.0),
-      )
-      takes puts.2 whole waits
-
-  no_interim : (b : Bool) (held : List ℕ) → (b ≡ true → AsksInterim held) → IsIdle held → b ≡ false
-  no_interim false held asks idle = refl
-  no_interim true held asks idle =
-      let a = asks refl in absurd (HasHead-busy held a.head a.has idle.blank)
-
-  -- the input was read to its end or to its limit, and nothing is left to answer
-  pub serving-ends : (new : Caller) (now : LinkState) (r : ReceivedState) (served : Served)
-      (is : IsServing start gives old new before now r served.requests) → IsIdle r.held
-      → IsReadOut is.taken is.items ended now.ended
-      → served.why ≡ why_of ended is.taken
-      → IsServed served start (mark_of new.pass) gives before now old.pass.mine new.pass.mine new.reader
-  serving-ends new now r served is idle read why =
-      let most = is.most in let size = is.size in
-      record {
-        taken = is.taken;
-        put = is.put;
-        passed = record {
-          takes = is.passed.takes;
-          puts =
-              is.passed.puts
-              ∙ ap (λ (b : Bool). append_known before.put (is.put ++ interim_of b))
-              (no_interim r.interim r.held is.interim idle)
-              ∙ ap (λ (l : List ℕ). append_known before.put l) (append-nil is.put);
-        };
-        most = omega arith;
-        held = record {
-          items = is.items;
-          steps = is.steps;
-          are_steps = is.so_far.are_steps;
-          ends = is.after.within;
-          is_put = record {
-            end = ended;
-            items_are =
-                subst (λ (l : List Item). Items is.taken l ended) (append-nil is.items)
-                (opens-items is.taken is.items [] ended is.so_far.opens
-                (subst (λ (l : List ℕ). IsIdle l) is.held idle, refl));
-            read = read;
-            put_is = is.so_far.put_is;
-          };
-        };
-        keeps = record { places = is.after.places; counted = is.after.counted };
-        requests = is.requests_are;
-        why_is = why;
-      }
-
-  at_limit : (taken : ℕ) → (taken == INPUT_LIMIT) ≡ true → taken ≡ INPUT_LIMIT
-  at_limit taken is = grind (arith, nat_tests)
-
-  complete_by : (b : Bool) (taken : ℕ) → (b || (taken == INPUT_LIMIT)) ≡ true → (b ≡ true) ⊎ (taken ≡ INPUT_LIMIT)
-  complete_by true taken is = inl refl
-  complete_by false taken is = inr (at_limit taken is)
-
-  -- why it ended, where no item closes
-  pub serving-why : (new : Caller) (now : LinkState) (r : ReceivedState) (requests : ℕ) (why : Why)
-      (is : IsServing start gives old new before now r requests) → (r.taken ≡ INPUT_LIMIT → why ≡ whys.Limit)
-      → (r.taken < INPUT_LIMIT → why ≡ whys.End) → why ≡ why_of ended is.taken
-  serving-why new now r requests why is limit none =
-      why_by r.taken (length is.taken) INPUT_LIMIT why is.size is.most limit none
-
-  -- where no more is taken, the input has ended or as much was taken as is at most
-  pub serving-complete : (new : Caller) (now : LinkState) (r : ReceivedState) (requests : ℕ)
-      (is : IsServing start gives old new before now r requests) → is_complete r ≡ true
-      → (now.ended ≡ true) ⊎ (length is.taken ≡ INPUT_LIMIT)
-  serving-complete new now r requests is complete =
-      elim (complete_by r.ended r.taken complete) as (λ _. (now.ended ≡ true) ⊎ (length is.taken ≡ INPUT_LIMIT)) [
-        | inl e ↦ inl (is.ends e)
-        | inr l ↦ inr (sym is.size ∙ l)
-      ]
-
-  -- nothing is left to answer, and no more is taken
-  pub serving-idle : (new : Caller) (now : LinkState) (r : ReceivedState) (requests : ℕ) (why : Why)
-      → IsServing start gives old new before now r requests → is_complete r ≡ true → IsIdle r.held
-      → (r.taken ≡ INPUT_LIMIT → why ≡ whys.Limit) → (r.taken < INPUT_LIMIT → why ≡ whys.End)
-      → IsServed (record { requests = requests; why = why }) start (mark_of new.pass) gives before now old.pass.mine
-      new.pass.mine new.reader
-  serving-idle new now r requests why is complete idle limit none =
-      serving-ends new now r (record { requests = requests; why = why }) is idle
-      (elim (serving-complete new now r requests is complete) as (λ _. IsReadOut is.taken is.items ended now.ended) [
-        | inl e ↦ inl e
-        | inr l ↦ inr (inl l)
-      ])
-      (serving-why new now r requests why is limit none)
-
-  closes-read : (complete : Bool) (taken held : List ℕ) (items more : List Item) (over : Bool) → Opens taken items
-      → held ≡ behind taken items → AreClosing complete held more
-      → (complete ≡ true → (over ≡ true) ⊎ (length taken ≡ INPUT_LIMIT)) → IsReadOut taken (items ++ more) closed over
-  closes-read true taken held items more over open_ is closing read =
-      elim (read refl) as (λ _. IsReadOut taken (items ++ more) closed over) [
-        | inl e ↦ inl e
-        | inr l ↦ inr (inl l)
-      ]
-  closes-read false taken held items more over open_ is closing read =
-      inr (inr (record {
-        closes = refl;
-        stays = λ rest.
-            let longer = opens-more taken rest items open_ in
-            opens-items (taken ++ rest) items more closed longer.0
-            (subst (λ (l : List ℕ). Items l more closed) (ap (λ (l : List ℕ). l ++ rest) is ∙ sym longer.1)
-            (closing rest (λ e. let bad : ⊥ = cc in absurd bad)));
-      }))
-
-  -- items at the front were answered, of which the last closes the connection
-  pub serving-closes : (mid new : Caller) (now later : LinkState) (r : ReceivedState) (requests : ℕ) (put : List ℕ)
-      (complete : Bool) (done : Answered) (served : Served) (is : IsServing start gives old mid before now r requests)
-      → AreAnswered gives (progress_after start is.steps) complete r.held r.interim put mid new done
-      → done.closes ≡ true
-      → (complete ≡ true → (later.ended ≡ true) ⊎ (length is.taken ≡ INPUT_LIMIT))
-      → later.taken ≡ now.taken → later.put ≡ append_known now.put put
-      → served.requests ≡ requests + done.requests → served.why ≡ why_of closed is.taken
-      → IsServed served start (mark_of new.pass) gives before later old.pass.mine new.pass.mine new.reader
-  serving-closes mid new now later r requests put complete done served is a shut read takes puts sum why =
-      let after = after-append start is.steps a.steps old mid new is.after a.after in
-      let most = is.most in let size = is.size in
-      let closing = a.front.0 shut in
-      record {
-        taken = is.taken;
-        put = is.put ++ (interim_of r.interim ++ put);
-        passed = record {
-          takes = takes ∙ is.passed.takes;
-          puts = put-joined r.interim is.put put now.put later.put is.passed.puts puts;
-        };
-        most = omega arith;
-        held = record {
-          items = is.items ++ a.items;
-          steps = is.steps ++ a.steps;
-          are_steps = steps-append gives start is.items a.items is.steps a.steps is.so_far.are_steps a.are_steps;
-          ends = after.within;
-          is_put = record {
-            end = closed;
-            items_are =
-                opens-items is.taken is.items a.items closed is.so_far.opens
-                (subst (λ (l : List ℕ). Items l a.items closed) (append-nil r.held ∙ is.held) (closing [] (λ e. refl)));
-            read = closes-read complete is.taken r.held is.items a.items later.ended is.so_far.opens is.held closing
-                read;
-            put_is =
-                ap (λ (l : List ℕ). l ++ (interim_of r.interim ++ put)) is.so_far.put_is
-                ∙ ap (λ (l : List ℕ). transcript is.items is.steps ++ l) a.put_is
-                ∙ sym (transcript-append gives start is.items a.items is.steps a.steps is.so_far.are_steps);
-          };
-        };
-        keeps = record { places = after.places; counted = after.counted };
-        requests =
-            sum ∙ ap (λ (n : ℕ). n + done.requests) is.requests_are ∙ ap (λ (n : ℕ). length is.items + n) a.requests
-            ∙ sym (length-append is.items a.items);
-        why_is = why;
-      }
-
-  -- a fault stopped this turn of the loop
-  pub goes_on-stopped : (Q : ServeFault → Type 0) (work : ℕ) (result : Result (Option Why) ServeFault) (new : Caller)
-      (now : LinkState) (r : ReceivedState) (requests : ℕ) → IsErrAnd result Q
-      → ((fault : ServeFault) → result ≡ Err fault → (items : List Item) → (end : End) → Items r.held items end
-      → IsStopped fault start (mark_of new.pass) gives before now old.pass.mine new.pass.mine new.reader)
-      → GoesOn start gives old before work result new now r requests
-  goes_on-stopped Q work (Ok why) new now r requests failed stopped = absurd failed
-  goes_on-stopped Q work (Err fault) new now r requests failed stopped = stopped fault refl
-
-  -- as much was left to do
-  pub goes_on-from : (work other : ℕ) (result : Result (Option Why) ServeFault) (new : Caller) (now : LinkState)
-      (r : ReceivedState) (requests : ℕ) → work ≡ other → GoesOn start gives old before work result new now r requests
-      → GoesOn start gives old before other result new now r requests
-  goes_on-from work other result new now r requests same goes =
-      subst (λ (n : ℕ). GoesOn start gives old before n result new now r requests) same goes
-
 -- ---- what answering the front keeps
 
 -- what a pass and a reader know is where the serving may go on from
@@ -524,38 +230,14 @@ pub front-start : (pass : Known) (read : List Entry) → IsWithin (progress_from
 front-start pass read = record { seen = IsPrefix-refl pass.seen; faults = le_refl pass.faults }
 
 pub answered-legal : (gives : Given → Type 0) (c : Progress) (complete : Bool) (held : List ℕ) (out : Bool)
-    (put : List ℕ)
-    (old new : Caller) (done : Answered) → AreAnswered gives c complete held out put old new done → IsLegal c.totals
-    → IsLegal new.reader
-answered-legal gives c complete held out put old new done a legal =
+    (put : List ℕ) (link : Halves)
+    (old new : Caller) (done : Answered) → AreAnswered gives c complete held out put link old new done
+    → IsLegal c.totals → IsLegal new.reader
+answered-legal gives c complete held out put link old new done a legal =
     subst (λ (H : List Entry). IsLegal H) (sym a.after.counted) (after-legal gives c a.items a.steps a.are_steps legal)
 
 pub partly-legal : (gives : Given → Type 0) (c : Progress) (held : List ℕ) (out : Bool) (put : List ℕ)
-    (old new : Caller)
-    → ArePartly gives c held out put old new → IsLegal c.totals → IsLegal new.reader
-partly-legal gives c held out put old new a legal =
+    (link : Halves) (old new : Caller)
+    → ArePartly gives c held out put link old new → IsLegal c.totals → IsLegal new.reader
+partly-legal gives c held out put link old new a legal =
     subst (λ (H : List Entry). IsLegal H) (sym a.after.counted) (after-legal gives c a.items a.steps a.are_steps legal)
-
--- ---- what was served goes on
-
--- what was seen at entry is within what is seen at exit, and begins what the reader has seen
-pub record IsFurther (start : Progress) (final : Mark) (read : List Entry) : Type 0 where
-  pub within : IsWithin start final
-  pub counted : IsPrefix start.totals read
-
-pub serves-further : (result : Result Served ServeFault) (start : Progress) (final : Mark) (gives : Given → Type 0)
-    (before now : LinkState)
-    (mine kept : List ℕ) (read : List Entry) → Serves result start final gives before now mine kept read
-    → IsFurther start final read
-serves-further (Ok served) start final gives before now mine kept read s = record {
-  within = held-follows start final gives s.taken s.put now.ended true s.held;
-  counted =
-      subst (λ (H : List Entry). IsPrefix start.totals H) (sym s.keeps.counted)
-      (progress_after-longer gives start s.held.items s.held.steps s.held.are_steps).1;
-}
-serves-further (Err fault) start final gives before now mine kept read s = record {
-  within = held-follows start final gives s.taken s.put now.ended false s.held;
-  counted =
-      subst (λ (H : List Entry). IsPrefix start.totals H) (sym s.keeps.counted)
-      (progress_after-longer gives start s.held.items s.held.steps s.held.are_steps).1;
-}

@@ -1,5 +1,5 @@
 -- One request at the front of the bytes held, answered by itself.
-use Rattle.std.proofs.Common.{ℕ, ◌≡◌, ◌≢◌, ◌≤◌, ◌<◌, Bool, true, false, List, [], ◌∷◌, ◌++◌, length, Option, Result, Ok, Err, refl, sym, ap, ◌∙◌, subst, arith, append-nil}
+use Rattle.std.proofs.Common.{ℕ, ◌≡◌, ◌≢◌, ◌≤◌, ◌<◌, ◌⊎◌, inl, None, Bool, true, false, List, [], ◌∷◌, ◌++◌, length, Option, Result, Ok, Err, refl, sym, ap, ◌∙◌, subst, arith, append-nil}
 use Rattle.std.specs.Io.KnownBytes.{append_known}
 use Rattle.connection_laws.specs.Answers.{Response, interim_of, no_memory, response_of, response_to}
 use Rattle.connection_laws.specs.Kinds.{commands, kind_by, kind_of}
@@ -28,7 +28,9 @@ use Rattle.farm_http.specs.Batches.{BatchState, IsBatch, all_answered}
 use Rattle.farm_http.specs.Bytes.{PutSays, request_bytes}
 use Rattle.farm_http.specs.Callers.{IsAfter, mark_of}
 use Rattle.farm_http.specs.declared.caller.Caller.{Caller}
-use Rattle.farm_http.specs.Fronts.{FrontSays}
+use Rattle.farm_http.specs.Fronts.{FrontSays, Halves}
+use Rattle.farm_http.specs.Noting.{AreQuiet, TookNote}
+use Rattle.connection_laws.specs.Told.{told_history}
 use Rattle.farm_http.specs.declared.front.Answered.{Answered}
 use Rattle.farm_http.proofs.BatchSteps.{front-says, front-stands, items-put}
 use Rattle.farm_http.proofs.Gathering.{front-one, next-here}
@@ -46,23 +48,25 @@ one_answered request = record { requests = 1; size = request.size; closes = requ
 
 -- The request came to a step, and its answer was put, or a part of it.
 pub front-single : (gives : Given → Type 0) (c : Progress) (complete : Bool) (held : List ℕ) (out : Bool)
-    (before now : Option (List ℕ)) (old new : Caller) (request : Request) (step : Step) (r : Response)
+    (link : Halves) (old new : Caller) (request : Request) (step : Step) (r : Response)
     → IsNextFor complete held request → out ≡ request.interim → IsStep gives c (item_in held request) step
-    → IsAfter c (step ∷ []) old new → response_of step ≡ r → (result : Result Answered ServeFault)
-    → ((d : Answered) → result ≡ Ok d → d ≡ one_answered request) → PutSays (request_bytes request r) before now result
-    → FrontSays gives c complete held out before now old new result
-front-single gives c complete held out before now old new request step r n shown is_step after said result same put =
+    → IsAfter c (step ∷ []) old new → response_of step ≡ r
+    → AreQuiet (step ∷ []) ⊎ TookNote link.aside link.later link.before new.pass → (result : Result Answered ServeFault)
+    → ((d : Answered) → result ≡ Ok d → d ≡ one_answered request)
+    → PutSays (request_bytes request r) link.before link.now result
+    → FrontSays gives c complete held out link old new result
+front-single gives c complete held out link old new request step r n shown is_step after said noted result same put =
     let item = item_in held request in
     let b : BatchState = record { asks = []; requests = []; size = request.size; closes = request.closes } in
     let whole = items-put item [] (request ∷ []) step [] (r ∷ [])
     (record { interim = refl; withheld = refl; closes = refl }, tt) tt
     (said, tt) in
-    front-says gives c complete held out before now old new (one_answered request) (item ∷ []) (step ∷ [])
+    front-says gives c complete held out link old new (one_answered request) (item ∷ []) (step ∷ [])
     (request_bytes request r)
     (omega arith) (front-one complete held request b n (next-bytes complete held request n) refl refl) refl
     (is_step, tt) after (ap (λ (x : Bool). interim_of x ++ request_bytes request r) shown
     ∙ ap (λ (l : List ℕ). interim_of request.interim ++ l) (sym (append-nil (request_bytes request r))) ∙ whole)
-    result same put
+    (shown, noted) result same put
 
 -- a step that changes nothing of what the pass knows
 record IsStill (c : Progress) (o : Outcome) (read : List Entry) : Type 0 where
@@ -89,38 +93,40 @@ still-after c step pass was read s w =
 -- ---- the steps of single requests
 
 module _ (gives : Given → Type 0) (c : Progress) (complete : Bool) (held : List ℕ) (out : Bool)
-    (before now : Option (List ℕ))
+    (link : Halves)
     (pass : Known) (request : Request) (next : IsNextFor complete held request) (shown : out ≡ request.interim)
     (within : IsWithin c (mark_of pass)) where
   -- a step after which the pass is as before
   single-says : (read : List Entry) (step : Step) (r : Response) → IsStep gives c (item_in held request) step
       → IsStill c step.outcome read
-      → response_of step ≡ r → (result : Result Answered ServeFault)
+      → response_of step ≡ r → told_history step.outcome ≡ None → (result : Result Answered ServeFault)
       → ((d : Answered) → result ≡ Ok d → d ≡ one_answered request)
-      → PutSays (request_bytes request r) before now result
-      → FrontSays gives c complete held out before now (record { pass = pass; reader = c.totals })
+      → PutSays (request_bytes request r) link.before link.now result
+      → FrontSays gives c complete held out link (record { pass = pass; reader = c.totals })
       (record { pass = pass; reader = read }) result
-  single-says read step r is_step still said result same put =
-      front-single gives c complete held out before now (record { pass = pass; reader = c.totals })
+  single-says read step r is_step still said quiet result same put =
+      front-single gives c complete held out link (record { pass = pass; reader = c.totals })
       (record { pass = pass; reader = read })
-      request step r next shown is_step (still-after c step pass c.totals read still within) said result same put
+      request step r next shown is_step (still-after c step pass c.totals read still within) said
+      (inl (quiet, tt)) result same put
 
   -- a fault
   pub faulted-says : (f : Fault) → request.asks ≡ Err f → (result : Result Answered ServeFault)
       → ((d : Answered) → result ≡ Ok d → d ≡ one_answered request)
-      → PutSays (request_bytes request (response_to (faulted f))) before now result
-      → FrontSays gives c complete held out before now (record { pass = pass; reader = c.totals })
+      → PutSays (request_bytes request (response_to (faulted f))) link.before link.now result
+      → FrontSays gives c complete held out link (record { pass = pass; reader = c.totals })
       (record { pass = pass; reader = c.totals }) result
   faulted-says f asks result same put =
       single-says c.totals (record { outcome = faulted f; written = true }) (response_to (faulted f))
       (ap (λ (a : Result Endpoint Fault). kind_by a (item_in held request).body) asks, refl)
-      (record { seen = refl; faults = refl; none = refl; counts = refl }) refl result same put
+      (record { seen = refl; faults = refl; none = refl; counts = refl }) refl refl result same put
 
   -- the totals of a history that begins with the last one
   pub counted-says : (H : List Entry) (w : Bool) → request.asks ≡ Ok endpoint.Totals → IsPrefix c.totals H → IsLegal H
       → (result : Result Answered ServeFault) → ((d : Answered) → result ≡ Ok d → d ≡ one_answered request)
-      → PutSays (request_bytes request (response_of (record { outcome = counted H; written = w }))) before now result
-      → FrontSays gives c complete held out before now (record { pass = pass; reader = c.totals })
+      → PutSays (request_bytes request (response_of (record { outcome = counted H; written = w })))
+      link.before link.now result
+      → FrontSays gives c complete held out link (record { pass = pass; reader = c.totals })
       (record { pass = pass; reader = H }) result
   counted-says H w asks begins legal result same put =
       single-says H (record { outcome = counted H; written = w })
@@ -132,7 +138,7 @@ module _ (gives : Given → Type 0) (c : Progress) (complete : Bool) (held : Lis
         },
         tt,
       )
-      (record { seen = refl; faults = refl; none = refl; counts = refl }) refl result same put
+      (record { seen = refl; faults = refl; none = refl; counts = refl }) refl refl result same put
 
   command-kind : (route : Route) → request.asks ≡ Ok (endpoint.Command route)
       → kind_of (item_in held request) ≡ commands (body_reading route (item_in held request).body)
@@ -142,25 +148,26 @@ module _ (gives : Given → Type 0) (c : Progress) (complete : Bool) (held : Lis
   pub misread-says : (route : Route) (f : WireFault) (w : Bool) → request.asks ≡ Ok (endpoint.Command route)
       → body_reading route (item_in held request).body ≡ Err f → (result : Result Answered ServeFault)
       → ((d : Answered) → result ≡ Ok d → d ≡ one_answered request)
-      → PutSays (request_bytes request (response_of (record { outcome = misread f; written = w }))) before now result
-      → FrontSays gives c complete held out before now (record { pass = pass; reader = c.totals })
+      → PutSays (request_bytes request (response_of (record { outcome = misread f; written = w })))
+      link.before link.now result
+      → FrontSays gives c complete held out link (record { pass = pass; reader = c.totals })
       (record { pass = pass; reader = c.totals }) result
   misread-says route f w asks is result same put =
       single-says c.totals (record { outcome = misread f; written = w })
       (response_of (record { outcome = misread f; written = w }))
       (command-kind route asks ∙ ap (λ (x : Result Command WireFault). commands x) is, tt)
-      (record { seen = refl; faults = refl; none = refl; counts = refl }) refl result same put
+      (record { seen = refl; faults = refl; none = refl; counts = refl }) refl refl result same put
 
   -- memory ran out before its command was known
   pub unread-says : (route : Route) → request.asks ≡ Ok (endpoint.Command route) → (result : Result Answered ServeFault)
       → ((d : Answered) → result ≡ Ok d → d ≡ one_answered request)
-      → PutSays (request_bytes request no_memory) before now result
-      → FrontSays gives c complete held out before now (record { pass = pass; reader = c.totals })
+      → PutSays (request_bytes request no_memory) link.before link.now result
+      → FrontSays gives c complete held out link (record { pass = pass; reader = c.totals })
       (record { pass = pass; reader = c.totals }) result
   unread-says route asks result same put =
       single-says c.totals (record { outcome = unread; written = true }) no_memory
       (record { reading = body_reading route (item_in held request).body; asked = command-kind route asks }, tt)
-      (record { seen = refl; faults = refl; none = refl; counts = refl }) refl result same put
+      (record { seen = refl; faults = refl; none = refl; counts = refl }) refl refl result same put
 
   -- the body of a command was not read: it is no command, or memory ran out for it
   pub unasked-says : (route : Route) (f : WireFault) → request.asks ≡ Ok (endpoint.Command route)
@@ -168,9 +175,9 @@ module _ (gives : Given → Type 0) (c : Progress) (complete : Bool) (held : Lis
       → (result : Result Answered ServeFault)
       → ((d : Answered) → result ≡ Ok d → d ≡ one_answered request)
       → (f ≢ wire.Memory → (w : Bool) × PutSays (request_bytes request
-      (response_of (record { outcome = misread f; written = w }))) before now result)
-      → (f ≡ wire.Memory → PutSays (request_bytes request no_memory) before now result)
-      → FrontSays gives c complete held out before now (record { pass = pass; reader = c.totals })
+      (response_of (record { outcome = misread f; written = w }))) link.before link.now result)
+      → (f ≡ wire.Memory → PutSays (request_bytes request no_memory) link.before link.now result)
+      → FrontSays gives c complete held out link (record { pass = pass; reader = c.totals })
       (record { pass = pass; reader = c.totals }) result
   unasked-says route wire.Memory asks is result same misread_put unread_put = unread-says route asks result same
       (unread_put refl)
@@ -218,12 +225,12 @@ batch-shown gives complete held b request is n =
     (front-stands complete held (is.first ∷ is.others) (all_answered b) is.front).0)
 
 pub read-both : (gives : Given → Type 0) (c : Progress) (complete : Bool) (held : List ℕ) (out : Bool)
-    (before now : Option (List ℕ))
+    (link : Halves)
     (old new : Known) (was : List Entry) (result : Result Answered ServeFault) → was ≡ c.totals
-    → FrontSays gives c complete held out before now (record { pass = old; reader = c.totals })
+    → FrontSays gives c complete held out link (record { pass = old; reader = c.totals })
     (record { pass = new; reader = c.totals }) result
-    → FrontSays gives c complete held out before now (record { pass = old; reader = was })
+    → FrontSays gives c complete held out link (record { pass = old; reader = was })
     (record { pass = new; reader = was }) result
-read-both gives c complete held out before now old new was result same f =
-    subst (λ (H : List Entry). FrontSays gives c complete held out before now (record { pass = old; reader = H })
+read-both gives c complete held out link old new was result same f =
+    subst (λ (H : List Entry). FrontSays gives c complete held out link (record { pass = old; reader = H })
     (record { pass = new; reader = H }) result) (sym same) f

@@ -10,7 +10,7 @@ use Rattle.http_requests.proofs.ItemLaws.{open-append, open-some}
 use Rattle.link_io.specs.declared.source.TheConstants.{INPUT_LIMIT}
 use Rattle.farm_http.specs.declared.caller.Caller.{Caller}
 use Rattle.farm_http.specs.Connection.{work_left}
-use Rattle.farm_http.specs.Fronts.{AreAnswered, AreClosing, AreOpen}
+use Rattle.farm_http.specs.Fronts.{AreAnswered, AreClosing, AreOpen, Halves}
 use Rattle.farm_http.specs.Received.{IsTaken, ReceivedState, is_complete}
 use Rattle.farm_http.specs.declared.front.Answered.{Answered}
 
@@ -34,9 +34,10 @@ closes-count false complete held items size one other =
 
 -- what was answered at once is not more than what is held, but for one
 pub answered-count : (gives : Given → Type 0) (c : Progress) (complete : Bool) (held : List ℕ) (out : Bool)
-    (put : List ℕ) (old new : Caller) (done : Answered) → AreAnswered gives c complete held out put old new done
+    (put : List ℕ) (link : Halves) (old new : Caller) (done : Answered)
+    → AreAnswered gives c complete held out put link old new done
     → done.requests ≤ length held + 1
-answered-count gives c complete held out put old new done a =
+answered-count gives c complete held out put link old new done a =
     let all = closes-count done.closes complete held a.items done.size a.front.0 a.front.1 in
     let same = a.requests in omega arith
 

@@ -1,9 +1,10 @@
-pub mod Callers
-pub mod Bytes
-pub mod Received
-pub mod Fronts
 pub mod Batches
-pub mod Turns
-pub mod Faults
+pub mod Bytes
+pub mod Callers
 pub mod Connection
+pub mod Faults
+pub mod Fronts
+pub mod Noting
+pub mod Received
 pub mod Told
+pub mod Turns

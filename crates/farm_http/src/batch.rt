@@ -6,17 +6,20 @@ ghost use Rattle.connection_laws.specs.Moments.{GivenBy};
 ghost use Rattle.farm_store.specs.declared.asking.TheConstants.{MAX_BATCH};
 ghost use Rattle.farm_http.specs.Batches.{IsBatch};
 ghost use Rattle.farm_entry.specs.Legal.{IsLegal};
+ghost use Rattle.past_moments.specs.Rows.{AreAmong};
+ghost use Rattle.shared_farm.specs.Logs.{IsOver};
 ghost use Rattle.shared_farm.specs.Turns.{IsTurn};
 ghost use Rattle.turn_lock.specs.Known.{IsReady};
 
 use crate::service::Service;
-use farm_disk::Disk;
+use farm_disk::DatedDisk;
 use farm_entry::Command;
 use farm_store::{Answers, Ask, CallFault, MAX_BATCH};
 use farm_wire::command_of;
 use http_requests::{LastHead, Next, Reading, Request, next_of};
 use http_words::{Endpoint, Fault};
 use link_io::Clock;
+use past_moments::Past;
 use shared_farm::Beginning;
 use std::alloc::Global;
 use std::marker::Model;
@@ -97,19 +100,22 @@ impl Batch {
         self.asks.clear();
     }
 
-    /// Asks the farm for the commands, of which there are some, at one turn of the pass.
-    pub fn ask<R: Wait, D: Disk, B: Beginning, C: Clock>(
+    /// Asks the farm for the commands, of which there are some, at one turn of the pass. With the
+    /// answers comes a moment that is over, by which all that the pass has seen then stood.
+    pub fn ask<R: Wait, D: DatedDisk, B: Beginning, C: Clock>(
         &mut self,
         service: &Service<R, D, B, C>,
         pass: &mut Pass,
-    ) -> Result<Answers, CallFault>
+    ) -> (Result<Answers, CallFault>, D::Over)
         requires ready { IsReady service.now.farm.now pass.old }
         requires some { 1 ≤ length self.old.asks }
         ensures same { self.new ≡ self.old }
         ensures ready { IsReady service.now.farm.now pass.new }
-        ensures turn { IsTurn D.count self.old.asks result pass.old pass.new }
+        ensures turn { IsTurn D.count self.old.asks result.0 pass.old pass.new }
         ensures legal { IsLegal pass.new.seen }
         ensures faults { pass.old.faults ≤ pass.new.faults }
+        ensures rows { AreAmong pass.old.rows pass.new.rows }
+        ensures over { IsOver (D.Over.at result.1) pass.new }
     {
         service
             .farm
@@ -179,7 +185,7 @@ impl Batch {
     /// Adds the command that stands whole in the bytes held behind those of the batch, and says whether there is one: a
     /// request whose interim answer has to be put is none, nor is a body that is no command or for which memory runs
     /// out. It is asked at a moment that the clock gives now.
-    fn add_next<R, D: Disk, B: Beginning, C: Clock>(
+    fn add_next<R, D: DatedDisk, B: Beginning, C: Clock>(
         &mut self,
         service: &Service<R, D, B, C>,
         last: &mut LastHead,
@@ -219,7 +225,7 @@ impl Batch {
     /// ends before a request that is none, or whose interim answer has to be put, before a body that is no command or
     /// for which memory runs out, and after a request that closes the connection. Each is asked at a moment that the
     /// clock gives now.
-    pub fn gather<R, D: Disk, B: Beginning, C: Clock>(
+    pub fn gather<R, D: DatedDisk, B: Beginning, C: Clock>(
         &mut self,
         service: &Service<R, D, B, C>,
         last: &mut LastHead,

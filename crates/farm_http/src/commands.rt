@@ -1,6 +1,7 @@
 //! Commands asked of the farm, and their answers put.
 ghost use Rattle.std.specs.Prelude.{◌≡◌, ◌≢◌, ◌≤◌, [], Bool, List, All, Ok, OnOk, length, map, true};
 ghost use Rattle.fault_types.specs.Counts.{Rose};
+ghost use Rattle.past_moments.specs.Rows.{AreAmong};
 ghost use Rattle.turn_lock.specs.Known.{IsReady};
 ghost use Rattle.http_requests.specs.Next.{IsNextFor};
 ghost use Rattle.connection_laws.specs.Answers.{no_memory, response_of};
@@ -11,9 +12,10 @@ ghost use Rattle.farm_wire.specs.Answers.{AnswerHasDates};
 ghost use Rattle.farm_http.specs.Bytes.{OutSays, PutSays, farm_response, farm_responses, request_bytes, requests_bytes, said};
 ghost use Rattle.farm_http.specs.Callers.{mark_of};
 ghost use Rattle.farm_http.specs.Faults.{OnPutFault};
-ghost use Rattle.farm_http.specs.Fronts.{FrontSays};
+ghost use Rattle.farm_http.specs.Fronts.{FrontSays, halves};
+ghost use Rattle.farm_http.specs.Noting.{MayNote, TookNote};
 ghost use Rattle.farm_http.specs.Received.{is_complete};
-ghost use Rattle.farm_http.specs.Turns.{IsBatchPut};
+ghost use Rattle.farm_http.specs.Turns.{HasAnswers, IsBatchPut, TurnPut};
 
 use crate::front::Answered;
 use crate::kept::Kept;
@@ -21,9 +23,9 @@ use crate::received::Received;
 use crate::responses::{Says, put_behind, put_out, put_response};
 use crate::service::Service;
 use connection_laws::ServeFault;
-use farm_disk::Disk;
+use farm_disk::DatedDisk;
 use farm_entry::Answer;
-use farm_store::{Ask, CallFault};
+use farm_store::{Answers, Ask, CallFault};
 use farm_wire::{WireFault, answer_text_in, command_of, fault_text};
 use gathered_sink::Gathered;
 use http_answers::{answer_status, store_fault_text};
@@ -40,7 +42,7 @@ const MOST_ROOM: usize = 65_536;
 
 impl Kept {
     /// Answers the command at the front, and with it those behind it that may share its turn.
-    pub fn answer_commands<R: Wait, L: Link, D: Disk, B: Beginning, C: Clock>(
+    pub fn answer_commands<R: Wait, L: Link<Over = D::Over>, D: DatedDisk, B: Beginning, C: Clock>(
         &mut self,
         service: &Service<R, D, B, C>,
         pass: &mut Pass,
@@ -58,9 +60,10 @@ impl Kept {
         ensures empty { OnOk result (self.new.out ≡ []) }
         ensures says { (c : Progress) → IsWithin c (mark_of pass.old)
             → FrontSays (GivenBy C.Clock service.now.clock.now D.count) c (is_complete received.now) received.now.held
-            received.now.interim (L.Sink.written link.old) (L.Sink.written link.new)
+            received.now.interim (halves L.Sink link.old link.new)
             (record { pass = pass.old; reader = c.totals }) (record { pass = pass.new; reader = c.totals }) result }
-        ensures aside { L.Sink.aside link.new ≡ L.Sink.aside link.old }
+        ensures aside { MayNote (L.Sink.aside link.old) (L.Sink.aside link.new) (L.Sink.written link.old) pass.new }
+        ensures rows { AreAmong pass.old.rows pass.new.rows }
         ensures cause { OnPutFault result (Rose (L.Sink.count link.old) (L.Sink.count link.new)) }
         ensures never_falls { L.Sink.count link.old ≤ L.Sink.count link.new }
     {
@@ -90,8 +93,9 @@ impl Kept {
         Ok(done)
     }
 
-    /// Asks the farm for the batch at one turn, and puts its answers.
-    fn answer_batch<R: Wait, L: Link, D: Disk, B: Beginning, C: Clock>(
+    /// Asks the farm for the batch at one turn, and puts its answers. The link first takes a note of a moment that was
+    /// over after the turn, whatever that came to.
+    fn answer_batch<R: Wait, L: Link<Over = D::Over>, D: DatedDisk, B: Beginning, C: Clock>(
         &mut self,
         service: &Service<R, D, B, C>,
         pass: &mut Pass,
@@ -106,13 +110,35 @@ impl Kept {
         ensures faults { pass.old.faults ≤ pass.new.faults }
         ensures says { IsBatchPut D.count self.old.batch.asks self.old.batch.requests pass.old pass.new
             (L.Sink.written link.old) (L.Sink.written link.new) result }
-        ensures aside { L.Sink.aside link.new ≡ L.Sink.aside link.old }
+        ensures aside { TookNote (L.Sink.aside link.old) (L.Sink.aside link.new) (L.Sink.written link.old) pass.new }
+        ensures rows { AreAmong pass.old.rows pass.new.rows }
         ensures cause { OnPutFault result (Rose (L.Sink.count link.old) (L.Sink.count link.new)) }
         ensures never_falls { L.Sink.count link.old ≤ L.Sink.count link.new }
     {
-        match self.batch.ask(service, pass) {
+        let (turn, over) = self.batch.ask(service, pass);
+        link.note_over(&over);
+        self.put_turn(service.alloc, link, turn)
+    }
+
+    /// Puts what the batch's turn came to.
+    fn put_turn<K: Sink>(
+        &mut self,
+        alloc: Global,
+        link: &mut K,
+        turn: Result<Answers, CallFault>,
+    ) -> Result<(), ServeFault>
+        requires answers { HasAnswers turn self.old.batch.asks }
+        requires empty { self.old.out ≡ [] }
+        ensures same { self.new.batch ≡ self.old.batch }
+        ensures empty { OnOk result (self.new.out ≡ []) }
+        ensures says { TurnPut turn self.old.batch.requests (K.written link.old) (K.written link.new) result }
+        ensures aside { K.aside link.new ≡ K.aside link.old }
+        ensures cause { OnPutFault result (Rose (K.count link.old) (K.count link.new)) }
+        ensures never_falls { K.count link.old ≤ K.count link.new }
+    {
+        match turn {
             Ok(answers) => put_answers(
-                service.alloc,
+                alloc,
                 &mut self.text,
                 &mut self.out,
                 link,

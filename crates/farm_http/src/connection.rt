@@ -18,7 +18,7 @@ use crate::kept::Kept;
 use crate::received::Received;
 use crate::service::Service;
 use connection_laws::{ServeFault, Why};
-use farm_disk::Disk;
+use farm_disk::DatedDisk;
 use http_requests::{Next, Request};
 use link_io::{Clock, Link};
 use shared_farm::Beginning;
@@ -50,7 +50,7 @@ impl Connection {
 
     /// Takes what has to be taken until the request at the front is whole, or answers it and those that may share its
     /// turn. Where the serving has ended it says why.
-    pub fn serve_next<R: Wait, L: Link, D: Disk, B: Beginning, C: Clock>(
+    pub fn serve_next<R: Wait, L: Link<Over = D::Over>, D: DatedDisk, B: Beginning, C: Clock>(
         &mut self,
         service: &Service<R, D, B, C>,
         caller: &mut Caller,
@@ -94,7 +94,7 @@ impl Connection {
 
     /// Answers the request at the front, and those that may share its turn. Its interim answer is out, where it has
     /// one.
-    fn answer_next<R: Wait, L: Link, D: Disk, B: Beginning, C: Clock>(
+    fn answer_next<R: Wait, L: Link<Over = D::Over>, D: DatedDisk, B: Beginning, C: Clock>(
         &mut self,
         service: &Service<R, D, B, C>,
         caller: &mut Caller,

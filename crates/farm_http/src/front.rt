@@ -7,12 +7,14 @@ ghost use Rattle.connection_laws.specs.Moments.{GivenBy};
 ghost use Rattle.connection_laws.specs.Progress.{Progress, IsWithin};
 ghost use Rattle.farm_entry.specs.Legal.{IsLegal};
 ghost use Rattle.list_prefix.specs.Prefix.{IsPrefix};
+ghost use Rattle.past_moments.specs.Rows.{AreAmong};
 ghost use Rattle.connection_laws.specs.Answers.{response_of, response_to};
 ghost use Rattle.connection_laws.specs.Outcomes.{counted, faulted};
 ghost use Rattle.farm_http.specs.Bytes.{PutSays, request_bytes};
 ghost use Rattle.farm_http.specs.Callers.{mark_of};
 ghost use Rattle.farm_http.specs.Faults.{OnPutFault};
-ghost use Rattle.farm_http.specs.Fronts.{FrontSays};
+ghost use Rattle.farm_http.specs.Fronts.{FrontSays, halves};
+ghost use Rattle.farm_http.specs.Noting.{MayNote};
 ghost use Rattle.farm_http.specs.Received.{is_complete};
 
 use crate::caller::Caller;
@@ -23,7 +25,7 @@ use crate::responses::{Says, put_bytes, put_response};
 use crate::service::Service;
 use crate::told::tell;
 use connection_laws::ServeFault;
-use farm_disk::Disk;
+use farm_disk::DatedDisk;
 use gathered_sink::Gathered;
 use http_answers::{fault_allow, fault_status, fault_text};
 use http_requests::Request;
@@ -61,7 +63,7 @@ impl Answered {
 
 impl Kept {
     /// Answers the request at the front, and with it the commands behind it that may share its turn.
-    pub fn answer_front<R: Wait, L: Link, D: Disk, B: Beginning, C: Clock>(
+    pub fn answer_front<R: Wait, L: Link<Over = D::Over>, D: DatedDisk, B: Beginning, C: Clock>(
         &mut self,
         service: &Service<R, D, B, C>,
         caller: &mut Caller,
@@ -77,8 +79,10 @@ impl Kept {
         ensures empty { OnOk result (self.new.out ≡ []) }
         ensures says { (c : Progress) → IsWithin c (mark_of caller.old.pass) → caller.old.reader ≡ c.totals
             → FrontSays (GivenBy C.Clock service.now.clock.now D.count) c (is_complete received.now) received.now.held
-            received.now.interim (L.Sink.written link.old) (L.Sink.written link.new) caller.old caller.new result }
-        ensures aside { L.Sink.aside link.new ≡ L.Sink.aside link.old }
+            received.now.interim (halves L.Sink link.old link.new) caller.old caller.new result }
+        ensures aside { MayNote (L.Sink.aside link.old) (L.Sink.aside link.new) (L.Sink.written link.old)
+            caller.new.pass }
+        ensures rows { AreAmong caller.old.pass.rows caller.new.pass.rows }
         ensures cause { OnPutFault result (Rose (L.Sink.count link.old) (L.Sink.count link.new)) }
         ensures never_falls { L.Sink.count link.old ≤ L.Sink.count link.new }
     {

@@ -9,6 +9,7 @@ ghost use Rattle.connection_laws.specs.Marks.{Follows};
 ghost use Rattle.connection_laws.specs.Moments.{GivenBy};
 ghost use Rattle.connection_laws.specs.Progress.{progress_from};
 ghost use Rattle.connection_laws.specs.Serving.{Serves};
+ghost use Rattle.connection_laws.specs.Told.{noted_in};
 ghost use Rattle.farm_http.specs.Callers.{mark_of};
 ghost use Rattle.farm_http.specs.Faults.{OnLinkFault};
 
@@ -16,7 +17,7 @@ use crate::caller::Caller;
 use crate::connection::Connection;
 use crate::service::Service;
 use connection_laws::{ServeFault, Served};
-use farm_disk::Disk;
+use farm_disk::DatedDisk;
 use http_requests::every_input_has_items;
 use link_io::{Clock, Link};
 use shared_farm::Beginning;
@@ -27,13 +28,14 @@ use std::sync::Wait;
 /// bytes were taken. What a request asks for is looked up in the service's table of paths. A command is answered at a
 /// turn of the caller's pass, at the moment that the clock gives, and commands that stand whole in the bytes held share
 /// a turn, up to [`MAX_BATCH`](farm_store::MAX_BATCH) of them. The totals are read by the caller's reader, without a
-/// turn.
+/// turn. Before the answer to a command or a log page is put, the link takes a note that a moment of the disk is over:
+/// one by which the history that the answer tells of stood there.
 ///
 /// # Errors
 ///
 /// The link failed at a take or at a put, or memory ran out for the bytes held. What was put by then is a prefix of the
 /// answers, and what was recorded stays.
-pub fn serve_link<R: Wait, L: Link, D: Disk, B: Beginning, C: Clock>(
+pub fn serve_link<R: Wait, L: Link<Over = D::Over>, D: DatedDisk, B: Beginning, C: Clock>(
     service: &Service<R, D, B, C>,
     caller: &mut Caller,
     link: &mut L,
@@ -42,7 +44,9 @@ pub fn serve_link<R: Wait, L: Link, D: Disk, B: Beginning, C: Clock>(
     requires legal { IsLegal caller.old.reader }
     ensures ready { IsReady service.now.farm.now caller.new.pass }
     ensures serves { Serves result (progress_from caller.old.pass.seen caller.old.reader caller.old.pass.faults)
-        (mark_of caller.new.pass) (GivenBy C.Clock service.now.clock.now D.count) (link_state L.Source L.Sink link.old)
+        (mark_of caller.new.pass) (GivenBy C.Clock service.now.clock.now D.count)
+        (noted_in caller.new.pass.rows (link_state L.Source L.Sink link.old) (link_state L.Source L.Sink link.new))
+        (link_state L.Source L.Sink link.old)
         (link_state L.Source L.Sink link.new) caller.old.pass.mine caller.new.pass.mine caller.new.reader }
     ensures follows { Follows (mark_of caller.old.pass) (mark_of caller.new.pass) }
     ensures read { IsPrefix caller.old.reader caller.new.reader }

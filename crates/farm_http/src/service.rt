@@ -1,6 +1,6 @@
 //! What connections are served with.
 
-use farm_disk::Disk;
+use farm_disk::DatedDisk;
 use http_routes::Pages;
 use link_io::Clock;
 use shared_farm::{Beginning, SharedFarm};
@@ -8,7 +8,7 @@ use std::alloc::Global;
 
 /// What connections are served with, the same for all of them.
 #[derive(Drop)]
-pub struct Service<'s, R, D: Disk, B: Beginning, C: Clock> {
+pub struct Service<'s, R, D: DatedDisk, B: Beginning, C: Clock> {
     /// The runtime, by which a turn is waited for.
     pub rt: &'s R,
     /// The memory for bytes and texts.

@@ -51,8 +51,9 @@ use crate::opening::read_whole;
 use crate::payload::Payload;
 use crate::reading::{Found, Missed, find};
 use crate::storing::store;
-use farm_disk::Disk;
+use farm_disk::{DatedDisk, Disk};
 use item_list::ItemList;
+use past_moments::Past;
 use std::alloc::Global;
 use std::marker::Model;
 use std::mem;
@@ -377,5 +378,15 @@ fn version_of_byte(bytes: &[u8]) -> u8
     match bytes.get(15) {
         Some(byte) if *byte == VERSION_1 => 1,
         _ => 2,
+    }
+}
+
+impl<D: DatedDisk> Journal<D> {
+    /// This moment of the disk, as one that is over. Nothing is done.
+    pub fn passed(&self) -> D::Over
+        ensures over { D.Over.at result ≡ D.dated self.now.disk }
+        ensures moment { D.tells self.now.disk ≡ true → D.dated self.now.disk ≡ moment (D.told self.now.disk) }
+    {
+        self.disk.passed()
     }
 }

@@ -1,11 +1,10 @@
 -- The orders of a history with an entry appended, and with the last one taken away.
-use Rattle.std.proofs.Common.{◌≡◌, ℕ, suc, ◌+◌, ◌-◌, ◌<◌, ◌≤◌, ◌^◌, true, false, true≢false, List, [], ◌∷◌, ◌++◌, length, take, Option, Some, None, refl, sym, ap, subst, ◌∙◌, append-nil, arith, length-append}
+use Rattle.std.proofs.Common.{◌≡◌, ℕ, suc, ◌+◌, ◌-◌, ◌<◌, ◌≤◌, ◌^◌, true, true≢false, List, [], ◌∷◌, ◌++◌, length, take, Option, Some, None, refl, sym, ap, subst, ◌∙◌, append-nil, arith, length-append}
 use Rattle.std.specs.List.{cons_option}
-use Rattle.std.specs.Option.{IfNone, IfSome, is_some, option_map}
+use Rattle.std.specs.Option.{is_some}
 use Rattle.std.proofs.Math.Seq.{take-append_seam}
 use Rattle.farm_rules.specs.Orders.{has_order}
 use Rattle.farm_rules.specs.Orders as rules
-use Rattle.farm_rules.specs.declared.orders.Draft.{Draft}
 use Rattle.farm_rules.proofs.Drafts.{next_draft-ok}
 use Rattle.farm_types.specs.Moment.{moment_ms}
 use Rattle.farm_types.specs.declared.moment.Moment.{Moment}
@@ -20,19 +19,14 @@ use Rattle.farm_entry.specs.declared.order_page.OrderLine.{OrderLine}
 use Rattle.farm_entry.proofs.Growing.{order_lines-grow, orders-grow}
 use Rattle.farm_laws.proofs.Begun.{order_lines-begun}
 use Rattle.farm_laws.proofs.Bounds.{entries-bounded}
-use Rattle.farm_laws.proofs.EntryParts.{ordered-facts}
 use Rattle.farm_laws.proofs.Stepped.{Stepped}
 use Rattle.plain_history.proofs.Holding.{length-filter_map-le}
-use Rattle.farm_ledger.specs.Booked.{draft_in, one_if, with_carried, with_order, without_order}
-
--- the order that a line says, without its agent
-abbrev pub draft_of_line : OrderLine → Draft
-draft_of_line line = record { order = line.order; commit = line.commit; search = line.search; day = line.day }
+use Rattle.farm_ledger.specs.Booked.{MayBook, booking_in, given_in, is_booked, one_if, with_booking, without_order}
+use Rattle.farm_ledger.specs.declared.notes.Booking.{Booking}
 
 -- One entry more.
 
-booked-more : (os : List rules.Ordered) (w : What) →
-    with_carried (with_order os (draft_in w)) (carried_in w) ≡ os ++ cons_option (ordered_in w) []
+booked-more : (os : List rules.Ordered) (w : What) → with_booking os (booking_in w) ≡ os ++ cons_option (ordered_in w) []
 booked-more os (Ordered k a n c q d) = refl
 booked-more os (Carried c d) = refl
 booked-more os (Founded x) = sym (append-nil os)
@@ -43,21 +37,27 @@ booked-more os (Skipped n _) = sym (append-nil os)
 booked-more os (Cancelled k q) = sym (append-nil os)
 booked-more os Closed = sym (append-nil os)
 
-pub pushed-orders : (H : List Entry) (e : Entry) →
-    with_carried (with_order (orders H) (draft_in e.what)) (carried_in e.what) ≡ orders (H ++ e ∷ [])
+pub pushed-orders : (H : List Entry) (e : Entry) → with_booking (orders H) (booking_in e.what) ≡ orders (H ++ e ∷ [])
 pushed-orders H e = booked-more (orders H) e.what ∙ sym (orders-grow H e)
 
-one-line : (x : Option OrderLine) → one_if (is_some (option_map draft_of_line x)) ≡ length (cons_option x [])
-one-line None = refl
-one-line (Some line) = refl
+given-more : (w : What) → given_in (booking_in w) ≡ length (cons_option (order_in w) [])
+given-more (Ordered k a n c q d) = refl
+given-more (Carried c d) = refl
+given-more (Founded x) = refl
+given-more (Opened o) = refl
+given-more (Leased k w n q t p d) = refl
+given-more (Reported n v _) = refl
+given-more (Skipped n _) = refl
+given-more (Cancelled k q) = refl
+given-more Closed = refl
 
 lines-count : (H : List Entry) (e : Entry) →
     length (order_lines (H ++ e ∷ [])) ≡ length (order_lines H) + length (cons_option (order_in e.what) [])
 lines-count H e = ap length (order_lines-grow H e) ∙ length-append (order_lines H) (cons_option (order_in e.what) [])
 
 pub pushed-given : (H : List Entry) (e : Entry) →
-    length (order_lines H) + one_if (is_some (draft_in e.what)) ≡ length (order_lines (H ++ e ∷ []))
-pushed-given H e = ap (λ (n : ℕ). length (order_lines H) + n) (one-line (order_in e.what)) ∙ sym (lines-count H e)
+    length (order_lines H) + given_in (booking_in e.what) ≡ length (order_lines (H ++ e ∷ []))
+pushed-given H e = ap (λ (n : ℕ). length (order_lines H) + n) (given-more e.what) ∙ sym (lines-count H e)
 
 -- One entry less.
 
@@ -127,104 +127,39 @@ pub given-few : (H : List Entry) → IsLegal H → length (order_lines H) + 1 < 
 given-few H legal =
     omega (arith, length-filter_map-le (λ (e : Entry). order_in e.what) H, entries-bounded H legal)
 
--- What an order that is given asks of the book.
+-- the book of a history, with room where the entry is an order, takes what may come next
+booked-by : (H : List Entry) (m : Moment) (w : What) (b : Book) → IsLegal H → Stepped H m w → b.orders ≡ orders H →
+    b.given ≡ length (order_lines H) → (is_booked (booking_in w) ≡ true → 1 ≤ b.room) → MayBook b (booking_in w)
+booked-by H m (Ordered k a n c q d) b legal step book numbers room =
+    let next = next_draft-ok (confirmed_searches H) (orders H) (length (order_lines H)) (day_in H (moment_ms m))
+    (daily_limit H) _ step.facts.next in
+    record {
+      room = room refl;
+      few = omega (arith, ap length book, orders-few H legal);
+      number = step.facts.number ∙ ap (λ (x : ℕ). x + 1) (sym numbers);
+      free = ap (λ (os : List rules.Ordered). has_order os c) book ∙ next.free;
+    }
+booked-by H m (Carried c d) b legal step book numbers room = record {
+  room = room refl;
+  few = omega (arith, ap length book, orders-few H legal);
+  none_given = numbers ∙ ap length (order_lines-begun H m step.facts.begun);
+  free = ap (λ (os : List rules.Ordered). has_order os c) book ∙ step.facts.free;
+}
+booked-by H m (Founded x) b legal step book numbers room = tt
+booked-by H m (Opened o) b legal step book numbers room = tt
+booked-by H m (Leased k w n q t p d) b legal step book numbers room = tt
+booked-by H m (Reported n v _) b legal step book numbers room = tt
+booked-by H m (Skipped n _) b legal step book numbers room = tt
+booked-by H m (Cancelled k q) b legal step book numbers room = tt
+booked-by H m Closed b legal step book numbers room = tt
 
-pub record IsBookable (os : List rules.Ordered) (given : ℕ) (d : Draft) : Type 0 where
-  pub number : d.order ≡ given + 1
-  pub free : has_order os d.commit ≡ false
-
-line-bookable : (H : List Entry) (e : Entry) (line : OrderLine) → Stepped H e.at e.what → order_in e.what ≡ Some line →
-    IsBookable (orders H) (length (order_lines H)) (draft_of_line line)
-line-bookable H e line step is =
-    let facts = ordered-facts H e.at e.what line is step in
-    let next = next_draft-ok (confirmed_searches H) (orders H) (length (order_lines H)) (day_in H (moment_ms e.at))
-    (daily_limit H) _ facts.next in
-    record { number = facts.number; free = next.free }
-
-bookable-by : (H : List Entry) (e : Entry) (x : Option OrderLine) → Stepped H e.at e.what → order_in e.what ≡ x →
-    IfSome (option_map draft_of_line x) (IsBookable (orders H) (length (order_lines H)))
-bookable-by H e None step is = tt
-bookable-by H e (Some line) step is = line-bookable H e line step is
-
-pub draft-booked : (H : List Entry) (e : Entry) (os : List rules.Ordered) (given : ℕ) (draft : Option Draft) →
-    Stepped H e.at e.what → os ≡ orders H → given ≡ length (order_lines H) → draft ≡ draft_in e.what →
-    IfSome draft (IsBookable os given)
-draft-booked H e os given draft step book numbers is =
-    subst (λ (x : Option Draft). IfSome x (IsBookable os given)) (sym is)
-    (subst (λ (n : ℕ). IfSome (draft_in e.what) (IsBookable os n)) (sym numbers)
-    (subst (λ (l : List rules.Ordered). IfSome (draft_in e.what) (IsBookable l (length (order_lines H)))) (sym book)
-    (bookable-by H e (order_in e.what) step refl)))
-
-pub bookable-number : (os : List rules.Ordered) (given : ℕ) (x : Option Draft) → IfSome x (IsBookable os given) →
-    IfSome x (λ d. d.order ≡ given + 1)
-bookable-number os given None h = tt
-bookable-number os given (Some d) h = h.number
-
-pub bookable-free : (os : List rules.Ordered) (given : ℕ) (x : Option Draft) → IfSome x (IsBookable os given) →
-    IfSome x (λ d. has_order os d.commit ≡ false)
-bookable-free os given None h = tt
-bookable-free os given (Some d) h = h.free
-
--- What one that is carried over asks of it.
-
-pub record IsCarriable (b : Book) (o : rules.Ordered) : Type 0 where
-  pub room : 1 ≤ b.room
-  pub few : length b.orders + 1 < 2 ^ 32
-  pub none_given : b.given ≡ 0
-  pub free : has_order b.orders o.commit ≡ false
-
--- the book is that of a history, with room for an entry more
-pub record IsBookOf (H : List Entry) (b : Book) : Type 0 where
-  pub orders_are : b.orders ≡ orders H
-  pub given_are : b.given ≡ length (order_lines H)
-  pub room : 1 ≤ b.room
-
-carriable-by : (H : List Entry) (m : Moment) (w : What) (before book : Book) → IsLegal H → Stepped H m w →
-    IsBookOf H before → IfNone (draft_in w) (book ≡ before) → IfSome (carried_in w) (IsCarriable book)
-carriable-by H m (Carried c d) before book legal step kept same =
-    let o : rules.Ordered = record { commit = c; day = d } in
-    subst (λ (b : Book). IsCarriable b o) (sym same)
-    (record {
-      room = kept.room;
-      few = omega (arith, ap length kept.orders_are, orders-few H legal);
-      none_given = kept.given_are ∙ ap length (order_lines-begun H m step.facts.begun);
-      free = ap (λ (os : List rules.Ordered). has_order os c) kept.orders_are ∙ step.facts.free;
-    })
-carriable-by H m (Founded x) before book legal step kept same = tt
-carriable-by H m (Opened o) before book legal step kept same = tt
-carriable-by H m (Leased k w n q t p d) before book legal step kept same = tt
-carriable-by H m (Reported n v _) before book legal step kept same = tt
-carriable-by H m (Skipped n _) before book legal step kept same = tt
-carriable-by H m (Cancelled k q) before book legal step kept same = tt
-carriable-by H m (Ordered k a n c q d) before book legal step kept same = tt
-carriable-by H m Closed before book legal step kept same = tt
-
-pub carried-booked : (H : List Entry) (e : Entry) (before book : Book) (draft : Option Draft)
-    (x : Option rules.Ordered) → IsLegal H → Stepped H e.at e.what → IsBookOf H before → draft ≡ draft_in e.what → IfNone draft (book ≡ before) →
-    x ≡ carried_in e.what → IfSome x (IsCarriable book)
-carried-booked H e before book draft x legal step kept drafts same is =
-    subst (λ (y : Option rules.Ordered). IfSome y (IsCarriable book)) (sym is)
-    (carriable-by H e.at e.what before book legal step kept
-    (subst (λ (y : Option Draft). IfNone y (book ≡ before)) drafts same))
-
-pub carriable-room : (b : Book) (x : Option rules.Ordered) → IfSome x (IsCarriable b) → IfSome x (λ o. 1 ≤ b.room)
-carriable-room b None h = tt
-carriable-room b (Some o) h = h.room
-
-pub carriable-few : (b : Book) (x : Option rules.Ordered) → IfSome x (IsCarriable b) →
-    IfSome x (λ o. length b.orders + 1 < 2 ^ 32)
-carriable-few b None h = tt
-carriable-few b (Some o) h = h.few
-
-pub carriable-none_given : (b : Book) (x : Option rules.Ordered) → IfSome x (IsCarriable b) →
-    IfSome x (λ o. b.given ≡ 0)
-carriable-none_given b None h = tt
-carriable-none_given b (Some o) h = h.none_given
-
-pub carriable-free : (b : Book) (x : Option rules.Ordered) → IfSome x (IsCarriable b) →
-    IfSome x (λ o. has_order b.orders o.commit ≡ false)
-carriable-free b None h = tt
-carriable-free b (Some o) h = h.free
+pub may-book : (H : List Entry) (e : Entry) (b : Book) (x : Booking) → IsLegal H → Stepped H e.at e.what →
+    b.orders ≡ orders H → b.given ≡ length (order_lines H) → x ≡ booking_in e.what →
+    (is_booked x ≡ true → 1 ≤ b.room) → MayBook b x
+may-book H e b x legal step book numbers is room =
+    subst (MayBook b) (sym is)
+    (booked-by H e.at e.what b legal step book numbers
+    (subst (λ (y : Booking). is_booked y ≡ true → 1 ≤ b.room) is room))
 
 -- How many were carried over: those that stand, and weren't given.
 

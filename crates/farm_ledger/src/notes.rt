@@ -1,17 +1,15 @@
 //! What is read of an entry and of a history, and what one entry writes into the register.
 
-ghost use Rattle.std.specs.Prelude.{◌≡◌, ◌≤◌, ◌<◌, ◌+◌, ◌-◌, ◌^◌, true, false, is_some, length, get_or, IfNone, IfSome};
+ghost use Rattle.std.specs.Prelude.{◌≡◌, ◌≤◌, ◌<◌, ◌+◌, ◌-◌, ◌^◌, true, length, get_or, IfSome, OnOk};
 ghost use Rattle.std.specs.Vec.{vec_capacity};
 ghost use Rattle.farm_types.specs.Moment.{moment_ms};
-ghost use Rattle.farm_entry.specs.History.{carried_in};
 ghost use Rattle.farm_entry.specs.Orders.{confirmed_at, day_in};
-ghost use Rattle.farm_rules.specs.Orders.{has_order};
-ghost use Rattle.farm_ledger.specs.Booked.{draft_in, one_if, with_carried, with_order, without_order};
+ghost use Rattle.farm_ledger.specs.Booked.{MayBook, booking_in, given_in, is_booked, one_if, with_booking, without_order};
 ghost use Rattle.farm_ledger.specs.Rows.{blank, row_numbered, with_lease, with_row, without_lease, without_row};
 
 use farm_entry::{Entry, LeasedRun, Opening, Standing, What};
 use farm_rules::{Candidate, Draft, OrderedCommit};
-use farm_types::Moment;
+use farm_types::{Memory, Moment};
 use plain_history::zone_minutes;
 use revert_orders::{Orders, day_of};
 
@@ -23,11 +21,22 @@ pub(crate) struct Row {
     pub(crate) leases: u32,
 }
 
+/// What an entry is to the book of orders.
+#[derive(Clone, Copy)]
+pub(crate) enum Booking {
+    /// Nothing.
+    Nothing,
+    /// An order that is given, without its agent.
+    Given(Draft),
+    /// An order that is carried over.
+    Carried(OrderedCommit),
+}
+
 // What an entry holds, and what a search is.
 
-/// The order that an entry records, without its agent.
-pub(crate) fn draft_in(what: &What) -> Option<Draft>
-    ensures { result ≡ draft_in what.now }
+/// What an entry is to the book of orders.
+pub(crate) fn booking_in(what: &What) -> Booking
+    ensures { result ≡ booking_in what.now }
 {
     match what {
         What::Ordered {
@@ -36,26 +45,17 @@ pub(crate) fn draft_in(what: &What) -> Option<Draft>
             search,
             day,
             ..
-        } => Some(Draft {
+        } => Booking::Given(Draft {
             order: *order,
             commit: *commit,
             search: *search,
             day: *day,
         }),
-        _ => None,
-    }
-}
-
-/// The order that an entry carries over.
-pub(crate) fn carried_in(what: &What) -> Option<OrderedCommit>
-    ensures { result ≡ carried_in what.now }
-{
-    match what {
-        What::Carried { commit, day } => Some(OrderedCommit {
+        What::Carried { commit, day } => Booking::Carried(OrderedCommit {
             commit: *commit,
             day: *day,
         }),
-        _ => None,
+        _ => Booking::Nothing,
     }
 }
 
@@ -136,32 +136,32 @@ pub(crate) fn take_lease(rows: &mut Vec<Row>, lease: Option<LeasedRun>)
 
 // Orders.
 
-/// Books an order that is given.
-pub(crate) fn put_order(orders: &mut Orders, draft: Option<Draft>)
-    requires room { 1 ≤ orders.old.room }
-    requires few { length orders.old.orders + 1 < 2 ^ 32 }
-    requires number { IfSome draft (λ d. d.order ≡ orders.old.given + 1) }
-    requires free { IfSome draft (λ d. has_order orders.old.orders d.commit ≡ false) }
-    ensures orders { orders.new.orders ≡ with_order orders.old.orders draft }
-    ensures given { orders.new.given ≡ orders.old.given + one_if (is_some draft) }
-    ensures same { IfNone draft (orders.new ≡ orders.old) }
+/// Makes room in the book for what an entry is to it.
+///
+/// # Errors
+///
+/// [`Memory`]. Nothing changes.
+pub(crate) fn make_room(orders: &mut Orders, booking: &Booking) -> Result<(), Memory>
+    ensures orders { orders.new.orders ≡ orders.old.orders }
+    ensures given { orders.new.given ≡ orders.old.given }
+    ensures room { OnOk result (is_booked booking.now ≡ true → 1 ≤ orders.new.room) }
 {
-    if let Some(draft) = draft {
-        orders.add(draft);
+    match booking {
+        Booking::Nothing => Ok(()),
+        _ => orders.reserve(1),
     }
 }
 
-/// Books an order that is carried over, which comes before any is given.
-pub(crate) fn put_carried(orders: &mut Orders, carried: Option<OrderedCommit>)
-    requires room { IfSome carried (λ o. 1 ≤ orders.old.room) }
-    requires few { IfSome carried (λ o. length orders.old.orders + 1 < 2 ^ 32) }
-    requires none_given { IfSome carried (λ o. orders.old.given ≡ 0) }
-    requires free { IfSome carried (λ o. has_order orders.old.orders o.commit ≡ false) }
-    ensures orders { orders.new.orders ≡ with_carried orders.old.orders carried }
-    ensures given { orders.new.given ≡ orders.old.given }
+/// Books an order, given or carried over, where the entry is one.
+pub(crate) fn book(orders: &mut Orders, booking: Booking)
+    requires { MayBook orders.old booking }
+    ensures orders { orders.new.orders ≡ with_booking orders.old.orders booking }
+    ensures given { orders.new.given ≡ orders.old.given + given_in booking }
 {
-    if let Some(carried) = carried {
-        orders.carry(carried);
+    match booking {
+        Booking::Nothing => {}
+        Booking::Given(draft) => orders.add(draft),
+        Booking::Carried(carried) => orders.carry(carried),
     }
 }
 

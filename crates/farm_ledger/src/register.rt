@@ -10,8 +10,8 @@ ghost use Rattle.farm_entry.specs.Orders.{carried, confirmed_searches, next_orde
 ghost use Rattle.farm_ledger.specs.Waiting.{waiting_numbered};
 
 use crate::notes::{
-    Row, carried_in, confirmed_at, day_in, draft_in, put_carried, put_lease, put_order, put_row,
-    row_of, take_lease, take_order, take_row,
+    Row, book, booking_in, confirmed_at, day_in, make_room, put_lease, put_row, row_of, take_lease,
+    take_order, take_row,
 };
 use farm_entry::{Entry, Opening, Settings, What};
 use farm_rules::{Candidate, Draft, NoOrder};
@@ -186,15 +186,13 @@ impl Register {
         let place = self.history().len() as u32;
         let is_opening = entry.what.is_opening();
         let lease = entry.what.lease();
-        let draft = draft_in(&entry.what);
-        let carried = carried_in(&entry.what);
+        let booking = booking_in(&entry.what);
         self.rows.reserve(1)?;
-        self.orders.reserve(1)?;
+        make_room(&mut self.orders, &booking)?;
         self.turns.push(alloc, entry)?;
         put_lease(&mut self.rows, lease);
         put_row(&mut self.rows, is_opening, place);
-        put_order(&mut self.orders, draft);
-        put_carried(&mut self.orders, carried);
+        book(&mut self.orders, booking);
         Ok(())
     }
 

@@ -10,7 +10,8 @@ IfSome-map None P Q f h = h
 IfSome-map (Some x) P Q f h = f x h
 
 -- the same of two facts
-pub IfSome-both : {A : Type 0} (o : Option A) (P R Q : A → Type 0) → ((x : A) → P x → R x → Q x) → IfSome o P → IfSome o R
+pub IfSome-both : {A : Type 0} (o : Option A) (P R Q : A → Type 0) → ((x : A) → P x → R x → Q x) → IfSome o P
+    → IfSome o R
     → IfSome o Q
 IfSome-both None P R Q f h k = h
 IfSome-both (Some x) P R Q f h k = f x h k

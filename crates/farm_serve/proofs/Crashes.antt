@@ -1,5 +1,5 @@
 -- What a crash leaves as a store goes on by turns.
-use Rattle.std.proofs.Common.{◌≡◌, ◌⊎◌, ◌≤◌, ◌++◌, ◌∷◌, [], ℕ, List, refl, sym, ap, subst, ◌∙◌, inl, inr, ⊎_elim, append_assoc}
+use Rattle.std.proofs.Common.{◌≡◌, ◌⊎◌, ◌≤◌, ◌++◌, ◌∷◌, [], ℕ, List, refl, sym, subst, inl, inr, ⊎_elim}
 use Rattle.std.proofs.lemmas.List.{append-nil}
 use Rattle.connection_laws.specs.Marks.{Follows, Mark}
 use Rattle.farm_disk.proofs.Moments.{leaves-append, leaves-weaker, leaves_only-start, leaves_only-trans, leaves_only-weaker}
@@ -14,7 +14,9 @@ use Rattle.list_prefix.specs.Prefix.{IsPrefix}
 use Rattle.shared_farm.specs.Rests.{AreTurns, CameBy, IsLeftBetween, Rest, TurnLeaves, begun_of}
 use Rattle.farm_serve.proofs.Counts.{Rose-from, Rose-later}
 use Rattle.farm_serve.proofs.Marks.{Follows-refl, Follows-trans}
-use Rattle.farm_serve.specs.Crashes.{AreKept, HoldsAll, IsKept, StandsWithin}
+use Rattle.shared_farm.proofs.Logging.{holds-earlier, holds-turn}
+use Rattle.shared_farm.specs.Logs.{HoldsAll}
+use Rattle.farm_serve.specs.Crashes.{AreKept, IsKept, StandsWithin}
 
 -- what a farm begins with came by no turn
 pub came-first : {D : Type 0} (meant : disk.Ghosts D) (store : StoreState D) → CameBy meant (begun_of meant store) store
@@ -25,7 +27,8 @@ abbrev pub mark_of_rest : Rest → Mark
 mark_of_rest rest = record { seen = rest.history; faults = rest.faults }
 
 -- what stands within two marks does so where the last one is a later one
-within-later : (first mid last : Mark) (c : List ℕ) → Follows mid last → StandsWithin first mid c → StandsWithin first last c
+within-later : (first mid last : Mark) (c : List ℕ) → Follows mid last → StandsWithin first mid c
+    → StandsWithin first last c
 within-later first mid last c follows w = record {
   history = w.history;
   undecided = w.undecided;
@@ -39,7 +42,8 @@ within-later first mid last c follows w = record {
 
 -- and where the first one has a lower count
 pub within-from : (seen : List Entry) (low high : ℕ) (last : Mark) (c : List ℕ) → low ≤ high
-    → StandsWithin (record { seen = seen; faults = high }) last c → StandsWithin (record { seen = seen; faults = low }) last c
+    → StandsWithin (record { seen = seen; faults = high }) last c
+    → StandsWithin (record { seen = seen; faults = low }) last c
 within-from seen low high last c le w = record {
   history = w.history;
   undecided = w.undecided;
@@ -91,7 +95,8 @@ within-rest first rest c begins decided either = ⊎_elim
     })
     either
 
-reached-first : (first : Rest) → first.pending ≡ [] → IsStored first.history first.pending first.told → IsReached first first
+reached-first : (first : Rest) → first.pending ≡ [] → IsStored first.history first.pending first.told
+    → IsReached first first
 reached-first first none stored =
     let same : Follows (mark_of_rest first) (mark_of_rest first) = Follows-refl (mark_of_rest first) in
     record {
@@ -119,7 +124,8 @@ reached-on first mid last r turn =
     between in
     record {
       leaves = leaves_only-trans first.told mid.told last.told (StandsWithin f l)
-          (leaves_only-weaker first.told mid.told (StandsWithin f m) (StandsWithin f l) (λ c w. within-later f m l c on w)
+          (leaves_only-weaker first.told mid.told (StandsWithin f m) (StandsWithin f l)
+          (λ c w. within-later f m l c on w)
           r.leaves)
           (leaves_only-weaker mid.told last.told (IsLeftBetween mid last) (StandsWithin f l) left turn.leaves);
       follows = all;
@@ -133,27 +139,6 @@ turns-reached first [] last none stored same =
     subst (λ (r : Rest). IsReached first r) (sym same) (reached-first first none stored)
 turns-reached first (rest ∷ earlier) last none stored (before, turn) =
     reached-on first rest last (turns-reached first earlier rest none stored before) turn
-
-holds-earlier : (first mid : List Entry) (c : List ℕ) → IsPrefix first mid → HoldsAll mid c → HoldsAll first c
-holds-earlier first mid c (more, is) (rest, stands) = (
-  more ++ rest,
-  subst (λ (l : List Entry). StandsFor l c) (ap (λ (l : List Entry). l ++ rest) is ∙ append_assoc first more rest) stands,
-)
-
--- what a turn leaves holds the history from before it
-holds-turn : (mid last : Rest) (c : List ℕ) → IsPrefix mid.history last.history → IsLeftBetween mid last c
-    → HoldsAll mid.history c
-holds-turn mid last c longer between = ⊎_elim
-    (λ (before : IsWithOrWithout mid.history mid.pending c). ⊎_elim
-    (λ (without : StandsFor mid.history c).
-    let held : HoldsAll mid.history c =
-    ([], subst (λ (l : List Entry). StandsFor l c) (sym (append-nil mid.history)) without) in held)
-    (λ (with_all : StandsFor (mid.history ++ mid.pending) c).
-    let held : HoldsAll mid.history c = (mid.pending, with_all) in held)
-    before)
-    (λ (now : StandsFor (last.history ++ last.pending) c).
-    holds-earlier mid.history last.history c longer (last.pending, now))
-    between
 
 kept-on : (mid last : Rest) (rests : List Rest) → TurnLeaves mid last → AreKept mid.history mid.told rests
     → AreKept last.history last.told rests

@@ -12,6 +12,8 @@ use Rattle.farm_journal.specs.declared.fault.OpeningFault.TheVariants as opening
 use Rattle.farm_store.proofs.Excluded.{stands-born, stands-not_damaged}
 use Rattle.farm_store.specs.Bytes.{StandsFor}
 use Rattle.farm_store.specs.State.{IsStored, StoreState}
+use Rattle.connection_laws.specs.Told.{Saying}
+use Rattle.link_io.specs.Notes.{Note}
 use Rattle.farm_types.specs.declared.moment.Moment.{Moment}
 use Rattle.fault_types.specs.Counts.{Rose}
 use Rattle.link_io.specs.declared.sink.PutFault.{PutFault}
@@ -21,8 +23,9 @@ use Rattle.shared_farm.specs.Rests.{AreTurns, CameBy, Rest, begun_of, rest_of}
 use Rattle.farm_serve.proofs.Counts.{IfSome-map, Rose-from}
 use Rattle.farm_serve.proofs.Crashes.{IsReached, mark_of_rest, turns-kept, turns-reached, within-first, within-from}
 use Rattle.farm_serve.proofs.Steps.{AreHeldBack-longer}
-use Rattle.farm_serve.proofs.Marks.{Follows-refl}
+use Rattle.farm_serve.proofs.Marks.{Follows-refl, IsSaidBy-refl}
 use Rattle.farm_serve.proofs.Openings.{WasOpened, any_moment-opened, since_sync-opened}
+use Rattle.farm_serve.specs.Acknowledged.{acknowledged_by}
 use Rattle.farm_serve.specs.Crashes.{StandsWithin, WentByTurns}
 use Rattle.farm_serve.specs.Ending.{is_memory, ending_by_line, ending_of, TellsFailure, HasNetCause}
 use Rattle.farm_serve.specs.Gained.{has_failed}
@@ -87,17 +90,19 @@ farm_ends false false (Ok done) links clock old new h = h
 farm_ends false failed (Err put.Failed) links clock old new h = h
 farm_ends false failed (Err put.Memory) links clock old new h = h
 
-links_served : (start final : Mark) (clock : Moment → Type 0) (links : ℕ) (s : Standing) (line : Line)
-    (before : List NetworkEvent) (now : Option (List NetworkEvent)) → AreServed start final clock links s before now
-    → LinksServed start final clock links (ending_of s line) before now
-links_served start final clock links s line before now h = record {
+links_served : (start final : Mark) (clock : Moment → Type 0)
+    (said : List Note → Saying) (links : ℕ) (s : Standing) (line : Line)
+    (before : List NetworkEvent) (now : Option (List NetworkEvent))
+    → AreServed start final clock said links s before now
+    → LinksServed start final clock said links (ending_of s line) before now
+links_served start final clock said links s line before now h = record {
   gained = h.gained;
   is = h.is;
   accepts = λ fine. h.accepts (short_of s.short s.failed line fine);
   asked = h.asked;
   back = h.back;
-  held = AreHeldBack-longer start final final clock clock s.short (is_memory (ending_of s line)) h.gained
-      (Follows-refl final) (λ at m. m) (memory_of s.short s.failed line) h.held;
+  held = AreHeldBack-longer start final final clock clock said said s.short (is_memory (ending_of s line)) h.gained
+      (Follows-refl final) (λ at m. m) (IsSaidBy-refl final said) (memory_of s.short s.failed line) h.held;
   fault = tells_failure s.short s.failed (has_failed h.gained) line h.faults;
 }
 
@@ -114,7 +119,8 @@ pub record AreCrashes (first last pending : List Entry) (old new : DiskSeen) : T
 pub ends : (first last pending : List Entry) (links : ℕ) (clock : Moment → Type 0) (s : Standing) (ending : Ending)
     (old new : Outside) → (old.disk.tells ≡ true → StandsFor first old.disk.told.bytes) → IsLegal first → IsLegal last
     → (old.disk.tells ≡ true → IsStored last pending new.disk.told) → AreCrashes first last pending old.disk new.disk
-    → ComesTo (mark_at first old.disk) (mark_at last new.disk) clock links s old.network new.network
+    → ComesTo (mark_at first old.disk) (mark_at last new.disk) clock
+    (acknowledged_by old.disk.tells new.disk.told) links s old.network new.network
     → EndSays s (farm_line last) ending old.output new.output → ServeEnds links clock ending old new
 ends first last pending links clock s ending old new held legal legal_after at_exit crashed comes says =
     subst (λ (e : Ending). ServeEnds links clock e old new) (sym says.is)
@@ -133,11 +139,12 @@ ends first last pending links clock s ending old new held legal legal_after at_e
       by_turns = crashed.by_turns;
       text = line_put s.short s.failed says.line (farm_line last) old.output new.output says.says;
       served = IfSome-map old.network.told
-          (λ before. AreServed (mark_at first old.disk) (mark_at last new.disk) clock links s before new.network.told)
-          (λ before. LinksServed (mark_at first old.disk) (mark_at last new.disk) clock links (ending_of s says.line)
-          before new.network.told)
-          (λ before h. links_served (mark_at first old.disk) (mark_at last new.disk) clock links s says.line before
-          new.network.told h) comes.served;
+          (λ before. AreServed (mark_at first old.disk) (mark_at last new.disk) clock
+          (acknowledged_by old.disk.tells new.disk.told) links s before new.network.told)
+          (λ before. LinksServed (mark_at first old.disk) (mark_at last new.disk) clock
+          (acknowledged_by old.disk.tells new.disk.told) links (ending_of s says.line) before new.network.told)
+          (λ before h. links_served (mark_at first old.disk) (mark_at last new.disk) clock
+          (acknowledged_by old.disk.tells new.disk.told) links s says.line before new.network.told h) comes.served;
       cause = net_cause s.short s.failed says.line old.network.faults new.network.faults comes.rose;
     })
 
@@ -190,8 +197,8 @@ pub opened-ends : {D : Type 0} (meant : disk.Ghosts D) (clock : Moment → Type 
     (store given : StoreState D) (s : Standing) (ending : Ending) (net net_after : NetworkSeen)
     (out out_after : OutputSeen)
     → before ≡ meant.count old → WasOpened meant store old
-    → ComesTo (record { seen = store.history; faults = before }) (store_mark meant.count given) clock links s net
-    net_after
+    → ComesTo (record { seen = store.history; faults = before }) (store_mark meant.count given) clock
+    (acknowledged_by (meant.tells given.disk) (meant.told given.disk)) links s net net_after
     → CameBy meant (begun_of meant store) given → EndSays s (farm_line given.history) ending out out_after
     → IsLegal given.history → back ≡ given.disk
     → (meant.tells given.disk ≡ true → IsStored given.history given.pending (meant.told back))
@@ -206,8 +213,11 @@ opened-ends {D} meant clock links old back before store given s ending net net_a
     (λ tell. subst (λ (d : D). IsStored given.history given.pending (meant.told d)) is_back
     (stored (came.same ∙ (opened.same ∙ tell))))
     (crashes meant old store given opened came)
-    (subst (λ (n : ℕ). ComesTo (record { seen = store.history; faults = n }) (store_mark meant.count given) clock links
-    s net net_after) counted comes)
+    (subst (λ (t : Bool). ComesTo (record { seen = store.history; faults = meant.count old })
+    (store_mark meant.count given) clock (acknowledged_by t (meant.told given.disk)) links s net net_after)
+    (came.same ∙ opened.same)
+    (subst (λ (n : ℕ). ComesTo (record { seen = store.history; faults = n }) (store_mark meant.count given) clock
+    (acknowledged_by (meant.tells given.disk) (meant.told given.disk)) links s net net_after) counted comes))
     says)
 
 -- where nothing fails and the journal holds a history, only memory may have run out

@@ -1,3 +1,4 @@
+pub mod Acknowledged
 pub mod Counts
 pub mod Crashes
 pub mod Ends

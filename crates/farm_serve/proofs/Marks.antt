@@ -1,14 +1,18 @@
 -- Marks that follow one another, and what is held of a link for them.
-use Rattle.std.proofs.Common.{ℕ, ◌≡◌, inl, inr, Bool, true, arith}
+use Rattle.std.proofs.Common.{ℕ, ◌≡◌, inl, inr, Bool, true, List, arith}
 use Rattle.std.specs.Prelude.{⊤}
-use Rattle.connection_laws.proofs.Loop.{held-longer}
+use Rattle.connection_laws.proofs.Loop.{held-longer, held-said}
 use Rattle.connection_laws.proofs.Moments.{held-more}
 use Rattle.connection_laws.specs.Marks.{Mark, Follows}
 use Rattle.connection_laws.specs.Moments.{Given, at_moment, at_count, given_by, with_counts}
 use Rattle.connection_laws.specs.Progress.{progress_at}
 use Rattle.connection_laws.specs.Serving.{IsHeldOf}
+use Rattle.connection_laws.specs.Told.{Saying}
 use Rattle.farm_types.specs.declared.moment.Moment.{Moment}
+use Rattle.farm_entry.specs.declared.entry.Entry.{Entry}
 use Rattle.link_io.specs.Links.{LinkState}
+use Rattle.link_io.specs.Notes.{Note}
+use Rattle.list_prefix.specs.Prefix.{IsPrefix}
 use Rattle.list_prefix.proofs.Prefixes.{IsPrefix-refl, IsPrefix-trans}
 use Rattle.farm_serve.specs.Links.{IsHeldBack}
 
@@ -21,18 +25,31 @@ Follows-trans a b c h k = record {
   more = (let p = h.more in let q = k.more in omega arith);
 }
 
+-- what is said by notes of a history that begins the one of a mark may be said in other words
+abbrev pub IsSaidBy : Mark → (said other : List Note → Saying) → Type 0
+IsSaidBy later said other =
+    (notes : List Note) (place : ℕ) (H : List Entry) → IsPrefix H later.seen → said notes place H → other notes place H
+
+pub IsSaidBy-refl : (later : Mark) (said : List Note → Saying) → IsSaidBy later said said
+IsSaidBy-refl later said notes place H begins holds = holds
+
 -- what is held for a mark is held for each that follows, with more that may be given
-pub IsHeldOf-more : (start final later : Mark) (one other : Given → Type 0) (link : LinkState) (whole : Bool)
-    → Follows final later → ((given : Given) → one given → other given) → IsHeldOf start final one link whole
-    → IsHeldOf start later other link whole
-IsHeldOf-more start final later one other link whole follows more h = record {
+pub IsHeldOf-more : (start final later : Mark) (one other : Given → Type 0) (said in_words : List Note → Saying)
+    (link : LinkState) (whole : Bool) → Follows final later → ((given : Given) → one given → other given)
+    → IsSaidBy later said in_words → IsHeldOf start final one said link whole
+    → IsHeldOf start later other in_words link whole
+IsHeldOf-more start final later one other said in_words link whole follows more by h = record {
   taken = h.taken;
   put = h.put;
   takes = h.takes;
   puts = h.puts;
+  notes = h.notes;
+  tells = h.tells;
   held =
-      held-more one other more (progress_at start) later h.taken h.put link.ended whole
-      (held-longer (progress_at start) final later one h.taken h.put link.ended whole follows h.held);
+      held-said (progress_at start) later other (said h.notes) (in_words h.notes) h.taken h.put link.ended whole
+      (by h.notes)
+      (held-more one other more (progress_at start) later (said h.notes) h.taken h.put link.ended whole
+      (held-longer (progress_at start) final later one (said h.notes) h.taken h.put link.ended whole follows h.held));
 }
 
 -- any counts, by a clock that may give more
@@ -42,21 +59,26 @@ any_counts clock other counts more (at_moment at) gives = more at gives
 any_counts clock other counts more (at_count faults) gives = tt
 
 -- the same for each clock that may give more
-pub IsHeldOf-longer : (start final later : Mark) (clock other : Moment → Type 0) (link : LinkState) (whole : Bool)
-    → Follows final later → ((at : Moment) → clock at → other at) → IsHeldOf start final (with_counts clock) link whole
-    → IsHeldOf start later (with_counts other) link whole
-IsHeldOf-longer start final later clock other link whole follows more h =
-    IsHeldOf-more start final later (with_counts clock) (with_counts other) link whole follows
-    (any_counts clock other (λ _. ⊤) more) h
+pub IsHeldOf-longer : (start final later : Mark) (clock other : Moment → Type 0) (said in_words : List Note → Saying)
+    (link : LinkState) (whole : Bool)
+    → Follows final later → ((at : Moment) → clock at → other at) → IsSaidBy later said in_words
+    → IsHeldOf start final (with_counts clock) said link whole
+    → IsHeldOf start later (with_counts other) in_words link whole
+IsHeldOf-longer start final later clock other said in_words link whole follows more by h =
+    IsHeldOf-more start final later (with_counts clock) (with_counts other) said in_words link whole follows
+    (any_counts clock other (λ _. ⊤) more) by h
 
 -- and what is held of a link taken back, where memory ran out since then, too
-pub IsHeldBack-longer : (start final later : Mark) (clock other : Moment → Type 0) (short still : Bool)
-    (link : LinkState)
-    → Follows final later → ((at : Moment) → clock at → other at) → (short ≡ true → still ≡ true)
-    → IsHeldBack start final clock short link → IsHeldBack start later other still link
-IsHeldBack-longer start final later clock other short still link follows more stays (inl whole) =
-    inl (IsHeldOf-longer start final later clock other link true follows more whole)
-IsHeldBack-longer start final later clock other short still link follows more stays (inr (part, inl want)) =
-    inr (IsHeldOf-longer start final later clock other link _ follows more part, inl (stays want))
-IsHeldBack-longer start final later clock other short still link follows more stays (inr (part, inr fault)) =
-    inr (IsHeldOf-longer start final later clock other link _ follows more part, inr fault)
+pub IsHeldBack-longer : (start final later : Mark) (clock other : Moment → Type 0) (said in_words : List Note → Saying)
+    (short still : Bool) (link : LinkState)
+    → Follows final later → ((at : Moment) → clock at → other at) → IsSaidBy later said in_words
+    → (short ≡ true → still ≡ true)
+    → IsHeldBack start final clock said short link → IsHeldBack start later other in_words still link
+IsHeldBack-longer start final later clock other said in_words short still link follows more by stays (inl whole) =
+    inl (IsHeldOf-longer start final later clock other said in_words link true follows more by whole)
+IsHeldBack-longer start final later clock other said in_words short still link follows more by stays
+    (inr (part, inl want)) =
+    inr (IsHeldOf-longer start final later clock other said in_words link _ follows more by part, inl (stays want))
+IsHeldBack-longer start final later clock other said in_words short still link follows more by stays
+    (inr (part, inr fault)) =
+    inr (IsHeldOf-longer start final later clock other said in_words link _ follows more by part, inr fault)

@@ -7,6 +7,7 @@ use Rattle.farm_journal.specs.ReadsOnly.{ReadsOnly}
 use Rattle.farm_store.specs.Bytes.{StandsFor}
 use Rattle.fault_types.specs.Counts.{Rose}
 use Rattle.list_prefix.specs.Prefix.{IsPrefix}
+use Rattle.shared_farm.specs.Logs.{HoldsAll}
 use Rattle.shared_farm.specs.Rests.{AreTurns, Rest}
 
 -- The bytes stand for a history that begins with that of the first mark, and with which that of the last mark begins;
@@ -19,10 +20,6 @@ pub record StandsWithin (first last : Mark) (bytes : List ℕ) : Type 0 where
   pub begins : IsPrefix first.seen history
   pub within : IsPrefix history last.seen
   pub failed : (undecided ≡ []) ⊎ Rose first.faults last.faults
-
--- the bytes stand for a history that begins with this one
-abbrev pub HoldsAll : List Entry → List ℕ → Type 0
-HoldsAll history bytes = (more : List Entry) × StandsFor (history ++ more) bytes
 
 -- the history of a rest begins the one now, and each image of each moment since the rest holds all of it
 pub record IsKept (history : List Entry) (disk : DiskState) (rest : Rest) : Type 0 where

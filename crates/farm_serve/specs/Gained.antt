@@ -1,7 +1,9 @@
 -- What is said of the events that a network gained, the newest first.
 use Rattle.std.specs.Prelude.{◌≡◌, ◌+◌, ℕ, List, [], ◌∷◌, Bool, true, false, ⊤}
 use Rattle.connection_laws.specs.Marks.{Mark}
+use Rattle.connection_laws.specs.Told.{Saying}
 use Rattle.farm_types.specs.declared.moment.Moment.{Moment}
+use Rattle.link_io.specs.Notes.{Note}
 use Rattle.net_io.specs.Events.{NetworkEvent, accepted, accept_ended, accept_failed, connected, connect_failed, returned}
 use Rattle.farm_serve.specs.Links.{IsHeldBack}
 
@@ -67,12 +69,13 @@ AreAccepts (connect_failed ∷ events) = ⊥
 AreAccepts (returned link ∷ events) = AreAccepts events
 
 -- what is held of each link that was taken back
-abbrev pub AreHeldBack : Mark → Mark → (Moment → Type 0) → (short : Bool) → List NetworkEvent → Type 0
-AreHeldBack start final clock short [] = ⊤
-AreHeldBack start final clock short (accepted ∷ events) = AreHeldBack start final clock short events
-AreHeldBack start final clock short (accept_ended ∷ events) = AreHeldBack start final clock short events
-AreHeldBack start final clock short (accept_failed ∷ events) = AreHeldBack start final clock short events
-AreHeldBack start final clock short (connected ∷ events) = AreHeldBack start final clock short events
-AreHeldBack start final clock short (connect_failed ∷ events) = AreHeldBack start final clock short events
-AreHeldBack start final clock short (returned link ∷ events) =
-    IsHeldBack start final clock short link × AreHeldBack start final clock short events
+abbrev pub AreHeldBack : Mark → Mark → (Moment → Type 0) → (List Note → Saying) → (short : Bool)
+    → List NetworkEvent → Type 0
+AreHeldBack start final clock said short [] = ⊤
+AreHeldBack start final clock said short (accepted ∷ events) = AreHeldBack start final clock said short events
+AreHeldBack start final clock said short (accept_ended ∷ events) = AreHeldBack start final clock said short events
+AreHeldBack start final clock said short (accept_failed ∷ events) = AreHeldBack start final clock said short events
+AreHeldBack start final clock said short (connected ∷ events) = AreHeldBack start final clock said short events
+AreHeldBack start final clock said short (connect_failed ∷ events) = AreHeldBack start final clock said short events
+AreHeldBack start final clock said short (returned link ∷ events) =
+    IsHeldBack start final clock said short link × AreHeldBack start final clock said short events

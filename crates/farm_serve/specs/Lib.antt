@@ -1,3 +1,4 @@
+pub mod Acknowledged
 pub mod Crashes
 pub mod Ending
 pub mod Entries

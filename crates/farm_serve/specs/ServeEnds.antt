@@ -14,6 +14,9 @@ use Rattle.farm_store.specs.State.{IsStored}
 use Rattle.farm_types.specs.declared.moment.Moment.{Moment}
 use Rattle.fault_types.specs.Counts.{Rose}
 use Rattle.net_io.specs.Events.{NetworkEvent}
+use Rattle.connection_laws.specs.Told.{Saying}
+use Rattle.link_io.specs.Notes.{Note}
+use Rattle.farm_serve.specs.Acknowledged.{acknowledged_by}
 use Rattle.farm_serve.specs.Crashes.{StandsWithin, WentByTurns}
 use Rattle.farm_serve.specs.Ending.{HasNetCause, TellsFailure, is_memory}
 use Rattle.farm_serve.specs.Gained.{AreAccepts, AreHeldBack, accepts_of, has_failed, last_ended, links_of, returns_of}
@@ -31,7 +34,8 @@ mark_at history disk = record { seen = history; faults = disk.faults }
 -- many links were taken back as were given. Each of them was read and answered whole; or a part is held of what was put
 -- to it, and then it failed, or memory ran out: from the mark at entry to the one at exit, with the moments that the
 -- clock may give. And whether an accept failed is as the ending says.
-pub record LinksServed (start final : Mark) (clock : Moment → Type 0) (links : ℕ) (ending : Ending)
+pub record LinksServed (start final : Mark) (clock : Moment → Type 0)
+    (said : List Note → Saying) (links : ℕ) (ending : Ending)
     (before : List NetworkEvent) (now : Option (List NetworkEvent)) : Type 0 where
   pub gained : List NetworkEvent
   pub is : now ≡ Some (gained ++ before)
@@ -39,7 +43,7 @@ pub record LinksServed (start final : Mark) (clock : Moment → Type 0) (links :
       → (accepts_of gained ≡ links) ⊎ ((accepts_of gained < links) × (last_ended gained ≡ true))
   pub asked : AreAccepts gained
   pub back : links_of gained ≡ returns_of gained
-  pub held : AreHeldBack start final clock (is_memory ending) gained
+  pub held : AreHeldBack start final clock said (is_memory ending) gained
   pub fault : TellsFailure ending (has_failed gained)
 
 -- The journal was not opened: no accept was made, nothing was put, and the disk was only read. Why is what its bytes
@@ -57,8 +61,9 @@ pub record JournalMissed (fault : OpeningFault) (old new : Outside) : Type 0 whe
 -- A crash at any moment since the sync with which opening begins leaves a history that begins with the first one, and
 -- with which the last one begins; or such a one with entries that a fault of the disk left undecided, where the disk
 -- failed in this call. And so since the call's start, where the one image was then what a read gave. What stood before
--- a turn each crash leaves from then on; that an entry is acknowledged after its turn is the code's order of calls,
--- which no clause says.
+-- a turn each crash leaves from then on. And what was acknowledged stands: before the first byte of the answer to a
+-- command, or of a log page, its link took a note of a moment of this disk since which each image holds the history
+-- that the answer tells of, with the entry that the command recorded.
 pub record FarmServed (links : ℕ) (clock : Moment → Type 0) (ending : Ending) (old new : Outside) : Type 0 where
   pub first : List Entry
   pub last : List Entry
@@ -77,7 +82,7 @@ pub record FarmServed (links : ℕ) (clock : Moment → Type 0) (ending : Ending
       → WentByTurns (mark_at first old.disk) (mark_at last new.disk) pending old.disk.told new.disk.told
   pub text : LinePut (farm_line last) ending old.output new.output
   pub served : IfSome old.network.told (λ before. LinksServed (mark_at first old.disk) (mark_at last new.disk) clock
-      links ending before new.network.told)
+      (acknowledged_by old.disk.tells new.disk.told) links ending before new.network.told)
   pub cause : HasNetCause ending old.network.faults new.network.faults
 
 -- what a service came to, by how it ended: so many accepts were to be made, and the clock may give these moments

@@ -2,7 +2,7 @@
 ghost use Rattle.std.specs.Prelude.{◌≡◌, ◌<◌, ◌≤◌, ◌+◌, ◌⊎◌, IfSome, IfOk, OnErr, true, false};
 ghost use Rattle.connection_laws.specs.Marks.{Follows};
 ghost use Rattle.connection_laws.specs.Moments.{MayGive};
-ghost use Rattle.farm_http.specs.Callers.{mark_of};
+ghost use Rattle.farm_http.specs.Callers.{mark_of, noted_by};
 ghost use Rattle.farm_types.specs.declared.moment.Moment.{Moment};
 ghost use Rattle.fault_types.specs.Counts.{Rose};
 ghost use Rattle.link_io.specs.Links.{link_state};
@@ -17,7 +17,7 @@ use crate::early_reader::EarlyReader;
 use crate::link::serve_one;
 use crate::naming::Naming;
 use crate::standing::{Next, Standing};
-use farm_disk::Disk;
+use farm_disk::DatedDisk;
 use farm_http::{Caller, Pages, ServeFault, Served, Service};
 use farm_types::Memory;
 use link_io::Clock;
@@ -50,7 +50,8 @@ impl<N: Network + Drop, J: Naming> Model for Gate<N, J> {
 
     ghost view = { λ g. g.standing };
 
-    ghost invariant = { λ g. IsServing J.entry J.gives g.held g.out.total g.standing (N.told g.network) (N.count g.network) };
+    ghost invariant = { λ g. IsServing J.entry J.gives g.held g.out.total g.standing (N.told g.network)
+        (N.count g.network) };
 }
 
 impl<N: Network + Drop, J: Naming> Gate<N, J> {
@@ -77,7 +78,7 @@ impl<N: Network + Drop, J: Naming> Gate<N, J> {
     }
 
     /// The next link, with a pass that has seen what the held one has. Once no accept follows, the network is told so.
-    pub fn next<D: Disk, B: Beginning>(
+    pub fn next<D: DatedDisk, B: Beginning>(
         &mut self,
         farm: &SharedFarm<D, B>,
         mine: &mut Share<J>,
@@ -110,7 +111,7 @@ impl<N: Network + Drop, J: Naming> Gate<N, J> {
     }
 
     /// A reader of totals, which has seen what the held pass has. Running out of memory is noted.
-    pub fn reader<D: Disk, B: Beginning, R: Wait>(
+    pub fn reader<D: DatedDisk, B: Beginning, R: Wait>(
         &mut self,
         rt: &R,
         farm: &SharedFarm<D, B>,
@@ -138,7 +139,7 @@ impl<N: Network + Drop, J: Naming> Gate<N, J> {
     }
 
     /// Makes a reader more, for a handler that starts later. Running out of memory is noted.
-    fn add_reader<D: Disk, B: Beginning, R: Wait>(
+    fn add_reader<D: DatedDisk, B: Beginning, R: Wait>(
         &mut self,
         rt: &R,
         farm: &SharedFarm<D, B>,
@@ -161,7 +162,7 @@ impl<N: Network + Drop, J: Naming> Gate<N, J> {
 
     /// Makes the readers of so many handlers, before the first accept: a handler that made its own would take a turn of
     /// the farm under the lock round the network. Where memory runs out there are fewer, which is noted.
-    pub fn add_readers<D: Disk, B: Beginning, R: Wait>(
+    pub fn add_readers<D: DatedDisk, B: Beginning, R: Wait>(
         &mut self,
         rt: &R,
         farm: &SharedFarm<D, B>,
@@ -182,7 +183,7 @@ impl<N: Network + Drop, J: Naming> Gate<N, J> {
     }
 
     /// Takes a link back, and its pass.
-    pub fn back<D: Disk, B: Beginning>(
+    pub fn back<D: DatedDisk, B: Beginning>(
         &mut self,
         farm: &SharedFarm<D, B>,
         link: N::End,
@@ -193,7 +194,7 @@ impl<N: Network + Drop, J: Naming> Gate<N, J> {
         requires farm { farm.now ≡ J.entry.lock }
         requires pass { IsPassOf J.entry pass }
         requires amount { 0 < mine.old.amount }
-        requires served { IfSome J.entry.told (λ _. IsServedLink J.entry.start (mark_of pass) J.gives
+        requires served { IfSome J.entry.told (λ _. IsServedLink J.entry.start (mark_of pass) J.gives (noted_by pass)
             (link_state N.End.Source N.End.Sink link) served) }
         ensures parts { mine.new.parts ≡ mine.old.parts }
         ensures amount { mine.new.amount + 1 ≡ mine.old.amount }
@@ -205,51 +206,6 @@ impl<N: Network + Drop, J: Naming> Gate<N, J> {
         self.out.sub(mine, 1);
     }
 
-    /// Makes the accepts that are left and serves their links, where there is memory for a reader and a table of paths.
-    pub fn serve_rest<D: Disk, B: Beginning, C: Clock, R: Wait>(
-        &mut self,
-        rt: &R,
-        alloc: Global,
-        farm: &SharedFarm<D, B>,
-        clock: &C,
-        mine: &mut Share<J>,
-    )
-        requires farm { farm.now ≡ J.entry.lock }
-        requires gives { (at : Moment) → MayGive C.Clock clock.now at → J.gives at }
-        requires parts { 0 < mine.old.parts }
-        ensures parts { mine.new.parts ≡ mine.old.parts }
-        ensures amount { mine.new.amount ≡ mine.old.amount }
-        ensures closed { IsClosed self.new ⊎ (self.new.short ≡ true) }
-    {
-        let Ok(pages) = self.pages(alloc) else {
-            return;
-        };
-        let service = Service {
-            rt,
-            alloc,
-            pages: &pages,
-            farm,
-            clock,
-        };
-        let Ok(mut reader) = self.reader(rt, farm) else {
-            return;
-        };
-        loop {
-            match self.next(farm, mine) {
-                Next::Closed => return,
-                Next::Nothing => {}
-                Next::Link(link, pass) => {
-                    let mut link = link;
-                    let mut caller = Caller { pass, reader };
-                    let served = serve_one::<D, B, N, C, J, R>(&service, &mut caller, &mut link);
-                    let Caller { pass, reader: back } = caller;
-                    reader = back;
-                    self.back(farm, link, pass, served, mine);
-                }
-            }
-        }
-    }
-
     /// All links are back.
     pub fn finish(self, all: Share<J>) -> (N, Pass, Standing)
         requires whole { all.parts ≡ J.parts }
@@ -257,7 +213,8 @@ impl<N: Network + Drop, J: Naming> Gate<N, J> {
         ensures standing { result.2 ≡ self }
         ensures pass { IsPassOf J.entry result.1 }
         ensures gained { IfSome J.entry.told
-            (λ before. IsGained J.entry J.gives (mark_of result.1) 0 result.2 before (N.told result.0)) }
+            (λ before. IsGained J.entry J.gives (noted_by result.1) (mark_of result.1) 0 result.2 before
+            (N.told result.0)) }
         ensures rose { result.2.failed ≡ true → Rose J.entry.count (N.count result.0) }
         ensures never_falls { J.entry.count ≤ N.count result.0 }
     {
@@ -271,5 +228,57 @@ impl<N: Network + Drop, J: Naming> Gate<N, J> {
         let mut all = all;
         out.audit(&mut all);
         (network, held, standing)
+    }
+}
+
+/// Makes the accepts that are left and serves their links, where there is memory for a reader and a table of paths.
+pub fn serve_rest<
+    D: DatedDisk,
+    B: Beginning,
+    N: Network<Over = D::Over> + Drop,
+    C: Clock,
+    J: Naming,
+    R: Wait,
+>(
+    gate: &mut Gate<N, J>,
+    rt: &R,
+    alloc: Global,
+    farm: &SharedFarm<D, B>,
+    clock: &C,
+    mine: &mut Share<J>,
+)
+    requires farm { farm.now ≡ J.entry.lock }
+    requires gives { (at : Moment) → MayGive C.Clock clock.now at → J.gives at }
+    requires parts { 0 < mine.old.parts }
+    ensures parts { mine.new.parts ≡ mine.old.parts }
+    ensures amount { mine.new.amount ≡ mine.old.amount }
+    ensures closed { IsClosed gate.new ⊎ (gate.new.short ≡ true) }
+{
+    let Ok(pages) = gate.pages(alloc) else {
+        return;
+    };
+    let service = Service {
+        rt,
+        alloc,
+        pages: &pages,
+        farm,
+        clock,
+    };
+    let Ok(mut reader) = gate.reader(rt, farm) else {
+        return;
+    };
+    loop {
+        match gate.next(farm, mine) {
+            Next::Closed => return,
+            Next::Nothing => {}
+            Next::Link(link, pass) => {
+                let mut link = link;
+                let mut caller = Caller { pass, reader };
+                let served = serve_one::<D, B, N, C, J, R>(&service, &mut caller, &mut link);
+                let Caller { pass, reader: back } = caller;
+                reader = back;
+                gate.back(farm, link, pass, served, mine);
+            }
+        }
     }
 }

@@ -7,7 +7,7 @@ use crate::gate::Gate;
 use crate::link::serve_one;
 use crate::naming::Naming;
 use crate::standing::Next;
-use farm_disk::Disk;
+use farm_disk::DatedDisk;
 use farm_http::{Caller, Service};
 use link_io::Clock;
 use net_io::Network;
@@ -31,9 +31,9 @@ impl<L: Ledger> Promise<Share<L>> for NoneOut {
 
 /// Runs so many handlers, until all have ended. This thread is one of them.
 pub fn run_all<
-    D: Disk + Drop + Send,
+    D: DatedDisk + Drop + Send,
     B: Beginning + Send,
-    N: Network + Drop + Send,
+    N: Network<Over = D::Over> + Drop + Send,
     C: Clock + Sync,
     J: Naming + Send + Sync,
     R: Threads + Wait + Eprint + Sync,
@@ -72,9 +72,9 @@ where
 fn start_all<
     's,
     E,
-    D: Disk + Drop + Send,
+    D: DatedDisk + Drop + Send,
     B: Beginning + Send,
-    N: Network + Drop + Send,
+    N: Network<Over = D::Over> + Drop + Send,
     C: Clock + Sync,
     J: Naming + Send + Sync,
     R: Threads + Wait + Eprint + Sync,
@@ -102,7 +102,14 @@ where
         return handle(rt, alloc, gate, farm, clock, all);
     }
     let mine = all.split_off(1, 0);
-    match scope.spawn_with(NoneOut, move || handle(rt, alloc, gate, farm, clock, mine)) {
+    match scope.spawn_with(
+        NoneOut,
+        move || -> Share<J>
+            requires { (farm.now ≡ J.entry.lock) × ((at : Moment) → MayGive C.Clock clock.now at → J.gives at)
+                × (mine.parts ≡ 1) × (mine.amount ≡ 0) }
+            ensures { (result.parts ≡ 1) × (result.amount ≡ 0) }
+        { handle(rt, alloc, gate, farm, clock, mine) },
+    ) {
         Ok(started) => {
             let mut rest = start_all(scope, rt, alloc, gate, farm, clock, all, others - 1);
             rest.merge(started.join(rt));
@@ -119,12 +126,20 @@ where
 
 /// Takes links and serves them, one after the other, until no accept is left or one answers that no more will come. It
 /// has one table of paths for all its links, and one reader, which was made before.
-fn handle<D: Disk, B: Beginning, N: Network + Drop, C: Clock, J: Naming, R: Wait>(
-    rt: &R,
+fn handle<
+    's,
+    D: DatedDisk,
+    B: Beginning,
+    N: Network<Over = D::Over> + Drop,
+    C: Clock,
+    J: Naming,
+    R: Wait,
+>(
+    rt: &'s R,
     alloc: Global,
-    gate: &Mutex<Gate<N, J>>,
-    farm: &SharedFarm<D, B>,
-    clock: &C,
+    gate: &'s Mutex<Gate<N, J>>,
+    farm: &'s SharedFarm<D, B>,
+    clock: &'s C,
     share: Share<J>,
 ) -> Share<J>
     requires farm { farm.now ≡ J.entry.lock }

@@ -1,14 +1,14 @@
 //! One link, from its accept on.
 ghost use Rattle.std.specs.Prelude.{◌≡◌, IfSome};
 ghost use Rattle.connection_laws.specs.Moments.{MayGive};
-ghost use Rattle.farm_http.specs.Callers.{mark_of};
+ghost use Rattle.farm_http.specs.Callers.{mark_of, noted_by};
 ghost use Rattle.farm_types.specs.declared.moment.Moment.{Moment};
 ghost use Rattle.link_io.specs.Links.{link_state};
 ghost use Rattle.farm_serve.specs.Links.{IsServedLink};
 ghost use Rattle.farm_serve.specs.Nexts.{IsFresh, IsPassOf, IsReaderOf};
 
 use crate::naming::Naming;
-use farm_disk::Disk;
+use farm_disk::DatedDisk;
 use farm_http::{Caller, ServeFault, Served, Service, serve_link};
 use link_io::Clock;
 use net_io::Network;
@@ -16,7 +16,14 @@ use shared_farm::Beginning;
 use std::sync::Wait;
 
 /// Serves a link that has done nothing yet, and tells its other end that nothing more will come. No lock is held.
-pub fn serve_one<D: Disk, B: Beginning, N: Network, C: Clock, J: Naming, R: Wait>(
+pub fn serve_one<
+    D: DatedDisk,
+    B: Beginning,
+    N: Network<Over = D::Over>,
+    C: Clock,
+    J: Naming,
+    R: Wait,
+>(
     service: &Service<R, D, B, C>,
     caller: &mut Caller,
     link: &mut N::End,
@@ -29,6 +36,7 @@ pub fn serve_one<D: Disk, B: Beginning, N: Network, C: Clock, J: Naming, R: Wait
     ensures pass { IsPassOf J.entry caller.new.pass }
     ensures reader { IsReaderOf J.entry caller.new.reader }
     ensures served { IfSome J.entry.told (λ _. IsServedLink J.entry.start (mark_of caller.new.pass) J.gives
+        (noted_by caller.new.pass)
         (link_state N.End.Source N.End.Sink link.new) result) }
 {
     let served = serve_link(service, caller, link);

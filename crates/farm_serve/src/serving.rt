@@ -4,6 +4,7 @@ ghost use Rattle.connection_laws.specs.Moments.{MayGive};
 ghost use Rattle.farm_entry.specs.Legal.{IsLegal};
 ghost use Rattle.shared_farm.specs.Rests.{CameBy};
 ghost use Rattle.turn_lock.specs.Known.{IsReady};
+ghost use Rattle.farm_serve.specs.Acknowledged.{acknowledged_by};
 ghost use Rattle.farm_serve.specs.LastLine.{EndSays, farm_line};
 ghost use Rattle.farm_serve.specs.Links.{GiveAlike};
 ghost use Rattle.farm_serve.specs.Outside.{outside, network_seen, output_seen, disk_seen};
@@ -11,12 +12,12 @@ ghost use Rattle.farm_serve.specs.ServeEnds.{ServeCompletes, ServeEnds};
 ghost use Rattle.farm_serve.specs.Serving.{ComesTo, store_mark};
 
 use crate::ending::Ending;
-use crate::gate::Gate;
+use crate::gate::{Gate, serve_rest};
 use crate::handlers::run_all;
 use crate::last_line::put_farm_line;
 use crate::naming::Naming;
 use crate::standing::Standing;
-use farm_disk::Disk;
+use farm_disk::{DatedDisk, Disk};
 use farm_store::Store;
 use link_io::{Clock, Sink};
 use net_io::Network;
@@ -34,8 +35,8 @@ use std::thread::Threads;
 /// A link that fails, or for which memory runs out, ends alone, and a failed accept is one of those that are made.
 /// After a fault of the disk a command gets its answer that the store failed, and the next one tries again.
 pub fn serve<
-    D: Disk + Drop + Send,
-    N: Network + Drop + Send,
+    D: DatedDisk + Drop + Send,
+    N: Network<Over = D::Over> + Drop + Send,
     K: Sink,
     C: Clock + Sync,
     R: Threads + Wait + Eprint + Sync,
@@ -95,9 +96,9 @@ fn end<D: Disk, K: Sink>(
 /// Serves the farm of a store, where this was its disk's count of faults before it was opened. Without memory to
 /// share the farm no accept is made.
 fn serve_store<
-    D: Disk + Drop + Send,
+    D: DatedDisk + Drop + Send,
     B: Beginning + Send,
-    N: Network + Drop + Send,
+    N: Network<Over = D::Over> + Drop + Send,
     C: Clock + Sync,
     R: Threads + Wait + Eprint + Sync,
 >(
@@ -116,7 +117,8 @@ where
     requires before { before ≤ D.count store.disk }
     requires some { 0 < handlers }
     ensures comes { ComesTo (record { seen = store.history; faults = before }) (store_mark D.count result.0)
-        (MayGive C.Clock clock.now) links result.2 (network_seen (N.told network) (N.count network))
+        (MayGive C.Clock clock.now) (acknowledged_by (D.tells result.0.disk) (D.told result.0.disk)) links result.2
+        (network_seen (N.told network) (N.count network))
         (network_seen (N.told result.1) (N.count result.1)) }
     ensures came { IfSome B.begun (λ begun. CameBy D.Disk begun result.0) }
 {
@@ -132,9 +134,9 @@ where
 }
 
 fn serve_farm<
-    D: Disk + Drop + Send,
+    D: DatedDisk + Drop + Send,
     B: Beginning + Send,
-    N: Network + Drop + Send,
+    N: Network<Over = D::Over> + Drop + Send,
     C: Clock + Sync,
     J: Naming + Send + Sync,
     R: Threads + Wait + Eprint + Sync,
@@ -165,7 +167,8 @@ where
     } }
     requires gives { GiveAlike J.gives (MayGive C.Clock clock.now) }
     ensures comes { ComesTo (record { seen = pass.seen; faults = before }) (store_mark D.count result.0)
-        (MayGive C.Clock clock.now) links result.2 (network_seen (N.told network) (N.count network))
+        (MayGive C.Clock clock.now) (acknowledged_by (D.tells result.0.disk) (D.told result.0.disk)) links result.2
+        (network_seen (N.told network) (N.count network))
         (network_seen (N.told result.1) (N.count result.1)) }
     ensures came { IfSome B.begun (λ begun. CameBy D.Disk begun result.0) }
 {
@@ -175,7 +178,7 @@ where
     let gate = Mutex::new(gate);
     let mut all = run_all(rt, alloc, &gate, &farm, clock, all, handlers);
     let mut gate = gate.into_inner();
-    gate.serve_rest(rt, alloc, &farm, clock, &mut all);
+    serve_rest(&mut gate, rt, alloc, &farm, clock, &mut all);
     let (network, held, standing) = gate.finish(all);
     let store = farm.close(rt, held);
     (store, network, standing)

@@ -51,13 +51,14 @@ use crate::founding::{found, inherit};
 use crate::recording::record_from;
 use crate::showing::page_in;
 use farm_core::Farm;
-use farm_disk::Disk;
+use farm_disk::{DatedDisk, Disk};
 use farm_entry::{
     Answer, Command, Entry, LeasedRun, Reply, SearchPage, Settings, Standing, Totals,
 };
 use farm_journal::{CreateFault, Journal, JournalFault, OpeningFault, Repaired};
 use farm_rules::OrderedCommit;
 use farm_types::{Memory, Moment};
+use past_moments::Past;
 use std::alloc::Global;
 use std::marker::Model;
 
@@ -568,5 +569,19 @@ impl<D: Disk> Store<D> {
             }
             Err(fault) => Err(fault),
         }
+    }
+}
+
+impl<D: DatedDisk> Store<D> {
+    /// This moment of the disk, as one that is over: each image that a crash may leave now is the history, or it with
+    /// what is pending. Nothing is done.
+    pub fn passed(&self) -> D::Over
+        ensures over { D.Over.at result ≡ D.dated self.now.disk }
+        ensures moment { D.tells self.now.disk ≡ true → D.dated self.now.disk ≡ moment (D.told self.now.disk) }
+        ensures stored { D.tells self.now.disk ≡ true
+            → IsStored self.now.history self.now.pending (D.told self.now.disk) }
+    {
+        self.tell();
+        self.journal.passed()
     }
 }

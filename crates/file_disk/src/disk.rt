@@ -10,11 +10,13 @@ use crate::opening::Opening;
 use crate::system_file::SystemFile;
 use crate::unsynced::Unsynced;
 use crate::written::{put_again, put_all, put_ends_again};
-use farm_disk::{Did, Disk, Memory, Size, Written};
+use farm_disk::{DatedDisk, Did, Disk, Memory, Size, Written};
+use past_moments::Passed;
 use std::alloc::Global;
 use std::fs::File;
 use std::io;
 use std::rt::Files;
+use told_list::ToldList;
 
 /// A file as a disk. It is opened at its first use. A missing file reads as empty, and the first write makes it;
 /// that its name in its folder outlasts a crash isn't claimed. Nobody else may write to it: from its first use on the
@@ -353,5 +355,15 @@ impl<F: DiskFile + Drop> Disk for FileDisk<F> {
     fn sync(&mut self) -> Did {
         let outcome = self.sync_now();
         self.answer(outcome)
+    }
+}
+
+impl<F: DiskFile + Drop> DatedDisk for FileDisk<F> {
+    type Over = Passed;
+
+    ghost dated = { λ d. 0 };
+
+    fn passed(&self) -> Passed {
+        Passed::of(&ToldList::new())
     }
 }

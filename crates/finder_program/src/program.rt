@@ -23,7 +23,7 @@ use crate::serve_command::serve_command;
 use crate::show_command::show_command;
 use crate::status::Status;
 use crate::work_command::work_command;
-use farm_disk::Disk;
+use farm_disk::DatedDisk;
 use farm_types::Memory;
 use finder_words::{Subcommand, read_subcommand};
 use link_io::{Clock, Sink, Source};
@@ -40,9 +40,9 @@ pub fn finder<
     H: Threads + Wait + Eprint + Sync,
     S: Source,
     K: Sink,
-    D: Disk + Drop + Send,
+    D: DatedDisk + Drop + Send,
     C: Clock + Sync,
-    N: Network + Drop + Send,
+    N: Network<Over = D::Over> + Drop + Send,
     R: Runner,
     Q: KeySource,
 >(

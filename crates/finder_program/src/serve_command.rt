@@ -12,7 +12,7 @@ ghost use Rattle.finder_program.specs.ServeCommand.{
 
 use crate::opening::status_of_opening;
 use crate::status::Status;
-use farm_disk::Disk;
+use farm_disk::DatedDisk;
 use farm_serve::{Ending, serve};
 use link_io::{Clock, Sink};
 use net_io::Network;
@@ -25,9 +25,9 @@ use std::thread::Threads;
 pub fn serve_command<
     H: Threads + Wait + Eprint + Sync,
     K: Sink,
-    D: Disk + Drop + Send,
+    D: DatedDisk + Drop + Send,
     C: Clock + Sync,
-    N: Network + Drop + Send,
+    N: Network<Over = D::Over> + Drop + Send,
 >(
     rt: &H,
     alloc: Global,

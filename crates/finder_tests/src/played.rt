@@ -1,11 +1,12 @@
 //! A call of `finder` over an input, an output and a clock in memory, and any disk.
 
 use crate::output::{Output, Stop};
-use farm_disk::{CalmDisk, Disk};
+use farm_disk::{CalmDisk, DatedDisk, Disk};
 use farm_types::{MOMENT_MIN_MS, Moment};
 use finder_program::{Status, finder};
 use link_io::{MemClock, MemSource};
 use net_io::MemNetwork;
+use past_moments::Passed;
 use std::alloc::{AllocError, Global};
 use std::sync::Wait;
 use std::thread::Threads;
@@ -80,7 +81,7 @@ fn source_of(alloc: Global, call: Call) -> Result<MemSource, AllocError> {
 }
 
 /// Makes a call.
-pub(crate) fn play<H: Threads + Wait + Eprint + Sync, D: Disk + Drop + Send>(
+pub(crate) fn play<H: Threads + Wait + Eprint + Sync, D: DatedDisk<Over = Passed> + Drop + Send>(
     rt: &H,
     alloc: Global,
     call: Call,

@@ -6,6 +6,7 @@ use Rattle.fault_types.specs.Counts.{Rose}
 use Rattle.fault_types.specs.declared.memory.Memory.{Memory}
 use Rattle.http_responses.specs.Whole.{IsWhole}
 use Rattle.link_io.specs.Links.{LinkState, fresh_link}
+use Rattle.link_io.specs.Notes.{Note}
 use Rattle.link_io.specs.Telling.{add_told}
 use Rattle.link_io.specs.declared.sink.PutFault.{PutFault}
 use Rattle.link_io.specs.declared.sink.PutFault.TheVariants as put_fault
@@ -35,18 +36,22 @@ asked-unput request sent ended put_fault.Memory front = inr (front, refl)
 -- a link that was fresh, as it is told once it is taken back
 pub over-told : (told : Option (List NetworkEvent)) (before after : LinkState) (sent taken : List ℕ) →
     IfSome told (λ _. before ≡ fresh_link) → after.put ≡ append_known before.put sent →
-    after.taken ≡ append_known before.taken taken →
+    after.taken ≡ append_known before.taken taken → after.notes ≡ before.notes →
     add_told (returned after) told
     ≡ add_told (returned (talk_state (record { taken = taken; put = sent; ended = after.ended; count = after.count }))) told
-over-told None before after sent taken fresh put_is taken_is = refl
-over-told (Some events) before after sent taken fresh put_is taken_is =
+over-told None before after sent taken fresh put_is taken_is notes_is = refl
+over-told (Some events) before after sent taken fresh put_is taken_is notes_is =
     let put_now : after.put ≡ Some sent = put_is ∙ ap (λ (s : LinkState). append_known s.put sent) fresh in
     let taken_now : after.taken ≡ Some taken = taken_is ∙ ap (λ (s : LinkState). append_known s.taken taken) fresh in
+    let notes_now : after.notes ≡ Some [] = notes_is ∙ ap (λ (s : LinkState). s.notes) fresh in
     let one : after ≡ record after { taken = Some taken } =
     ap (λ (o : Option (List ℕ)). let s : LinkState = record after { taken = o } in s) taken_now in
     let two : after ≡ record after { taken = Some taken; put = Some sent } =
     one ∙ ap (λ (o : Option (List ℕ)). let s : LinkState = record after { taken = Some taken; put = o } in s) put_now in
-    ap (λ (s : LinkState). Some (returned s ∷ events)) two
+    let three : after ≡ record after { taken = Some taken; put = Some sent; notes = Some [] } =
+    two ∙ ap (λ (o : Option (List Note)).
+    let s : LinkState = record after { taken = Some taken; put = Some sent; notes = o } in s) notes_now in
+    ap (λ (s : LinkState). Some (returned s ∷ events)) three
 
 pub answered-by : (request sent taken : List ℕ) (ended : Bool) (count : ℕ) (answer : Result Response NoResponse)
     (result : Result Exchanged Memory) → AskedOver request sent taken ended answer → IsOutcome answer count result →

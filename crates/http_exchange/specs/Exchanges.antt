@@ -14,7 +14,7 @@ use Rattle.http_exchange.specs.declared.response.NoResponse.TheVariants as no_re
 use Rattle.http_exchange.specs.declared.response.Response.{Response}
 
 -- what a connection had done when it was taken back: the bytes taken from it and those put to it, whether its last take
--- answered that the input has ended, and how often it failed
+-- answered that the input has ended, and how often it failed. It took no notes
 pub record Talk : Type 0 where
   pub taken : List ℕ
   pub put : List ℕ
@@ -27,7 +27,8 @@ pub data Exchange : Type 0 where
   talked : Talk → Exchange
 
 abbrev pub talk_state : Talk → LinkState
-talk_state t = record { taken = Some t.taken; put = Some t.put; ended = t.ended; count = t.count }
+talk_state t =
+    record { taken = Some t.taken; put = Some t.put; ended = t.ended; count = t.count; notes = Some [] }
 
 -- what the network tells of an exchange, in its order
 abbrev pub exchange_events : Exchange → List NetworkEvent

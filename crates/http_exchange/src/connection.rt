@@ -87,6 +87,7 @@ fn ask<L: Link>(alloc: Global, link: &mut L, request: &[u8]) -> Result<Response,
         × (L.Sink.written link.new ≡ append_known (L.Sink.written link.old) sent)
         × (L.Source.taken link.new ≡ append_known (L.Source.taken link.old) taken)
         × HasJustCome taken) }
+    ensures notes { (L.Sink.aside link.new).notes ≡ (L.Sink.aside link.old).notes }
     ensures rises { IsErrOf result NoResponse.Failed → Rose (L.Source.count link.old) (L.Source.count link.new) }
     ensures never_falls { L.Source.count link.old ≤ L.Source.count link.new }
 {

@@ -6,6 +6,7 @@ pub mod MemInput
 pub mod MemLink
 pub mod MemSink
 pub mod MemSource
+pub mod Notes
 pub mod Pieces
 pub mod Put
 pub mod Standard

@@ -23,6 +23,7 @@ mem_link_state link = record {
   put = Some link.put;
   ended = link.input.ended;
   count = link.plan.faults;
+  notes = Some link.notes;
 }
 
 -- what was told, as an event

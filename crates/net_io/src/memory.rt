@@ -16,6 +16,7 @@ ghost use Rattle.net_io.specs.Memory.{mem_link_state};
 
 use crate::{Accepted, Connected, Network};
 use link_io::{FaultPlan, MemLink, Source};
+use past_moments::Passed;
 use std::marker::Model;
 use std::snapshot::Snapshot;
 use told_list::ToldList;
@@ -85,6 +86,8 @@ impl MemNetwork {
 }
 
 impl Network for MemNetwork {
+    type Over = Passed;
+
     type End = MemLink;
 
     ghost told = { λ n. Some n.told };

@@ -7,7 +7,11 @@ use farm_types::Memory;
 use std::alloc::Global;
 use std::marker::Model;
 
-/// Where the entries of one search stand. It takes 40 bytes and four for each lease, and what growth keeps free.
+/// For how many leases the first one of a search takes memory: most searches have fewer, so that their lists don't grow.
+const FIRST_RUNS: usize = 16;
+
+/// Where the entries of one search stand. It takes 40 bytes, those of 16 leases from the first one on, and four for
+/// each further lease, with what growth keeps free.
 #[derive(Debug, Drop)]
 pub struct SearchRow {
     opened: u32,
@@ -61,6 +65,9 @@ impl SearchRow {
         ensures added { OnOk result (self.new ≡ with_run place self.old) }
         ensures kept { OnErr result (self.new ≡ self.old) }
     {
+        if self.runs.capacity() == 0 {
+            self.runs.reserve(FIRST_RUNS)?;
+        }
         self.runs.push(place)?;
         Ok(())
     }

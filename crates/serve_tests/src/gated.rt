@@ -1,5 +1,6 @@
 //! Two links of which the first waits for an answer on the second: one handler can't serve both.
 ghost use Rattle.std.specs.Prelude.{◌≡◌, ◌<◌, refl, None};
+ghost use Rattle.link_io.specs.Notes.{no_output};
 ghost use Rattle.fault_types.specs.Counts.{Rose};
 
 use crate::requests::SHOW;
@@ -8,6 +9,7 @@ use crossbeam_utils::Backoff;
 use farm_serve::serve;
 use link_io::{Link, MemClock, MemSink, Put, Sink, Source, Took};
 use net_io::{Accepted, Connected, Network};
+use past_moments::Passed;
 use std::alloc::Global;
 use std::io;
 use std::sync::atomic::{AtomicBool, Ordering};
@@ -48,7 +50,7 @@ impl Source for GatedLink {
 
     ghost ended = { λ l. l.ended };
 
-    ghost aside = { λ _. None };
+    ghost aside = { λ _. no_output };
 
     ghost count = { λ l. l.faults };
 
@@ -74,7 +76,7 @@ impl Source for GatedLink {
 impl Sink for GatedLink {
     ghost written = { λ _. None };
 
-    ghost aside = { λ l. record { left = None; taken = None; ended = l.ended } };
+    ghost aside = { λ l. record { left = None; taken = None; ended = l.ended; notes = None } };
 
     ghost count = { λ l. l.faults };
 
@@ -94,7 +96,11 @@ impl Sink for GatedLink {
 }
 
 impl Link for GatedLink {
+    type Over = Passed;
+
     fn note_idle(&mut self) {}
+
+    fn note_over(&mut self, _over: &Passed) {}
 
     ghost one_count = { λ _. refl };
 
@@ -123,6 +129,8 @@ impl GatedNetwork {
 }
 
 impl Network for GatedNetwork {
+    type Over = Passed;
+
     type End = GatedLink;
 
     ghost told = { λ _. None };

@@ -5,7 +5,10 @@
 use denote.RattleType.{RattleType}
 use denote.Param.Send.{IsSend, IsSync, sendable}
 use Rattle.std.proofs.Crossing.{crosses}
+use Rattle.farm_disk.specs.declared.dated.DatedDisk as dated
 use Rattle.farm_disk.specs.declared.disk.Disk.{Ghosts}
+use Rattle.past_moments.specs.declared.passed.Past as past
+use Rattle.told_list.proofs.Crossing.{told_list-send}
 use Rattle.farm_store.proofs.Crossing.{store-send}
 use Rattle.turn_lock.proofs.lock.TurnLock.TheSendSync as TurnLock
 use Rattle.turn_lock.proofs.pass.Pass.TheSendSync as Pass
@@ -18,17 +21,19 @@ use Rattle.shared_farm.specs.contracts.locked.Locked as Locked
 use Rattle.shared_farm.specs.contracts.farm.SharedFarm as SharedFarm
 use Rattle.shared_farm.specs.declared.beginning.Beginning as beginning
 
--- what the lock holds, and the shared farm, each over any disk that is `Send`
-pub locked-send : (D B : RattleType) (ghosts : Ghosts D.Denot) (begun : beginning.Ghosts B.Denot) → IsSend D → IsSend B
-    → IsSend (Locked.the_row D B ghosts begun)
-locked-send D B ghosts begun disk mark =
+-- what the lock holds, and the shared farm, each over any disk that is `Send`, as the values for its moments are
+pub locked-send : (D B O : RattleType) (over : dated.Ghosts D.Denot O.Denot) (ghosts : Ghosts D.Denot)
+    (at : past.Ghosts O.Denot) (begun : beginning.Ghosts B.Denot) → IsSend D → IsSend B
+    → IsSend (Locked.the_row D B O over ghosts at begun)
+locked-send D B O over ghosts at begun disk mark =
     let store = store-send D ghosts disk in
-    search (Board.the_send, Board.the_sync, BoardPass.the_send, sendable, crosses) depth 20
+    search (told_list-send, Board.the_send, Board.the_sync, BoardPass.the_send, sendable, crosses) depth 20
 
-pub shared_farm-sync : (D B : RattleType) (ghosts : Ghosts D.Denot) (begun : beginning.Ghosts B.Denot) → IsSend D
-    → IsSend B → IsSync (SharedFarm.the_row D B ghosts begun)
-shared_farm-sync D B ghosts begun disk mark =
-    let locked = locked-send D B ghosts begun disk mark in
+pub shared_farm-sync : (D B O : RattleType) (over : dated.Ghosts D.Denot O.Denot) (ghosts : Ghosts D.Denot)
+    (at : past.Ghosts O.Denot) (begun : beginning.Ghosts B.Denot) → IsSend D → IsSend B → IsSend O
+    → IsSync (SharedFarm.the_row D B O over ghosts at begun)
+shared_farm-sync D B O over ghosts at begun disk mark moment =
+    let locked = locked-send D B O over ghosts at begun disk mark in
     search (TurnLock.the_sync, JobTable.the_sync, Errand.the_send, Outcome.the_send, sendable, crosses) depth 20
 
 -- what a closure takes along to a thread beside the farm

@@ -23,15 +23,21 @@ first-rest [] rest x is after some = absurd (omega (arith, some))
 first-rest {A} (y ∷ l) rest x is after some =
     ap (λ (z : A). z ∷ l) (sym is) ∙ ap (λ (k : List A). x ∷ k) (sym after)
 
-module _ {K : Type 0} (lock : TableId) (jobs : Jobs K) where
+-- what the parts ask is what the errands ask, of which there are as many
+pub record AreErrands (lock : TableId) (parts : List Part) (errands : List Errand) : Type 0 where
+  pub each : All (IsErrand lock) errands
+  pub asks : all_asks parts ≡ errands_asks errands
+  pub count : length errands ≡ length parts
+
+module _ {K O : Type 0} (lock : TableId) (jobs : Jobs K) where
   -- the first errand with the part of its asks, and those of the others
-  pub record IsTakenFirst (parts : List Part) (part : Part) (later : List Part) (helped : Helped K)
-      (rest : List (Helped K)) : Type 0 where
+  pub record IsTakenFirst (parts : List Part) (part : Part) (later : List Part) (helped : Helped K O)
+      (rest : List (Helped K O)) : Type 0 where
     pub parts_are : parts ≡ part ∷ later
     pub first : IsHelped lock jobs part helped
     pub others : AreHelped lock jobs later rest
 
-  pub taken-first : (parts later : List Part) (group rest : List (Helped K)) (part : Part) (helped : Helped K)
+  pub taken-first : (parts later : List Part) (group rest : List (Helped K O)) (part : Part) (helped : Helped K O)
       → AreHelped lock jobs parts group → 0 < length group
       → part ≡ slice_index_or parts 0 part → later ≡ remove parts 0
       → helped ≡ slice_index_or group 0 helped → rest ≡ remove group 0
@@ -42,33 +48,27 @@ module _ {K : Type 0} (lock : TableId) (jobs : Jobs K) where
   taken-first (x ∷ parts) later (y ∷ group) rest part helped are some p ps h hs = record {
     parts_are = ap (λ (q : Part). q ∷ parts) (sym p) ∙ ap (λ (l : List Part). part ∷ l) (sym ps);
     first = subst (λ (q : Part). IsHelped lock jobs q helped) (sym p)
-        (subst (λ (k : Helped K). IsHelped lock jobs x k) (sym h) are.0);
+        (subst (λ (k : Helped K O). IsHelped lock jobs x k) (sym h) are.0);
     others = subst (λ (l : List Part). AreHelped lock jobs l rest) (sym ps)
-        (subst (λ (l : List (Helped K)). AreHelped lock jobs parts l) (sym hs) are.1);
+        (subst (λ (l : List (Helped K O)). AreHelped lock jobs parts l) (sym hs) are.1);
   }
 
   -- there are as many parts as errands
-  pub helped-none : (parts : List Part) (group : List (Helped K)) → AreHelped lock jobs parts group → length group ≡ 0
+  pub helped-none : (parts : List Part) (group : List (Helped K O)) → AreHelped lock jobs parts group → length group ≡ 0
       → parts ≡ []
   helped-none [] group are none = refl
   helped-none (part ∷ parts) [] are none = absurd are
   helped-none (part ∷ parts) (helped ∷ group) are none = absurd (omega (arith, none))
 
-  -- what the parts ask is what the errands ask, of which there are as many
-  pub record AreErrands (parts : List Part) (errands : List Errand) : Type 0 where
-    pub each : All (IsErrand lock) errands
-    pub asks : all_asks parts ≡ errands_asks errands
-    pub count : length errands ≡ length parts
-
-  pub helped-errands : (parts : List Part) (group : List (Helped K)) → AreHelped lock jobs parts group
-      → AreErrands parts (map (λ (h : Helped K). h.taken.job) group)
+  pub helped-errands : (parts : List Part) (group : List (Helped K O)) → AreHelped lock jobs parts group
+      → AreErrands lock parts (map (λ (h : Helped K O). h.taken.job) group)
   helped-errands [] [] are = record { each = All-nil (IsErrand lock); asks = refl; count = refl }
   helped-errands [] (h ∷ group) are = absurd are
   helped-errands (p ∷ parts) [] are = absurd are
   helped-errands (p ∷ parts) (h ∷ group) are =
       let rest = helped-errands parts group are.1 in
       record {
-        each = All-cons (IsErrand lock) h.taken.job (map (λ (k : Helped K). k.taken.job) group) are.0.errand rest.each;
+        each = All-cons (IsErrand lock) h.taken.job (map (λ (k : Helped K O). k.taken.job) group) are.0.errand rest.each;
         asks = ap (λ (l : List Ask). l ++ all_asks parts) are.0.asks
             ∙ ap (λ (l : List Ask). h.taken.job.asks.items ++ l) rest.asks;
         count = ap (λ (n : ℕ). suc n) rest.count;
@@ -80,8 +80,8 @@ all-shown : {D : Type 0} (store : StoreState D) (shown : ℕ) (parts : List Part
 all-shown store shown parts s none =
     sym (s.history ∙ ap (λ (l : List Part). history_after (take shown store.history) (all_asks l)) none)
 
-module _ {K D : Type 0} (lock : TableId) (jobs : Jobs K) (store : StoreState D) (shown : ℕ) (parts : Vec Part Global)
-    (group : Vec (Helped K) Global) where
+module _ {K O D : Type 0} (lock : TableId) (jobs : Jobs K) (store : StoreState D) (shown : ℕ) (parts : Vec Part Global)
+    (group : Vec (Helped K O) Global) where
   -- where no errand is left, the whole history was shown
   pub whole-shown : (none : Bool) → IsShared store shown parts.items → AreHelped lock jobs parts.items group.items
       → none ≡ (group.len == 0) → none ≡ true → take shown store.history ≡ store.history
@@ -98,7 +98,7 @@ asks_part : (p q : Vec Ask Global) (ps qs : List (Vec Ask Global)) → p ∷ ps 
 asks_part p q ps qs e = (cc, cc)
 
 -- parts that keep their asks are those of the same errands
-pub helped-same : {K : Type 0} (lock : TableId) (jobs : Jobs K) (ps qs : List Part) (group : List (Helped K))
+pub helped-same : {K O : Type 0} (lock : TableId) (jobs : Jobs K) (ps qs : List Part) (group : List (Helped K O))
     → map (λ (part : Part). part.asks) qs ≡ map (λ (part : Part). part.asks) ps
     → AreHelped lock jobs ps group → AreHelped lock jobs qs group
 helped-same lock jobs [] [] group same are = are
@@ -107,7 +107,7 @@ helped-same lock jobs [] (q ∷ qs) group same are =
 helped-same lock jobs (p ∷ ps) [] group same are =
     absurd (omega (arith, ap (λ (l : List (Vec Ask Global)). length l) same))
 helped-same lock jobs (p ∷ ps) (q ∷ qs) [] same are = absurd are
-helped-same {K} lock jobs (p ∷ ps) (q ∷ qs) (h ∷ group) same are =
+helped-same {K} {O} lock jobs (p ∷ ps) (q ∷ qs) (h ∷ group) same are =
     let both = asks_part q.asks p.asks (map (λ (part : Part). part.asks) qs) (map (λ (part : Part). part.asks) ps) same
     in (
       record {

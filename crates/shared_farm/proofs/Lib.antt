@@ -1,6 +1,7 @@
 pub mod ByCommands
 pub mod Crossing
 pub mod Handing
+pub mod Logging
 pub mod Members
 pub mod Recorded
 pub mod Resting

@@ -25,6 +25,7 @@ use Rattle.turn_lock.specs.Known.{Before, IsSettled, Known, known_after}
 use Rattle.turn_lock.specs.Places.{ArePlaces}
 use Rattle.turn_lock.proofs.PlaceLists.{ArePlaces-range_with_len}
 use Rattle.turn_lock.specs.declared.view.Taken.{Taken}
+use Rattle.past_moments.specs.declared.row.Row.{Row}
 use Rattle.shared_farm.specs.Answered.{GoesOn, own_places}
 use Rattle.shared_farm.specs.Errands.{IsErrand, errands_asks}
 use Rattle.shared_farm.specs.Outcomes.{HadTurn}
@@ -179,9 +180,10 @@ module _ {D : Type 0} (count : D → ℕ) where
       (held : Before) (own : List ℕ) (lock : TableId) → AreStored found store shown (part ∷ parts)
       → held.pass ≡ old → IsTaken count old held found → ArePlaces 0 (length old.seen) old.mine
       → own ≡ range_with_len shown (part.end - shown)
-      → new ≡ known_after lock held (take part.end store.history) own (count store.disk) store.pending
+      → (log : List Row)
+      → new ≡ known_after lock held (take part.end store.history) own (count store.disk) store.pending log
       → HadTurn count lock part.asks.items (Ok part.answers) old new
-  stored-had found store shown part parts old new held own lock stored held_is taken places own_is new_is =
+  stored-had found store shown part parts old new held own lock stored held_is taken places own_is log new_is =
       let on = shared-on store shown part parts stored.shared in
       let low = on.1 in
       let left : StoreState D = store_at store part.end (part.end - shown) in
@@ -196,6 +198,7 @@ module _ {D : Type 0} (count : D → ℕ) where
           own_is = own_is ∙ ap (λ (k : ℕ). range_with_len k (part.end - shown)) (sym start);
         };
         lock = lock;
+        log = log;
         new_is = new_is;
       } in
       had-turn lock part.asks.items (Ok part.answers) served refl
@@ -310,10 +313,11 @@ module _ {D : Type 0} where
       → BatchSays (asks ++ errands_asks others) (Err f) old store
       → HasCallCause {T = Unit {0}} (Err f) (count old.disk) (count store.disk) → GoesOn count old store
       → held.pass ≡ known → IsTaken count known held old → ArePlaces 0 (length known.seen) known.mine
-      → own ≡ [] → new ≡ known_after lock held store.history own (count store.disk) store.pending
+      → own ≡ [] → (log : List Row)
+      → new ≡ known_after lock held store.history own (count store.disk) store.pending log
       → HadTurn count lock asks (Err f) known new
   failed-had count old store asks others f known new held own lock its posted few says cause goes_on held_is taken
-      places none new_is =
+      places none log new_is =
       let all : List Ask = asks ++ errands_asks others in
       let zero : store.recorded ≡ 0 = none-recorded all f old store says in
       let nowhere : own_places store ≡ [] =
@@ -327,6 +331,7 @@ module _ {D : Type 0} where
           own_is = none ∙ sym nowhere;
         };
         lock = lock;
+        log = log;
         new_is = new_is;
       } in
       had-turn count lock asks (Err f) served refl

@@ -12,9 +12,9 @@ use Rattle.job_table.specs.Jobs.{Jobs}
 use Rattle.shared_farm.specs.Rounds.{AreHelped, IsHelped}
 use Rattle.shared_farm.specs.declared.errand.Helped.{Helped}
 
-module _ {K : Type 0} (lock : TableId) (jobs : Jobs K) where
+module _ {K O : Type 0} (lock : TableId) (jobs : Jobs K) where
   -- one errand more was taken over
-  AreHelped-push : (parts : List Part) (group : List (Helped K)) (part : Part) (helped : Helped K)
+  AreHelped-push : (parts : List Part) (group : List (Helped K O)) (part : Part) (helped : Helped K O)
       → AreHelped lock jobs parts group → IsHelped lock jobs part helped
       → AreHelped lock jobs (parts ++ part ∷ []) (group ++ helped ∷ [])
   AreHelped-push [] [] part helped all one = (one, tt)
@@ -26,24 +26,24 @@ module _ {K : Type 0} (lock : TableId) (jobs : Jobs K) where
   )
 
   -- the parts so far: those at the beginning, and one for each errand that was taken over
-  pub record IsGathering (own parts : List Part) (group : List (Helped K)) (bytes : ℕ) : Type 0 where
+  pub record IsGathering (own parts : List Part) (group : List (Helped K O)) (bytes : ℕ) : Type 0 where
     pub others : List Part
     pub together : parts ≡ own ++ others
     pub helped : AreHelped lock jobs others group
     pub counted : bytes ≡ asks_size (all_asks parts)
     pub fits : bytes ≤ MAX_RECORD_BYTES
 
-  pub gathering-first : (own : List Part) (group : List (Helped K)) (bytes : ℕ) → group ≡ []
+  pub gathering-first : (own : List Part) (group : List (Helped K O)) (bytes : ℕ) → group ≡ []
       → bytes ≡ asks_size (all_asks own) → bytes ≤ MAX_BATCH_BYTES → IsGathering own own group bytes
   gathering-first own group bytes none counted fits = record {
     others = [];
     together = sym (append-nil own);
-    helped = subst (λ (l : List (Helped K)). AreHelped lock jobs [] l) (sym none) tt;
+    helped = subst (λ (l : List (Helped K O)). AreHelped lock jobs [] l) (sym none) tt;
     counted = counted;
     fits = omega (arith, fits);
   }
 
-  pub gathering-push : (own parts : List Part) (group : List (Helped K)) (bytes : ℕ) (part : Part) (helped : Helped K)
+  pub gathering-push : (own parts : List Part) (group : List (Helped K O)) (bytes : ℕ) (part : Part) (helped : Helped K O)
       → IsGathering own parts group bytes → IsHelped lock jobs part helped
       → bytes + asks_size part.asks.items ≤ MAX_RECORD_BYTES
       → IsGathering own (parts ++ part ∷ []) (group ++ helped ∷ []) (bytes + asks_size part.asks.items)

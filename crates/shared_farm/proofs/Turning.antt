@@ -1,5 +1,5 @@
 -- What a caller knows after a turn, from what the lock and the store say.
-use Rattle.std.proofs.Common.{◌≡◌, ◌++◌, List, ℕ, ◌+◌, ◌-◌, ◌≤◌, ◌⊎◌, [], Some, inl, inr, ⊎_elim, length, take, arith, sym, ap, ◌∙◌, subst, append-nil}
+use Rattle.std.proofs.Common.{◌≡◌, ◌++◌, List, ℕ, ◌+◌, ◌-◌, ◌≤◌, ◌⊎◌, ◌∷◌, [], Some, refl, inl, inr, ⊎_elim, length, take, arith, sym, ap, ◌∙◌, subst, append-nil}
 use Rattle.std.specs.Prelude.{Result, Ok, Err}
 use Rattle.farm_store.specs.Answering.{BatchSays, IsUndecided, IsUnrepaired}
 use Rattle.farm_store.specs.declared.asking.CallFault.TheVariants.{Refused, StoreFault, Memory}
@@ -21,9 +21,40 @@ use Rattle.turn_lock.specs.Places.{ArePlaces}
 use Rattle.turn_lock.specs.declared.view.Taken.{Taken}
 use Rattle.turn_lock.proofs.PlaceLists.{ArePlaces-append, ArePlaces-widen}
 use Rattle.shared_farm.specs.Answered.{GoesOn, own_places}
+use Rattle.past_moments.proofs.Rows.{AreAmong-behind, AreAmong-refl}
+use Rattle.past_moments.specs.Rows.{AreAmong, IsAmong}
+use Rattle.past_moments.specs.declared.row.Row.{Row}
 use Rattle.shared_farm.specs.Errands.{IsErrand}
+use Rattle.shared_farm.specs.Logs.{IsNewest, IsOver, LockedState}
 use Rattle.shared_farm.specs.Turns.{AreOwn, IsTurnBy, KeepsPass, StaysSettled, TurnSays}
 use Rattle.shared_farm.proofs.Recorded.{ArePlaces-own_places, own-places}
+
+-- a pass keeps its rows at a turn
+pub rows-after : (old new : Known) (held : Before) (log : List Row) → new.rows ≡ take 1 log ++ held.pass.rows
+    → held.pass ≡ old → AreAmong old.rows new.rows
+rows-after old new held log rows_is held_is =
+    subst (λ (l : List Row). AreAmong old.rows l)
+    (sym (rows_is ∙ ap (λ (k : Known). take 1 log ++ k.rows) held_is))
+    (AreAmong-behind (take 1 log) old.rows old.rows (AreAmong-refl old.rows))
+
+-- and the moment that the lock's value gave is that of the row that was told last, which has all that it has seen then
+pub over-after : {D : Type 0} (dated : D → ℕ) (moment : ℕ) (new : Known) (left asked : LockedState D) (rest : List Row)
+    → asked ≡ left → IsNewest dated asked → moment ≡ dated asked.store.disk → new.rows ≡ take 1 left.log ++ rest
+    → length new.seen ≤ length left.store.history → IsOver moment new
+over-after {D} dated moment new left asked rest same newest is rows holds =
+    let last : take 1 left.log ≡ record {
+      entries = length left.store.history;
+      moment = dated left.store.disk;
+    } ∷ [] = subst (λ (l : LockedState D). IsNewest dated l) same newest in
+    record {
+      row = record { entries = length left.store.history; moment = dated left.store.disk };
+      known = subst (λ (l : List Row). IsAmong l (record {
+        entries = length left.store.history;
+        moment = dated left.store.disk;
+      })) (sym (rows ∙ ap (λ (l : List Row). l ++ rest) last)) (inl refl);
+      holds = holds;
+      same = ap (λ (l : LockedState D). dated l.store.disk) (sym same) ∙ sym is;
+    }
 
 -- what a turn of a caller took: a store that went on from what the caller had seen
 pub record IsTaken {D : Type 0} (count : D → ℕ) (old : Known) (held : Before) (found : StoreState D) : Type 0 where
@@ -46,7 +77,8 @@ pub record IsServed {D : Type 0} (count : D → ℕ) (old new : Known) (held : B
     (own : List ℕ) : Type 0 where
   pub serving : IsServing count old held found left own
   pub lock : TableId
-  pub new_is : new ≡ known_after lock held left.history own (count left.disk) left.pending
+  pub log : List Row
+  pub new_is : new ≡ known_after lock held left.history own (count left.disk) left.pending log
 
 -- what a turn may be given back with, or go on with
 pub record IsGivable {D : Type 0} (count : D → ℕ) (held : Before) (left : StoreState D) (own : List ℕ) : Type 0 where
@@ -186,14 +218,15 @@ module _ {D : Type 0} {count : D → ℕ} {old new : Known} {held : Before} {fou
         legal = subst IsLegal (sym seen_is) s.serving.answered.legal;
         places = served-places;
         faults = omega (arith, low, high, last);
+        rows = rows-after old new held s.log (ap (λ (k : Known). k.rows) s.new_is) s.serving.held_is;
       }
 
 -- what is kept of a pass whose turn gave the store back as it was
 pub look-keeps : {D : Type 0} (count : D → ℕ) (old new : Known) (held : Before) (store : StoreState D) (own : List ℕ)
-    (lock : TableId) → held.pass ≡ old → IsTaken count old held store → ArePlaces 0 (length old.seen) old.mine
+    (lock : TableId) (log : List Row) → held.pass ≡ old → IsTaken count old held store → ArePlaces 0 (length old.seen) old.mine
     → IsLegal store.history → own ≡ []
-    → new ≡ known_after lock held store.history own (count store.disk) store.pending → KeepsPass lock old new
-look-keeps count old new held store own lock held_is taken places legal none new_is =
+    → new ≡ known_after lock held store.history own (count store.disk) store.pending log → KeepsPass lock old new
+look-keeps count old new held store own lock log held_is taken places legal none new_is =
     let seen_is : new.seen ≡ store.history = ap (λ (k : Known). k.seen) new_is in
     let faults_is : new.faults ≡ count store.disk = ap (λ (k : Known). k.faults) new_is in
     let mine_is : new.mine ≡ old.mine =
@@ -215,6 +248,7 @@ look-keeps count old new held store own lock held_is taken places legal none new
           (subst (λ (l : List ℕ). ArePlaces 0 (length store.history) l) (sym mine_is)
           (ArePlaces-widen 0 (length old.seen) 0 (length store.history) old.mine (omega arith) le places));
       faults = omega (arith, low, faults_is);
+      rows = rows-after old new held log (ap (λ (k : Known). k.rows) new_is) held_is;
     }
 
 module _ {D : Type 0} (lock : TableId) where

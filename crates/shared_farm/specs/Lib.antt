@@ -1,5 +1,6 @@
 pub mod Answered
 pub mod Errands
+pub mod Logs
 pub mod Outcomes
 pub mod Rests
 pub mod Rounds

@@ -5,6 +5,7 @@ use Rattle.farm_entry.specs.declared.answer.Answer.{Answer}
 use Rattle.farm_store.specs.declared.asking.Ask.{Ask}
 use Rattle.farm_store.specs.declared.asking.CallFault.{CallFault}
 use Rattle.turn_lock.specs.Known.{Known}
+use Rattle.shared_farm.specs.Logs.{IsOver}
 use Rattle.shared_farm.specs.Turns.{AreOwn, IsTurn, KeepsPass}
 use Rattle.shared_farm.specs.declared.errand.Errand.{Errand}
 use Rattle.shared_farm.specs.declared.errand.Outcome.{Outcome}
@@ -16,7 +17,9 @@ pub record HadTurn {D : Type 0} (count : D → ℕ) (lock : TableId) (asks : Lis
   pub own : AreOwn old new
   pub keeps : KeepsPass lock old new
 
--- the batch was asked at a turn of its caller's pass
-pub record IsDone {D : Type 0} (count : D → ℕ) (lock : TableId) (errand : Errand) (outcome : Outcome) : Type 0 where
+-- the batch was asked at a turn of its caller's pass, and the moment is one by which all that the pass has seen stood
+pub record IsDone {D O : Type 0} (count : D → ℕ) (at : O → ℕ) (lock : TableId) (errand : Errand) (outcome : Outcome O) :
+    Type 0 where
   pub asks : outcome.asks.items ≡ errand.asks.items
   pub had : HadTurn count lock errand.asks.items outcome.result errand.pass outcome.pass
+  pub over : IsOver (at outcome.over) outcome.pass

@@ -28,16 +28,16 @@ abbrev pub first_asks : List Part → List Ask
 first_asks [] = []
 first_asks (part ∷ parts) = part.asks.items
 
-module _ {K : Type 0} (lock : TableId) (jobs : Jobs K) where
+module _ {K O : Type 0} (lock : TableId) (jobs : Jobs K) where
   -- an errand was taken over: its asks are those of the part, and its pass is the one at hand
-  pub record IsHelped (part : Part) (helped : Helped K) : Type 0 where
+  pub record IsHelped (part : Part) (helped : Helped K O) : Type 0 where
     pub table : helped.taken.table ≡ jobs
     pub errand : IsErrand lock helped.taken.job
     pub pass : helped.pass ≡ helped.taken.job.pass
     pub asks : part.asks.items ≡ helped.taken.job.asks.items
 
   -- each part is that of an errand that was taken over
-  abbrev pub AreHelped : List Part → List (Helped K) → Type 0
+  abbrev pub AreHelped : List Part → List (Helped K O) → Type 0
   AreHelped [] [] = ⊤
   AreHelped (part ∷ parts) (helped ∷ group) = IsHelped part helped × AreHelped parts group
   AreHelped _ _ = ⊥

@@ -17,6 +17,7 @@ use Rattle.farm_store.specs.declared.asking.Ask.{Ask}
 use Rattle.farm_store.specs.declared.asking.CallFault.{CallFault}
 use Rattle.farm_store.specs.declared.asking.CallFault.TheVariants as fault
 use Rattle.list_prefix.specs.Prefix.{IsPrefix}
+use Rattle.past_moments.specs.Rows.{AreAmong}
 use Rattle.turn_lock.specs.Known.{IsReady, IsSettled, Known, MayRise}
 use Rattle.turn_lock.specs.Places.{ArePlaces}
 use Rattle.shared_farm.specs.Answered.{own_places}
@@ -99,7 +100,8 @@ StaysSettled old new =
     → (new.last.pending ≡ []) × (new.pending ≡ Some [])
 
 -- What is kept of a pass at its turn, whatever was done: it is ready again, has seen a legal history that begins with
--- the one that it had seen, and a count of faults that hasn't fallen, and its places lie in that history.
+-- the one that it had seen, and a count of faults that hasn't fallen, its places lie in that history, and it keeps its
+-- rows.
 pub record KeepsPass (lock : TableId) (old new : Known) : Type 0 where
   pub ready : IsReady lock new
   pub settled : StaysSettled old new
@@ -107,3 +109,4 @@ pub record KeepsPass (lock : TableId) (old new : Known) : Type 0 where
   pub legal : IsLegal new.seen
   pub places : ArePlaces 0 (length new.seen) new.mine
   pub faults : old.faults ≤ new.faults
+  pub rows : AreAmong old.rows new.rows

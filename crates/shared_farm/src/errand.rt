@@ -4,9 +4,10 @@ ghost use Rattle.shared_farm.specs.Outcomes.{IsDone};
 
 use crate::beginning::Beginning;
 use crate::locked::Locked;
-use farm_disk::Disk;
+use farm_disk::DatedDisk;
 use farm_store::{Answers, Ask, CallFault};
 use job_table::{JobRule, JobTable, Taken};
+use past_moments::Past;
 use std::marker::PhantomData;
 use turn_lock::{Pass, TurnLock};
 
@@ -21,17 +22,19 @@ pub struct Errand {
     pub asks: Vec<Ask>,
 }
 
-/// What an errand came to: the pass after its turn, the asks again, and the answers.
+/// What an errand came to: the pass after its turn, the asks again, the answers, and a moment of the disk that was over
+/// after the turn, by which all that the pass has seen stood.
 #[derive(Drop)]
-pub struct Outcome {
+pub struct Outcome<O> {
     pub pass: Pass,
     pub asks: Vec<Ask>,
     pub result: Result<Answers, CallFault>,
+    pub over: O,
 }
 
 /// An errand that was taken over, without its asks.
-pub struct Helped<K> {
-    pub taken: Taken<K, Errand, Outcome>,
+pub struct Helped<K, O> {
+    pub taken: Taken<K, Errand, Outcome<O>>,
     pub pass: Pass,
 }
 
@@ -41,11 +44,12 @@ pub struct ByTurns<D, B> {
     marker: PhantomData<(D, B)>,
 }
 
-impl<D: Disk, B: Beginning> JobRule<FarmLock<D, B>, Errand, Outcome> for ByTurns<D, B> {
+impl<D: DatedDisk, B: Beginning> JobRule<FarmLock<D, B>, Errand, Outcome<D::Over>>
+    for ByTurns<D, B> {
     ghost may = { λ key errand. IsErrand key errand };
 
-    ghost says = { λ key errand outcome. IsDone D.count key errand outcome };
+    ghost says = { λ key errand outcome. IsDone D.count D.Over.at key errand outcome };
 }
 
-/// The errands of a farm's callers.
-pub type Errands<D, B> = JobTable<FarmLock<D, B>, Errand, Outcome, ByTurns<D, B>>;
+/// The errands of a farm's callers. `O` are the moments of its disk.
+pub type Errands<D, B, O> = JobTable<FarmLock<D, B>, Errand, Outcome<O>, ByTurns<D, B>>;

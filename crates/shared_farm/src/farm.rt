@@ -1,11 +1,12 @@
 //! The shared farm.
-ghost use Rattle.std.specs.Prelude.{◌≡◌, ◌≤◌, ◌<◌, ◌↔◌, ◌+◌, [], true, Some, IfOk, IfErr, IfSome, length, max};
+ghost use Rattle.std.specs.Prelude.{◌≡◌, ◌≤◌, ◌<◌, ◌↔◌, ◌+◌, ◌++◌, ◌∷◌, [], true, Some, IfOk, IfErr, IfSome, length, max};
 ghost use Rattle.entry_codec.specs.LogPage.{log_page};
 ghost use Rattle.farm_store.specs.declared.asking.TheConstants.{MAX_BATCH};
 ghost use Rattle.list_prefix.specs.Prefix.{IsPrefix, longer};
 ghost use Rattle.turn_lock.specs.Known.{IsReady, both_pending, no_turn};
 ghost use Rattle.turn_lock.specs.Places.{ArePlaces, both_places};
 ghost use Rattle.shared_farm.specs.Errands.{IsErrand};
+ghost use Rattle.shared_farm.specs.Logs.{AreLogged, IsOver};
 ghost use Rattle.shared_farm.specs.Outcomes.{IsDone};
 ghost use Rattle.shared_farm.specs.Rests.{CameBy};
 ghost use Rattle.shared_farm.specs.Turns.{AreOwn, EntersInTurn, IsCall, IsLook, IsTurn, KeepsPass};
@@ -16,11 +17,12 @@ use crate::group_wait::GroupWait;
 use crate::locked::Locked;
 use crate::reader::TotalsReader;
 use crate::sharing::{ask_alone, hand_in};
-use farm_disk::Disk;
+use farm_disk::DatedDisk;
 use farm_entry::{Command, LeasedRun, Reply};
 use farm_store::{Answers, Ask, CallFault, Store};
 use farm_types::{Memory, Moment};
 use job_table::JobTable;
+use past_moments::Past;
 use std::alloc::Global;
 use std::marker::{Brand, Model};
 use std::sync::Wait;
@@ -29,15 +31,15 @@ use turn_lock::{Pass, TurnLock};
 /// A farm whose history stands on a disk, for callers in many threads. Contracts see it as the name of its lock, by
 /// which a pass is known to be its own. `B` is what it began with.
 #[derive(Drop)]
-pub struct SharedFarm<D: Disk, B: Beginning = Brand> {
+pub struct SharedFarm<D: DatedDisk, B: Beginning = Brand> {
     lock: FarmLock<D, B>,
     // None where there was no memory for it: each caller then makes its own calls.
-    errands: Option<Errands<D, B>>,
+    errands: Option<Errands<D, B, D::Over>>,
     // How long who runs an errand waits for others.
     waits: GroupWait,
 }
 
-impl<D: Disk, B: Beginning> Model for SharedFarm<D, B> {
+impl<D: DatedDisk, B: Beginning> Model for SharedFarm<D, B> {
     ghost use Rattle.std.specs.Prelude.{◌≡◌, IfSome};
     ghost use Rattle.atomic_table.specs.Seated.{TableId};
 
@@ -48,7 +50,7 @@ impl<D: Disk, B: Beginning> Model for SharedFarm<D, B> {
     ghost invariant = { λ s. IfSome s.errands (λ errands. errands.key ≡ s.lock) };
 }
 
-impl<D: Disk, B: Beginning> SharedFarm<D, B> {
+impl<D: DatedDisk, B: Beginning> SharedFarm<D, B> {
     /// The farm of a store, and a pass that has seen just its history. Running out of memory hands the store back.
     pub fn of(alloc: Global, store: Store<D>) -> Result<(SharedFarm<D, B>, Pass), Store<D>>
         requires came { IfSome B.begun (λ begun. CameBy D.Disk begun store) }
@@ -61,6 +63,7 @@ impl<D: Disk, B: Beginning> SharedFarm<D, B> {
           uses = 0;
           last = no_turn;
           pending = Some store.pending;
+          rows = record { entries = length store.history; moment = D.dated store.disk } ∷ [];
         }) }
         ensures back { IfErr result (λ same. same ≡ store) }
     {
@@ -102,6 +105,7 @@ impl<D: Disk, B: Beginning> SharedFarm<D, B> {
           uses = 0;
           last = no_turn;
           pending = pass.old.pending;
+          rows = pass.old.rows;
         } }
     {
         self.lock.split(pass)
@@ -122,6 +126,7 @@ impl<D: Disk, B: Beginning> SharedFarm<D, B> {
         ensures uses { pass.new.uses ≡ pass.old.uses + 1 }
         ensures last { pass.new.last ≡ no_turn }
         ensures pending { pass.new.pending ≡ both_pending pass.old.pending other.pending }
+        ensures rows { pass.new.rows ≡ pass.old.rows ++ other.rows }
     {
         self.lock.join(pass, other);
     }
@@ -184,7 +189,8 @@ impl<D: Disk, B: Beginning> SharedFarm<D, B> {
     /// Answers 1 to `MAX_BATCH` asks in one turn, as single calls one after the other would be, their new entries
     /// stored in one record. Callers who wait while turns are long share a record: whoever has the turn then answers
     /// their asks behind its own, each caller's at a turn of its own in the history, and stores them all at once. The
-    /// asks come back as they are.
+    /// asks come back as they are. Beside the answers it gives a moment of the disk that was over after the turn, by which
+    /// all that the pass has seen then stood.
     ///
     /// # Errors
     ///
@@ -195,23 +201,24 @@ impl<D: Disk, B: Beginning> SharedFarm<D, B> {
         alloc: Global,
         pass: &mut Pass,
         asks: &mut Vec<Ask>,
-    ) -> Result<Answers, CallFault>
+    ) -> (Result<Answers, CallFault>, D::Over)
         requires ready { IsReady self.now pass.old }
         requires some { 1 ≤ length asks.old.items }
         requires few { length asks.old.items ≤ MAX_BATCH }
         ensures asks { asks.new.items ≡ asks.old.items }
-        ensures turn { IsTurn D.count asks.old.items result pass.old pass.new }
+        ensures turn { IsTurn D.count asks.old.items result.0 pass.old pass.new }
         ensures own { AreOwn pass.old pass.new }
         ensures keeps { KeepsPass self.now pass.old pass.new }
+        ensures over { IsOver (D.Over.at result.1) pass.new }
     {
         match &self.errands {
             Some(errands) if self.lock.turns_are_long() => {
                 hand_in(rt, &self.lock, errands, &self.waits, alloc, pass, asks)
             }
             _ => {
-                let result = ask_alone(rt, &self.lock, alloc, pass, asks);
+                let asked = ask_alone(rt, &self.lock, alloc, pass, asks);
                 self.ring_next();
-                result
+                asked
             }
         }
     }
@@ -234,7 +241,7 @@ impl<D: Disk, B: Beginning> SharedFarm<D, B> {
     /// The bytes of a log page: the spelling of the most entries of the history, from this one on, counted from 1, that
     /// have together at most `LOG_PAGE_BYTES` of `entry_codec`. There are none exactly where the history has fewer
     /// entries. The history is that of a turn which changes nothing, and which the pass has then seen; entries that
-    /// are pending aren't in it.
+    /// are pending aren't in it. Beside the page it gives a moment of the disk that was over in the turn.
     ///
     /// # Errors
     ///
@@ -245,20 +252,22 @@ impl<D: Disk, B: Beginning> SharedFarm<D, B> {
         alloc: Global,
         pass: &mut Pass,
         from: u32,
-    ) -> Result<Vec<u8>, Memory>
+    ) -> (Result<Vec<u8>, Memory>, D::Over)
         requires ready { IsReady self.now pass.old }
         requires from { 1 ≤ from }
-        ensures page { IfOk result (λ bytes. bytes.items ≡ log_page from pass.new.seen) }
-        ensures none { IfOk result (λ bytes. (bytes.items ≡ []) ↔ (length pass.new.seen < from)) }
+        ensures page { IfOk result.0 (λ bytes. bytes.items ≡ log_page from pass.new.seen) }
+        ensures none { IfOk result.0 (λ bytes. (bytes.items ≡ []) ↔ (length pass.new.seen < from)) }
         ensures look { IsLook pass.old pass.new }
         ensures mine { pass.new.mine ≡ pass.old.mine }
         ensures keeps { KeepsPass self.now pass.old pass.new }
+        ensures over { IsOver (D.Over.at result.1) pass.new }
     {
         let turn = self.lock.turn(rt, pass);
         let page = turn.value.tail(alloc, from);
+        let over = turn.value.passed();
         self.lock.back(turn, pass);
         self.ring_next();
-        page
+        (page, over)
     }
 
     /// The store. Where a turn is out that was never given back, it waits and doesn't return.
@@ -267,6 +276,7 @@ impl<D: Disk, B: Beginning> SharedFarm<D, B> {
         ensures seen { IsPrefix pass.seen result.history }
         ensures faults { pass.faults ≤ D.count result.disk }
         ensures came { IfSome B.begun (λ begun. CameBy D.Disk begun result) }
+        ensures logged { D.tells result.disk ≡ true → AreLogged result.history (D.told result.disk) pass.rows }
     {
         let SharedFarm {
             lock,

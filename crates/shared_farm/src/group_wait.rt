@@ -3,7 +3,7 @@
 use crate::beginning::Beginning;
 use crate::errand::Errands;
 use crate::sharing::MOST_PARTS;
-use farm_disk::Disk;
+use farm_disk::DatedDisk;
 use std::sync::atomic::{AtomicU64, Ordering};
 use std::{hint, thread};
 
@@ -42,9 +42,9 @@ impl GroupWait {
 
     /// Takes in a record, before its callers are answered: how many these are, and how many entries it has. Without
     /// entries there is none.
-    pub fn note<D: Disk, B: Beginning>(
+    pub fn note<D: DatedDisk, B: Beginning>(
         &self,
-        errands: &Errands<D, B>,
+        errands: &Errands<D, B, D::Over>,
         callers: usize,
         entries: usize,
     ) {
@@ -58,7 +58,7 @@ impl GroupWait {
 
     /// Waits until all have posted errands who may share the next record with this caller, for some looks at most. It
     /// doesn't wait where they all have, and not where nobody came in the waits before.
-    pub fn gather<D: Disk, B: Beginning>(&self, errands: &Errands<D, B>) {
+    pub fn gather<D: DatedDisk, B: Beginning>(&self, errands: &Errands<D, B, D::Over>) {
         let coming = self.coming.load(Ordering::SeqCst);
         let others = coming.min(MOST_PARTS as u64).saturating_sub(1);
         let before = errands.count_posted();

@@ -33,6 +33,7 @@ mod locked;
 mod reader;
 mod round;
 mod sharing;
+mod turn_log;
 
 pub use beginning::Beginning;
 pub use farm::SharedFarm;

@@ -5,8 +5,10 @@ ghost use Rattle.farm_store.specs.Sizes.{asks_size};
 ghost use Rattle.farm_store.specs.Together.{all_asks};
 ghost use Rattle.farm_store.specs.declared.asking.TheConstants.{MAX_BATCH, MAX_BATCH_BYTES, MAX_RECORD_BYTES};
 ghost use Rattle.std.specs.Vec.{vec_capacity};
+ghost use Rattle.past_moments.specs.Rows.{IsOlder};
 ghost use Rattle.turn_lock.specs.Known.{IsReady};
 ghost use Rattle.shared_farm.specs.Errands.{IsErrand};
+ghost use Rattle.shared_farm.specs.Logs.{IsOver};
 ghost use Rattle.shared_farm.specs.Outcomes.{HadTurn, IsDone};
 ghost use Rattle.shared_farm.specs.Rounds.{AreHelped, IsJustTaken, first_asks};
 ghost use Rattle.shared_farm.specs.declared.sharing.TheConstants.{MOST_PARTS};
@@ -16,9 +18,10 @@ use crate::errand::{Errand, Errands, FarmLock, Helped, Outcome};
 use crate::group_wait::GroupWait;
 use crate::locked::Locked;
 use crate::round::{ask_each, share_out};
-use farm_disk::Disk;
+use farm_disk::DatedDisk;
 use farm_store::{Answers, Ask, CallFault, MAX_BATCH_BYTES, MAX_RECORD_BYTES, Part, most_bytes};
 use job_table::Posted;
+use past_moments::Past;
 use std::alloc::Global;
 use std::sync::Wait;
 use std::{hint, mem};
@@ -30,22 +33,24 @@ pub const MOST_PARTS: usize = 16;
 /// How often a caller looks after its errand before it sleeps.
 const MOST_LOOKS: u32 = 64;
 
-/// Asks a batch as an errand, which another caller may run. The asks come back as they are.
-pub fn hand_in<R: Wait, D: Disk, B: Beginning>(
+/// Asks a batch as an errand, which another caller may run. The asks come back as they are, and with the answers a moment
+/// that is over, by which all that the pass has seen then stood.
+pub fn hand_in<R: Wait, D: DatedDisk, B: Beginning>(
     rt: &R,
     lock: &FarmLock<D, B>,
-    errands: &Errands<D, B>,
+    errands: &Errands<D, B, D::Over>,
     waits: &GroupWait,
     alloc: Global,
     pass: &mut Pass,
     asks: &mut Vec<Ask>,
-) -> Result<Answers, CallFault>
+) -> (Result<Answers, CallFault>, D::Over)
     requires key { errands.now.key ≡ lock.now }
     requires ready { IsReady lock.now pass.old }
     requires some { 1 ≤ length asks.old.items }
     requires few { length asks.old.items ≤ MAX_BATCH }
     ensures asks { asks.new.items ≡ asks.old.items }
-    ensures had { HadTurn D.count lock.now asks.old.items result pass.old pass.new }
+    ensures had { HadTurn D.count lock.now asks.old.items result.0 pass.old pass.new }
+    ensures over { IsOver (D.Over.at result.1) pass.new }
 {
     let errand = Errand {
         pass: pass.take(),
@@ -55,24 +60,25 @@ pub fn hand_in<R: Wait, D: Disk, B: Beginning>(
         pass: mine,
         asks: same,
         result,
+        over,
     } = run(rt, lock, errands, waits, alloc, errand);
     *pass = mine;
     *asks = same;
-    result
+    (result, over)
 }
 
 /// Runs an errand at a turn of its pass, or has it run at another caller's turn where somebody has the turn.
-fn run<R: Wait, D: Disk, B: Beginning>(
+fn run<R: Wait, D: DatedDisk, B: Beginning>(
     rt: &R,
     lock: &FarmLock<D, B>,
-    errands: &Errands<D, B>,
+    errands: &Errands<D, B, D::Over>,
     waits: &GroupWait,
     alloc: Global,
     errand: Errand,
-) -> Outcome
+) -> Outcome<D::Over>
     requires key { errands.now.key ≡ lock.now }
     requires errand { IsErrand lock.now errand }
-    ensures { IsDone D.count lock.now errand result }
+    ensures { IsDone D.count D.Over.at lock.now errand result }
 {
     if lock.is_free() {
         return run_now(rt, lock, errands, waits, alloc, errand);
@@ -84,18 +90,18 @@ fn run<R: Wait, D: Disk, B: Beginning>(
 }
 
 /// Waits for what an errand comes to, or runs it where nobody has the turn and nobody has taken it over.
-fn wait_for<R: Wait, D: Disk, B: Beginning>(
+fn wait_for<R: Wait, D: DatedDisk, B: Beginning>(
     rt: &R,
     lock: &FarmLock<D, B>,
-    errands: &Errands<D, B>,
+    errands: &Errands<D, B, D::Over>,
     waits: &GroupWait,
     alloc: Global,
-    posted: Posted<FarmLock<D, B>, Errand, Outcome>,
-) -> Outcome
+    posted: Posted<FarmLock<D, B>, Errand, Outcome<D::Over>>,
+) -> Outcome<D::Over>
     requires key { errands.now.key ≡ lock.now }
     requires table { posted.table ≡ errands.now }
     requires errand { IsErrand lock.now posted.job }
-    ensures { IsDone D.count lock.now posted.job result }
+    ensures { IsDone D.count D.Over.at lock.now posted.job result }
 {
     let mut held = posted;
     for _ in rt.forever() {
@@ -115,11 +121,11 @@ fn wait_for<R: Wait, D: Disk, B: Beginning>(
 }
 
 /// Waits until an errand is answered or nobody has the turn: it looks again and again at first, and then sleeps.
-fn rest<R: Wait, D: Disk, B: Beginning>(
+fn rest<R: Wait, D: DatedDisk, B: Beginning>(
     rt: &R,
     lock: &FarmLock<D, B>,
-    errands: &Errands<D, B>,
-    posted: &Posted<FarmLock<D, B>, Errand, Outcome>,
+    errands: &Errands<D, B, D::Over>,
+    posted: &Posted<FarmLock<D, B>, Errand, Outcome<D::Over>>,
 ) {
     for _ in 0..MOST_LOOKS {
         if errands.is_answered(posted) || lock.is_free() {
@@ -135,17 +141,17 @@ fn rest<R: Wait, D: Disk, B: Beginning>(
 
 /// Runs an errand at a turn of its pass, and those of others who wait by then. One of those who came since goes on
 /// afterwards.
-fn run_now<R: Wait, D: Disk, B: Beginning>(
+fn run_now<R: Wait, D: DatedDisk, B: Beginning>(
     rt: &R,
     lock: &FarmLock<D, B>,
-    errands: &Errands<D, B>,
+    errands: &Errands<D, B, D::Over>,
     waits: &GroupWait,
     alloc: Global,
     errand: Errand,
-) -> Outcome
+) -> Outcome<D::Over>
     requires key { errands.now.key ≡ lock.now }
     requires errand { IsErrand lock.now errand }
-    ensures { IsDone D.count lock.now errand result }
+    ensures { IsDone D.count D.Over.at lock.now errand result }
 {
     let outcome = run_with_others(rt, lock, errands, waits, alloc, errand);
     errands.ring_next();
@@ -153,52 +159,59 @@ fn run_now<R: Wait, D: Disk, B: Beginning>(
 }
 
 /// Asks a batch at one turn of a pass.
-pub fn ask_alone<R: Wait, D: Disk, B: Beginning>(
+pub fn ask_alone<R: Wait, D: DatedDisk, B: Beginning>(
     rt: &R,
     lock: &FarmLock<D, B>,
     alloc: Global,
     pass: &mut Pass,
     asks: &[Ask],
-) -> Result<Answers, CallFault>
+) -> (Result<Answers, CallFault>, D::Over)
     requires ready { IsReady lock.now pass.old }
     requires some { 1 ≤ length asks.now }
     requires few { length asks.now ≤ MAX_BATCH }
-    ensures { HadTurn D.count lock.now asks.now result pass.old pass.new }
+    ensures had { HadTurn D.count lock.now asks.now result.0 pass.old pass.new }
+    ensures over { IsOver (D.Over.at result.1) pass.new }
 {
     let mut turn = lock.turn(rt, pass);
     let result = turn.value.call_batch(alloc, asks);
     turn.own = turn.value.own_places();
+    let over = turn.value.passed();
     lock.back(turn, pass);
-    result
+    (result, over)
 }
 
 /// Runs an errand at a turn of its pass, where there is no memory to have others with it.
-fn run_alone<R: Wait, D: Disk, B: Beginning>(
+fn run_alone<R: Wait, D: DatedDisk, B: Beginning>(
     rt: &R,
     lock: &FarmLock<D, B>,
     alloc: Global,
     errand: Errand,
-) -> Outcome
+) -> Outcome<D::Over>
     requires { IsErrand lock.now errand }
-    ensures { IsDone D.count lock.now errand result }
+    ensures { IsDone D.count D.Over.at lock.now errand result }
 {
     let Errand { mut pass, asks } = errand;
-    let result = ask_alone(rt, lock, alloc, &mut pass, &asks);
-    Outcome { pass, asks, result }
+    let (result, over) = ask_alone(rt, lock, alloc, &mut pass, &asks);
+    Outcome {
+        pass,
+        asks,
+        result,
+        over,
+    }
 }
 
 /// Runs an errand at a turn of its pass, and those of others behind it, whose new entries share a record with its own.
-fn run_with_others<R: Wait, D: Disk, B: Beginning>(
+fn run_with_others<R: Wait, D: DatedDisk, B: Beginning>(
     rt: &R,
     lock: &FarmLock<D, B>,
-    errands: &Errands<D, B>,
+    errands: &Errands<D, B, D::Over>,
     waits: &GroupWait,
     alloc: Global,
     errand: Errand,
-) -> Outcome
+) -> Outcome<D::Over>
     requires key { errands.now.key ≡ lock.now }
     requires errand { IsErrand lock.now errand }
-    ensures { IsDone D.count lock.now errand result }
+    ensures { IsDone D.count D.Over.at lock.now errand result }
 {
     let Ok(mut parts) = Vec::with_capacity(alloc, MOST_PARTS) else {
         return run_alone(rt, lock, alloc, errand);
@@ -212,8 +225,13 @@ fn run_with_others<R: Wait, D: Disk, B: Beginning>(
     let first_bytes = most_bytes(&asks);
     parts.push_reserved(part_of(alloc, asks));
     take_over(errands, alloc, &mut parts, &mut group, first_bytes);
-    let (asks, result) = share(lock, errands, waits, alloc, turn, &mut pass, parts, group);
-    Outcome { pass, asks, result }
+    let (asks, result, over) = share(lock, errands, waits, alloc, turn, &mut pass, parts, group);
+    Outcome {
+        pass,
+        asks,
+        result,
+        over,
+    }
 }
 
 /// A part with these asks, which has no answers yet.
@@ -229,11 +247,11 @@ fn part_of(alloc: Global, asks: Vec<Ask>) -> Part
 
 /// Takes over the errands of those who wait, one after the other while any batch is sure to fit the record, and adds a
 /// part for each. The entries of the first part take so many bytes of the record at most.
-fn take_over<D: Disk, B: Beginning>(
-    errands: &Errands<D, B>,
+fn take_over<D: DatedDisk, B: Beginning>(
+    errands: &Errands<D, B, D::Over>,
     alloc: Global,
     parts: &mut Vec<Part>,
-    group: &mut Vec<Helped<FarmLock<D, B>>>,
+    group: &mut Vec<Helped<FarmLock<D, B>, D::Over>>,
     first_bytes: usize,
 )
     requires one { length parts.old.items ≡ 1 }
@@ -263,16 +281,16 @@ fn take_over<D: Disk, B: Beginning>(
 
 /// Answers the asks of a caller and of those whose errands it took over, in one record, and gives each its turn. Where
 /// the record couldn't be stored, the caller is told so, and the others' asks are asked one after the other.
-fn share<D: Disk, B: Beginning>(
+fn share<D: DatedDisk, B: Beginning>(
     lock: &FarmLock<D, B>,
-    errands: &Errands<D, B>,
+    errands: &Errands<D, B, D::Over>,
     waits: &GroupWait,
     alloc: Global,
     turn: Turn<Box<Locked<D, B>>>,
     pass: &mut Pass,
     parts: Vec<Part>,
-    group: Vec<Helped<FarmLock<D, B>>>,
-) -> (Vec<Ask>, Result<Answers, CallFault>)
+    group: Vec<Helped<FarmLock<D, B>, D::Over>>,
+) -> (Vec<Ask>, Result<Answers, CallFault>, D::Over)
     requires key { errands.now.key ≡ lock.now }
     requires own { turn.before.pass.lock ≡ lock.now }
     requires out { pass.old.ready ≡ false }
@@ -280,10 +298,12 @@ fn share<D: Disk, B: Beginning>(
     requires few { length parts.items ≤ MOST_PARTS }
     requires fits { asks_size (all_asks parts.items) ≤ MAX_RECORD_BYTES }
     requires helped { AreHelped lock.now errands.now (drop 1 parts.items) group.items }
-    requires begins { IsJustTaken D.count turn.before turn.value.value }
+    requires begins { IsJustTaken D.count turn.before turn.value.value.store }
+    requires logged { IsOlder turn.before.log turn.value.value.log }
     requires nothing { turn.own ≡ [] }
     ensures asks { result.0.items ≡ first_asks parts.items }
     ensures had { HadTurn D.count lock.now (first_asks parts.items) result.1 turn.before.pass pass.new }
+    ensures over { IsOver (D.Over.at result.2) pass.new }
 {
     let mut turn = turn;
     let mut parts = parts;
@@ -291,18 +311,19 @@ fn share<D: Disk, B: Beginning>(
     let result = turn.value.call_together(alloc, &mut parts);
     let start = turn.value.history().len() - turn.value.recorded();
     waits.note(errands, parts.len(), turn.value.recorded());
+    let over = turn.value.passed();
     let Part { asks, answers, end } = parts.remove(0);
     match result {
         Ok(()) => {
             turn.own = Places::run(start, end - start);
             share_out(lock, errands, turn, pass, end, &mut parts, &mut group);
             group.destroy_empty();
-            (asks, Ok(answers))
+            (asks, Ok(answers), over)
         }
         Err(fault) => {
             ask_each(lock, errands, alloc, turn, pass, &mut parts, &mut group);
             group.destroy_empty();
-            (asks, Err(fault))
+            (asks, Err(fault), over)
         }
     }
 }

@@ -2,7 +2,10 @@
 use denote.Param.Send.{IsSend, IsSync, sendable}
 use Rattle.std.proofs.Crossing.{crosses}
 use Rattle.farm_disk.specs.contracts.in_memory.calm_disk.CalmDisk as CalmDisk
+use Rattle.farm_disk.specs.contracts.in_memory.calm_disk.CalmDiskDatedDisk.TheImpl as dated
 use Rattle.farm_disk.specs.contracts.in_memory.calm_disk.CalmDiskDisk.TheImpl.{ghosts}
+use Rattle.past_moments.specs.contracts.passed.Passed as Passed
+use Rattle.past_moments.specs.contracts.passed.PassedPast.TheImpl as past
 use Rattle.std.specs.contracts.marker.Brand as Brand
 use Rattle.shared_farm.specs.contracts.farm.SharedFarm as SharedFarm
 use Rattle.shared_farm.specs.contracts.beginning.BrandBeginning.TheImpl as begun
@@ -12,12 +15,17 @@ use Rattle.shared_farm.proofs.Crossing.{shared_farm-sync, along}
 calm_disk-send : IsSend CalmDisk.the_row
 calm_disk-send = search (told_list-send, sendable, crosses) depth 20
 
+passed-send : IsSend Passed.the_row
+passed-send = search (told_list-send, sendable, crosses) depth 20
+
 brand-send : IsSend Brand.the_row
 brand-send = search (sendable, crosses) depth 20
 
-pub calm_farm-sync : IsSync (SharedFarm.the_row CalmDisk.the_row Brand.the_row ghosts begun.ghosts)
+pub calm_farm-sync : IsSync (SharedFarm.the_row CalmDisk.the_row Brand.the_row Passed.the_row dated.ghosts ghosts
+    past.ghosts begun.ghosts)
 calm_farm-sync =
-    shared_farm-sync CalmDisk.the_row Brand.the_row ghosts begun.ghosts calm_disk-send brand-send
+    shared_farm-sync CalmDisk.the_row Brand.the_row Passed.the_row dated.ghosts ghosts past.ghosts begun.ghosts
+    calm_disk-send brand-send passed-send
 
 -- what a closure takes along to a thread
 pub ruleset lent = (calm_farm-sync, along)

@@ -192,7 +192,7 @@ fn ask_all<R: Wait>(
     if asks.is_empty() || asks.len() > MAX_BATCH {
         return false;
     }
-    match farm.call_batch(rt, alloc, pass, asks) {
+    match farm.call_batch(rt, alloc, pass, asks).0 {
         Ok(answers) => is_answered(answers.as_slice()),
         Err(_) => false,
     }

@@ -7,7 +7,7 @@ use crate::callers::{is_answered, is_legal};
 use crate::counts::leases_of;
 use crate::missed::{Missed, failed, missed_founding};
 use crate::slow_disk::SlowDisk;
-use farm_disk::Disk;
+use farm_disk::DatedDisk;
 use farm_entry::{Entry, Settings};
 use farm_store::{Ask, CallFault, MAX_BATCH, Store};
 use shared_farm::{Pass, SharedFarm, TotalsReader};
@@ -48,7 +48,7 @@ fn batch(alloc: Global, caller: u64, number: u64, entries: u64) -> Option<Vec<As
 }
 
 /// Asks a batch, and answers whether its replies are as they should be.
-fn ask<R: Wait, D: Disk>(
+fn ask<R: Wait, D: DatedDisk>(
     rt: &R,
     alloc: Global,
     farm: &SharedFarm<D>,
@@ -61,7 +61,7 @@ fn ask<R: Wait, D: Disk>(
     if asks.is_empty() || asks.len() > MAX_BATCH {
         return Ok(false);
     }
-    match farm.call_batch(rt, alloc, pass, asks) {
+    match farm.call_batch(rt, alloc, pass, asks).0 {
         Ok(answers) => Ok(is_answered(answers.as_slice())),
         Err(fault) => Err(fault),
     }
@@ -69,7 +69,7 @@ fn ask<R: Wait, D: Disk>(
 
 /// Asks a batch, and the same again where the disk failed. Answers how often it did, where the replies are as they
 /// should be.
-fn ask_again<R: Wait, D: Disk>(
+fn ask_again<R: Wait, D: DatedDisk>(
     rt: &R,
     alloc: Global,
     farm: &SharedFarm<D>,
@@ -90,7 +90,7 @@ fn ask_again<R: Wait, D: Disk>(
 }
 
 /// One batch of a caller.
-fn step<R: Wait, D: Disk>(
+fn step<R: Wait, D: DatedDisk>(
     rt: &R,
     alloc: Global,
     farm: &SharedFarm<D>,
@@ -115,7 +115,7 @@ fn sum(first: Option<u64>, second: Option<u64>) -> Option<u64> {
 
 /// So many batches of a caller, one after the other, each at a moment by the totals. Answers how often the disk failed
 /// it, where each reply is as it should be.
-fn play<R: Wait, D: Disk>(
+fn play<R: Wait, D: DatedDisk>(
     rt: &R,
     alloc: Global,
     farm: &SharedFarm<D>,
@@ -141,7 +141,7 @@ fn play<R: Wait, D: Disk>(
 }
 
 /// The same with a reader of the caller's own.
-fn call_all<R: Wait, D: Disk>(
+fn call_all<R: Wait, D: DatedDisk>(
     rt: &R,
     alloc: Global,
     farm: &SharedFarm<D>,
@@ -160,7 +160,7 @@ fn call_all<R: Wait, D: Disk>(
 }
 
 /// Two callers.
-fn call_by_two<D: Disk + Drop + Send, R: Threads + Wait + Sync>(
+fn call_by_two<D: DatedDisk + Drop + Send, R: Threads + Wait + Sync>(
     rt: &R,
     alloc: Global,
     farm: &SharedFarm<D>,
@@ -183,7 +183,7 @@ fn call_by_two<D: Disk + Drop + Send, R: Threads + Wait + Sync>(
 }
 
 /// Four callers.
-fn call_by_four<D: Disk + Drop + Send, R: Threads + Wait + Sync>(
+fn call_by_four<D: DatedDisk + Drop + Send, R: Threads + Wait + Sync>(
     rt: &R,
     alloc: Global,
     farm: &SharedFarm<D>,
@@ -210,7 +210,7 @@ fn call_by_four<D: Disk + Drop + Send, R: Threads + Wait + Sync>(
 }
 
 /// A store that was founded on a disk.
-fn founded<D: Disk + Drop>(alloc: Global, disk: D) -> Result<Store<D>, Missed> {
+fn founded<D: DatedDisk + Drop>(alloc: Global, disk: D) -> Result<Store<D>, Missed> {
     let Ok(settings) = Settings::of(LEASE_MS, 10, 0) else {
         return Err(Missed::Reply);
     };
@@ -224,7 +224,12 @@ fn founded<D: Disk + Drop>(alloc: Global, disk: D) -> Result<Store<D>, Missed> {
 }
 
 /// Whether a search is opened.
-fn is_opened<R: Wait, D: Disk>(rt: &R, alloc: Global, farm: &SharedFarm<D>, pass: &mut Pass) -> bool
+fn is_opened<R: Wait, D: DatedDisk>(
+    rt: &R,
+    alloc: Global,
+    farm: &SharedFarm<D>,
+    pass: &mut Pass,
+) -> bool
     requires { IsReady farm.now pass.old }
     ensures { IsReady farm.entry.now pass.new }
 {
@@ -238,7 +243,7 @@ fn is_opened<R: Wait, D: Disk>(rt: &R, alloc: Global, farm: &SharedFarm<D>, pass
 }
 
 /// A search that is opened, and the batches of four callers, or as many of one.
-fn open_and_call<D: Disk + Drop + Send, R: Threads + Wait + Sync>(
+fn open_and_call<D: DatedDisk + Drop + Send, R: Threads + Wait + Sync>(
     rt: &R,
     alloc: Global,
     farm: &SharedFarm<D>,
@@ -260,7 +265,7 @@ fn open_and_call<D: Disk + Drop + Send, R: Threads + Wait + Sync>(
 }
 
 /// The store after all batches, and how often the disk failed a caller, where each reply was as it should be.
-fn played<D: Disk + Drop + Send, R: Threads + Wait + Sync>(
+fn played<D: DatedDisk + Drop + Send, R: Threads + Wait + Sync>(
     rt: &R,
     alloc: Global,
     store: Store<D>,

@@ -1,7 +1,9 @@
 //! A disk whose syncs take long.
 ghost use Rattle.std.specs.Prelude.{true};
+ghost use Rattle.farm_disk.specs.Images.{moment};
 
-use farm_disk::{CalmDisk, Did, Disk, Size, Written};
+use farm_disk::{CalmDisk, DatedDisk, Did, Disk, Size, Written};
+use past_moments::Passed;
 use std::alloc::Global;
 use std::thread;
 use std::time::Duration;
@@ -104,5 +106,15 @@ impl Disk for SlowDisk {
             return Did::Failed;
         }
         self.disk.sync()
+    }
+}
+
+impl DatedDisk for SlowDisk {
+    type Over = Passed;
+
+    ghost dated = { λ d. moment d.disk };
+
+    fn passed(&self) -> Passed {
+        self.disk.passed()
     }
 }

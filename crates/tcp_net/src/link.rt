@@ -1,6 +1,7 @@
 //! The link.
 ghost use Rattle.std.specs.Prelude.{◌≡◌, ◌≢◌, ◌<◌, ◌≤◌, [], None, false, length, refl, IfOk, IfSome};
 ghost use Rattle.fault_types.specs.Counts.{Rose};
+ghost use Rattle.link_io.specs.Notes.{no_output};
 ghost use Rattle.link_io.specs.Took.{IfTook, OnTookFailed, is_end};
 ghost use Rattle.link_io.specs.Put.{IfPut, OnPutFailed};
 ghost use Rattle.tcp_net.specs.Tcp.{link_ended, link_faults};
@@ -12,6 +13,7 @@ use crate::ready::{Side, now_ms, wait_for, wait_for_either};
 use crate::waiting::{Speaker, Stage};
 use link_io::{Link, Put, Sink, Source, Took};
 use mio::net::TcpStream;
+use past_moments::Passed;
 use std::net::Shutdown;
 use std::os::fd::{AsRawFd, RawFd};
 use std::rt::Clock;
@@ -422,7 +424,7 @@ impl<R: Clock + Drop> Source for TcpLink<R> {
 
     ghost ended = { link_ended };
 
-    ghost aside = { λ _. None };
+    ghost aside = { λ _. no_output };
 
     ghost count = { link_faults };
 
@@ -454,7 +456,7 @@ impl<R: Clock + Drop> Source for TcpLink<R> {
 impl<R: Clock + Drop> Sink for TcpLink<R> {
     ghost written = { λ _. None };
 
-    ghost aside = { λ l. record { left = None; taken = None; ended = link_ended l } };
+    ghost aside = { λ l. record { left = None; taken = None; ended = link_ended l; notes = None } };
 
     ghost count = { link_faults };
 
@@ -485,9 +487,13 @@ impl<R: Clock + Drop> Sink for TcpLink<R> {
 }
 
 impl<R: Clock + Drop> Link for TcpLink<R> {
+    type Over = Passed;
+
     fn note_idle(&mut self) {
         self.idle = true;
     }
+
+    fn note_over(&mut self, _over: &Passed) {}
 
     ghost one_count = { λ _. refl };
 

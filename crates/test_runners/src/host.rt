@@ -55,10 +55,11 @@ fn ask_over<N: Network>(network: &mut N, mut link: N::End, question: &[u8]) -> O
 
 /// Puts a question to a connection and takes the answer.
 fn ask<L: Link>(link: &mut L, question: &[u8]) -> Option<Tested>
-    ensures { (sent taken : List ℕ)
+    ensures asked { (sent taken : List ℕ)
         × (L.Sink.written link.new ≡ append_known (L.Sink.written link.old) sent)
         × (L.Source.taken link.new ≡ append_known (L.Source.taken link.old) taken)
         × IsAsked question.now sent taken (L.Source.ended link.new) (L.Source.count link.new) result }
+    ensures notes { (L.Sink.aside link.new).notes ≡ (L.Sink.aside link.old).notes }
 {
     match put_all(link, question) {
         Ok(()) => {}

@@ -10,6 +10,9 @@ use Rattle.atomic_table.proofs.Lists.{at_set, set_else, at_longer}
 use Rattle.farm_entry.specs.declared.entry.Entry.{Entry}
 use Rattle.list_prefix.specs.Prefix.{IsPrefix}
 use Rattle.list_prefix.proofs.Prefixes.{IsPrefix-refl, IsPrefix-nil}
+use Rattle.past_moments.specs.Rows.{AreAmong, IsOlder}
+use Rattle.past_moments.specs.declared.row.Row.{Row}
+use Rattle.past_moments.proofs.Rows.{AreAmong-append, AreAmong-newest, AreAmong-older}
 use Rattle.turn_lock.specs.Known.{IsSettled}
 use Rattle.turn_lock.specs.Places.{ArePlaces}
 use Rattle.turn_lock.specs.Rule.{HasTicket, HasPlace, ArePlacesApart, IsSeenBy, IsHome, IsOut, IsKept}
@@ -18,11 +21,11 @@ use Rattle.turn_lock.specs.Views.{idle_again, noted, spent, turn_alone, taken_ov
 use Rattle.turn_lock.specs.declared.view.Home.{Home}
 use Rattle.turn_lock.specs.declared.view.Taken.{Taken}
 use Rattle.turn_lock.specs.declared.view.View.{View}
-use Rattle.turn_lock.proofs.Keeps.{IsSomewhere-set, IsSomewhere-push, unmoved}
-use Rattle.turn_lock.proofs.Parts.{both_ways, AreTickets-same, AreTickets-push, ArePlacesApart-set, ArePlacesApart-recorded, IsSeenBy-set, IsSeenBy-grown}
+use Rattle.turn_lock.proofs.Keeps.{IsSomewhere-set, IsSomewhere-push, spent-knows, unmoved}
+use Rattle.turn_lock.proofs.Parts.{both_ways, AreTickets-same, AreTickets-push, ArePlacesApart-set, ArePlacesApart-recorded, Knows, IsSeenBy-knows, IsSeenBy-set, IsSeenBy-grown}
 use Rattle.turn_lock.proofs.Rows.{at-lt-length, set-comm, set-snoc, Each-set, Each-set_else, Each-push, Some_seat-set, Some_seat-here, Apart-push_new}
 
-module _ {T : Type 0} (entries : T → List Entry) (count : T → ℕ) (pending : T → List Entry) where
+module _ {T : Type 0} (entries : T → List Entry) (count : T → ℕ) (pending : T → List Entry) (log : T → List Row) where
   abbrev St : Type 0
   St = State (Option (Home T)) View
 
@@ -33,58 +36,54 @@ module _ {T : Type 0} (entries : T → List Entry) (count : T → ℕ) (pending 
   table words homes views = record { words = words; homes = homes; views = views }
 
   abbrev IsKeptIn : St → Type 0
-  IsKeptIn = IsKept entries count pending
+  IsKeptIn = IsKept entries count pending log
 
   abbrev IsSomewhere : St → Type 0
-  IsSomewhere s = IsHome entries count pending s ⊎ IsOut s
+  IsSomewhere s = IsHome entries count pending log s ⊎ IsOut s
 
   abbrev Joined : View → Type 0
   Joined v = IfSome v.joined (λ two. IsPrefix two.0 v.seen × IsPrefix two.1 v.seen)
 
   -- a seat took the value for which a number stands, if it took it
-  abbrev Serves : ℕ → Taken → View → Type 0
-  Serves served taken v = (t : Taken) → v.taken ≡ Some t → (t ≡ taken) × HasTicket v served
+  abbrev Serves : ℕ → Taken → List Row → View → Type 0
+  Serves served taken told v = (t : Taken) → v.taken ≡ Some t → (t ≡ taken) × HasTicket v served × (v.log ≡ told)
 
   -- the value stays where it is while what a seat knows changes and its turn doesn't
   IsSomewhere-same : (s : St) (id : ℕ) (v w : View) → get_elem? s.views id ≡ some v → v.ticket ≡ w.ticket
-      → v.taken ≡ w.taken
-      → ((all : List Entry) (c : ℕ) (o : List Entry) → IsSeenBy s.views all c o
-      → IsPrefix w.seen all × (w.faults ≤ c) × IsSettled w.pending w.faults c o)
+      → v.taken ≡ w.taken → v.log ≡ w.log
+      → ((all : List Entry) (c : ℕ) (o : List Entry) (told : List Row) → IsSeenBy s.views all c o told
+      → Knows w all c o told)
       → IsSomewhere s → IsSomewhere (table s.words s.homes (set s.views id w))
-  IsSomewhere-same s id v w at number turn sees where_it_is = ⊎_elim
-      (λ (h : IsHome entries count pending s).
-      let r = sees (entries h.home.value) (count h.home.value) (pending h.home.value) h.seen in
+  IsSomewhere-same s id v w at number turn logged sees where_it_is = ⊎_elim
+      (λ (h : IsHome entries count pending log s).
+      let r = sees (entries h.home.value) (count h.home.value) (pending h.home.value) (log h.home.value) h.seen in
       inl record {
         home = h.home;
         there = h.there;
-        seen = IsSeenBy-set s.views (entries h.home.value) (count h.home.value) (pending h.home.value) id w r.0 r.1 r.2
-            h.seen;
+        seen = IsSeenBy-set s.views (entries h.home.value) (count h.home.value) (pending h.home.value)
+            (log h.home.value) id w r h.seen;
         nobody = Each-set s.views (λ u. u.taken ≡ None) id w h.nobody (sym turn ∙ h.nobody id v at);
       })
       (λ (o : IsOut s).
-      let r = sees o.taken.entries o.taken.count o.taken.pending o.seen in
+      let r = sees o.taken.entries o.taken.count o.taken.pending o.log o.seen in
       inr record {
         taken = o.taken;
+        log = o.log;
         holder = Some_seat-set s.views (λ u. u.taken ≡ Some o.taken) id v w at (λ has. sym turn ∙ has) o.holder;
-        seen = IsSeenBy-set s.views o.taken.entries o.taken.count o.taken.pending id w r.0 r.1 r.2 o.seen;
-        served = Each-set s.views (Serves (get_or s.words 1 0) o.taken) id w o.served
-            (λ t has. let it = o.served id v at t (turn ∙ has) in (it.0, sym number ∙ it.1));
+        seen = IsSeenBy-set s.views o.taken.entries o.taken.count o.taken.pending o.log id w r o.seen;
+        served = Each-set s.views (Serves (get_or s.words 1 0) o.taken o.log) id w o.served
+            (λ t has. let it = o.served id v at t (turn ∙ has) in (it.0, sym number ∙ it.1, sym logged ∙ it.2));
       })
       where_it_is
 
-  -- nothing is seen by a seat that is spent
-  nothing_seen : (all : List Entry) (c : ℕ) (o : List Entry)
-      → IsPrefix spent.seen all × (spent.faults ≤ c) × IsSettled spent.pending spent.faults c o
-  nothing_seen all c o = (IsPrefix-nil all, omega arith, λ e _ _. absurd (none-some [] e))
-
   noting : (s : St) (k : IsKeptIn s) (id : ℕ) (v : View) (now : List Entry) (own : List ℕ) (c : ℕ) (p : List Entry)
-      (o : IsOut s) → get_elem? s.views id ≡ some v → HasTicket v (get_or s.words 1 0) → IsPrefix o.taken.entries now
+      (told : List Row) (o : IsOut s) → get_elem? s.views id ≡ some v → HasTicket v (get_or s.words 1 0) → IsPrefix o.taken.entries now
       → o.taken.count ≤ c → IsSettled (Some o.taken.pending) o.taken.count c p
-      → ArePlaces (length o.taken.entries) (length now) own
-      → IsKeptIn (table s.words s.homes (set s.views id (noted now own c p v)))
-  noting s k id v now own c p o at mine grown at_least settled places =
+      → ArePlaces (length o.taken.entries) (length now) own → IsOlder o.log told
+      → IsKeptIn (table s.words s.homes (set s.views id (noted now own c p told v)))
+  noting s k id v now own c p told o at mine grown at_least settled places older =
       let served : ℕ = get_or s.words 1 0 in
-      let w : View = noted now own c p v in
+      let w : View = noted now own c p told v in
       let t : Taken = record { entries = now; count = c; pending = p } in
       record {
         words = k.words;
@@ -93,13 +92,21 @@ module _ {T : Type 0} (entries : T → List Entry) (count : T → ℕ) (pending 
             k.places;
         value = inr record {
           taken = t;
+          log = told;
           holder = Some_seat-here s.views (λ u. u.taken ≡ Some t) id v w at refl;
-          seen = IsSeenBy-set s.views now c p id w (IsPrefix-refl now) (le_refl c) (λ e _ _. same_Some p [] e)
-              (IsSeenBy-grown s.views o.taken.entries now o.taken.count c o.taken.pending p grown at_least settled
-              o.seen);
-          served = Each-set_else s.views (Serves served t) id w
+          seen = IsSeenBy-set s.views now c p told id w
+              (record {
+                begins = IsPrefix-refl now;
+                at_most = le_refl c;
+                settled = λ e _ _. same_Some p [] e;
+                among = AreAmong-append (take 1 told) v.rows told (AreAmong-newest told)
+                    (AreAmong-older v.rows o.log told older (o.seen.rows id v at));
+              })
+              (IsSeenBy-grown s.views o.taken.entries now o.taken.count c o.taken.pending p o.log told grown at_least
+              settled older o.seen);
+          served = Each-set_else s.views (Serves served t told) id w
               (λ i u ne a x has. absurd (ne (k.tickets.apart i id u v served a at (o.served i u a x has).1 mine)))
-              (λ x has. (sym (same_Some t x has), mine));
+              (λ x has. (sym (same_Some t x has), mine, refl));
         };
         joined = Each-set s.views Joined id w k.joined tt;
       }
@@ -109,24 +116,26 @@ module _ {T : Type 0} (entries : T → List Entry) (count : T → ℕ) (pending 
       → IsPrefix t.entries (take home.shown (entries home.value)) → t.count ≤ count home.value
       → IsSettled (Some t.pending) t.count (count home.value) (pending home.value)
       → ArePlaces (length t.entries) (length (take home.shown (entries home.value))) home.own
+      → IsOlder v.log (log home.value)
       → Allows IsKeptIn 1 id (v, (0, Some home) ∷ []) 1 (λ n. n)
-      (Notes entries count pending (step 1 1 0 0 none) (v, (0, Some home) ∷ []))
-  notes id v home t has grown at_least settled own s k one at fits = ⊎_elim
-      (λ (h : IsHome entries count pending s). absurd (both_ways v.taken t (h.nobody id v at) has))
+      (Notes entries count pending log (step 1 1 0 0 none) (v, (0, Some home) ∷ []))
+  notes id v home t has grown at_least settled own told s k one at fits = ⊎_elim
+      (λ (h : IsHome entries count pending log s). absurd (both_ways v.taken t (h.nobody id v at) has))
       (λ (o : IsOut s).
       let it = o.served id v at t has in
       let now : List Entry = take home.shown (entries home.value) in
-      let w : View = noted now home.own (count home.value) (pending home.value) v in (
+      let w : View = noted now home.own (count home.value) (pending home.value) (log home.value) v in (
         w,
         keeps,
         tt,
         subst (λ (ws : List ℕ). IsKeptIn (table ws s.homes (set s.views id w))) (sym (set-get_or s.words 1 0))
-            (noting s k id v now home.own (count home.value) (pending home.value) o at it.1
+            (noting s k id v now home.own (count home.value) (pending home.value) (log home.value) o at it.1
             (subst (λ (x : Taken). IsPrefix x.entries now) it.0 grown)
             (subst (λ (x : Taken). x.count ≤ count home.value) it.0 at_least)
             (subst (λ (x : Taken). IsSettled (Some x.pending) x.count (count home.value) (pending home.value)) it.0
             settled)
-            (subst (λ (x : Taken). ArePlaces (length x.entries) (length now) home.own) it.0 own)),
+            (subst (λ (x : Taken). ArePlaces (length x.entries) (length now) home.own) it.0 own)
+            (subst (λ (l : List Row). IsOlder l (log home.value)) it.2 told)),
         (home, refl, refl),
       ))
       k.value
@@ -155,10 +164,10 @@ module _ {T : Type 0} (entries : T → List Entry) (count : T → ℕ) (pending 
         };
         value = subst (λ (vs : List View). IsSomewhere (table s.words s.homes vs))
             (set-snoc s.views id u w (at-lt-length s.views id v at))
-            (IsSomewhere-same (table s.words s.homes (s.views ++ w ∷ [])) id v u in_both refl refl
-            (λ all c o _. nothing_seen all c o)
-            (IsSomewhere-push entries count pending s w refl
-            (λ all c o sees. (sees.seen id v at, sees.faults id v at, sees.settled id v at)) k.value));
+            (IsSomewhere-same (table s.words s.homes (s.views ++ w ∷ [])) id v u in_both refl refl refl
+            (λ all c o told _. spent-knows entries count pending log all c o told)
+            (IsSomewhere-push entries count pending log s w refl
+            (λ all c o told sees. IsSeenBy-knows s.views all c o told id v at sees) k.value));
         joined = Each-push views Joined w (Each-set s.views Joined id u k.joined tt) tt;
       }
 
@@ -190,10 +199,15 @@ module _ {T : Type 0} (entries : T → List Entry) (count : T → ℕ) (pending 
             (AreTickets-same (get_or s.words 1 0) (get_or s.words 0 0) s.views id v b at refl k.tickets);
         places = subst (λ (vs : List View). ArePlacesApart vs) (set-comm s.views other id spent b ne)
             (moved_places s k id other v w at there ne);
-        value = IsSomewhere-set entries count pending (table s.words s.homes views) s.words other w spent there_then
-            (ap (λ (x : View). x.taken) idles) refl refl (λ all c o _. nothing_seen all c o)
-            (IsSomewhere-same s id v b at refl refl
-            (λ all c o sees. (sees.seen other w there, sees.faults other w there, sees.settled other w there)) k.value);
+        value = IsSomewhere-set entries count pending log (table s.words s.homes views) s.words other w spent there_then
+            (ap (λ (x : View). x.taken) idles) refl refl (λ all c o told _. spent-knows entries count pending log all c o told)
+            (IsSomewhere-same s id v b at refl refl refl
+            (λ all c o told sees. record {
+              begins = sees.seen other w there;
+              at_most = sees.faults other w there;
+              settled = sees.settled other w there;
+              among = sees.rows other w there;
+            }) k.value);
         joined = Each-set views Joined other spent
             (Each-set s.views Joined id b k.joined (k.joined other w there)) tt;
       }
@@ -202,14 +216,14 @@ module _ {T : Type 0} (entries : T → List Entry) (count : T → ℕ) (pending 
   pub meets : (id : ℕ) (m : Seat) (t : Taken) → m.0.taken ≡ Some t
       → Allows IsKeptIn 1 id m 1 (λ n. n) (Meets (step 1 1 0 0 none) m)
   meets id m t has s k one at fits = ⊎_elim
-      (λ (h : IsHome entries count pending s). absurd (both_ways m.0.taken t (h.nobody id m.0 at) has))
+      (λ (h : IsHome entries count pending log s). absurd (both_ways m.0.taken t (h.nobody id m.0 at) has))
       (λ (o : IsOut s).
       let v : View = m.0 in
       let it : o.taken ≡ t = sym (o.served id v at t has).0 in (
         v,
         keeps,
         tt,
-        unmoved entries count pending s k 1 id m at,
+        unmoved entries count pending log s k 1 id m at,
         (
           record {
             taken = t;
@@ -219,6 +233,7 @@ module _ {T : Type 0} (entries : T → List Entry) (count : T → ℕ) (pending 
             settled = subst (λ (x : Taken). IsSettled v.pending v.faults x.count x.pending) it
                 (o.seen.settled id v at);
             places = k.places.within id v at;
+            rows = subst (λ (l : List Row). AreAmong v.rows l) (sym (o.served id v at t has).2) (o.seen.rows id v at);
           },
           refl,
         ),

@@ -1,20 +1,21 @@
 //! A disk in memory that never fails.
 ghost use Rattle.std.specs.Prelude.{◌≡◌, ◌≤◌, ◌+◌, ◌∷◌, [], true, length, take, drop};
 ghost use Rattle.farm_disk.specs.Answers.{rested, after_cut, after_sync, Writes, OnWriteFailed, OnWriteMemory};
-ghost use Rattle.farm_disk.specs.Images.{sync};
+ghost use Rattle.farm_disk.specs.Images.{moment, sync};
 ghost use Rattle.farm_disk.specs.Model.{IsSound};
 
+use super::call_log::CallLog;
 use super::overwrite::overwrite;
-use crate::{Call, Did, Disk, Size, Written};
+use crate::{Call, DatedDisk, Did, Disk, Size, Written};
+use past_moments::Passed;
 use std::marker::Model;
 use std::snapshot::Snapshot;
-use told_list::ToldList;
 
 /// A disk in memory that never fails. It tells everything.
 #[derive(Drop)]
 pub struct CalmDisk {
     bytes: Vec<u8>,
-    past: ToldList<Call>,
+    past: CallLog,
 }
 
 impl Model for CalmDisk {
@@ -36,7 +37,7 @@ impl CalmDisk {
     pub fn of(bytes: Vec<u8>) -> CalmDisk
         ensures { result ≡ record { bytes = bytes.items; steps = sync bytes.items ∷ [] } }
     {
-        let mut past = ToldList::new();
+        let mut past = CallLog::new();
         past.tell(&Call::Sync(Snapshot::of(&bytes)));
         CalmDisk { bytes, past }
     }
@@ -116,5 +117,15 @@ impl Disk for CalmDisk {
     {
         self.past.tell(&Call::Sync(Snapshot::of(&self.bytes)));
         Did::Did
+    }
+}
+
+impl DatedDisk for CalmDisk {
+    type Over = Passed;
+
+    ghost dated = { λ d. moment d };
+
+    fn passed(&self) -> Passed {
+        self.past.passed()
     }
 }

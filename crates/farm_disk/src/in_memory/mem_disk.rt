@@ -24,7 +24,7 @@ ghost use Rattle.std.specs.Prelude.{
   unwrap_or,
 };
 ghost use Rattle.fault_types.specs.Counts.{Rose};
-ghost use Rattle.farm_disk.specs.Images.{sync, write, overwritten, IsImage};
+ghost use Rattle.farm_disk.specs.Images.{moment, sync, write, overwritten, IsImage};
 ghost use Rattle.farm_disk.specs.DiskFault.{kept_next, plan_after};
 ghost use Rattle.farm_disk.specs.Certain.{certain};
 ghost use Rattle.farm_disk.specs.Model.{least, greatest, IsSound};
@@ -42,13 +42,14 @@ ghost use Rattle.farm_disk.specs.Answers.{
   OnWriteMemory,
 };
 
+use super::call_log::CallLog;
 use super::fault_plan::{DiskFail, FaultPlan};
 use super::overwrite::overwrite;
 use super::tracked::Tracked;
-use crate::{Call, Did, Disk, Memory, Size, Written};
+use crate::{Call, DatedDisk, Did, Disk, Memory, Size, Written};
+use past_moments::Passed;
 use std::marker::Model;
 use std::snapshot::Snapshot;
-use told_list::ToldList;
 
 /// A disk in memory that fails at the calls that it is told to. It tells everything.
 ///
@@ -57,7 +58,7 @@ use told_list::ToldList;
 #[derive(Drop)]
 pub struct MemDisk {
     bytes: Vec<u8>,
-    past: ToldList<Call>,
+    past: CallLog,
     plan: FaultPlan,
     tracked: Tracked,
 }
@@ -83,7 +84,7 @@ impl MemDisk {
           plan = record { fails = fails.items; calls = 0; faults = 0 };
         } }
     {
-        let mut past = ToldList::new();
+        let mut past = CallLog::new();
         past.tell(&Call::Sync(Snapshot::of(&bytes)));
         MemDisk {
             tracked: Tracked::synced(&bytes),
@@ -242,5 +243,15 @@ impl Disk for MemDisk {
         self.past.tell(&Call::Sync(Snapshot::of(&self.bytes)));
         self.tracked = Tracked::synced(&self.bytes);
         Did::Did
+    }
+}
+
+impl DatedDisk for MemDisk {
+    type Over = Passed;
+
+    ghost dated = { λ d. moment d.disk };
+
+    fn passed(&self) -> Passed {
+        self.past.passed()
     }
 }

@@ -4,6 +4,7 @@ ghost use Rattle.std.specs.Prelude.{
   ◌<◌,
   ◌↔◌,
   ◌++◌,
+  ◌∷◌,
   ◌==◌,
   [],
   Some,
@@ -20,30 +21,50 @@ ghost use Rattle.link_io.specs.Put.{IfPut, OnPutFailed};
 ghost use Rattle.link_io.specs.Pieces.{piece_room};
 ghost use Rattle.link_io.specs.MemLink.{unused_link, afresh};
 ghost use Rattle.link_io.specs.FaultPlan.{NextFails, plan_after_success, plan_after_fault};
+ghost use Rattle.past_moments.specs.Moments.{passed_at};
 
 use super::fault_plan::FaultPlan;
 use super::mem_input::MemInput;
 use crate::{Link, Put, Sink, Source, Took};
+use past_moments::Passed;
 use std::marker::Model;
+use std::snapshot::Snapshot;
+use told_list::ToldList;
+
+/// A note that was taken, for contracts alone: the number of the bytes put by then, and the moment that was over.
+#[derive(Drop)]
+pub struct Noted {
+    put: u64,
+    over: Snapshot<Passed>,
+}
 
 /// A link in memory: it gives bytes that were stated before, in pieces if they were, and keeps what is put to it. It
 /// tells all of that, and fails at the calls that are listed.
 ///
-/// Contracts see it as its input, the number of its takes, the bytes put, and the plan of the calls that are to fail.
+/// Contracts see it as its input, the number of its takes, the bytes put, the plan of the calls that are to fail, and
+/// the notes that it took.
 #[derive(Drop)]
 pub struct MemLink {
     input: MemInput,
     takes: u64,
     put: Vec<u8>,
     plan: FaultPlan,
+    notes: ToldList<Noted>,
 }
 
 impl Model for MemLink {
-    ghost use Rattle.link_io.specs.MemLink.{LinkInMemory};
+    ghost use Rattle.std.specs.Prelude.{map};
+    ghost use Rattle.link_io.specs.MemLink.{LinkInMemory, note_of};
 
     ghost Value = { LinkInMemory };
 
-    ghost view = { λ l. record { input = l.input; takes = l.takes; put = l.put.items; plan = l.plan } };
+    ghost view = { λ l. record {
+      input = l.input;
+      takes = l.takes;
+      put = l.put.items;
+      plan = l.plan;
+      notes = map note_of l.notes;
+    } };
 }
 
 impl MemLink {
@@ -67,6 +88,7 @@ impl MemLink {
             takes: 0,
             put,
             plan: FaultPlan::of(fails),
+            notes: ToldList::new(),
         }
     }
 
@@ -87,6 +109,7 @@ impl MemLink {
             takes: 0,
             put,
             plan: self.plan.afresh(),
+            notes: ToldList::new(),
         }
     }
 }
@@ -98,7 +121,7 @@ impl Source for MemLink {
 
     ghost ended = { λ l. l.input.ended };
 
-    ghost aside = { λ l. Some l.put };
+    ghost aside = { λ l. record { written = Some l.put; notes = Some l.notes } };
 
     ghost count = { λ l. l.plan.faults };
 
@@ -147,7 +170,12 @@ impl Sink for MemLink {
 
     ghost written = { λ l. Some l.put };
 
-    ghost aside = { λ l. record { left = Some l.input.left; taken = Some l.input.taken; ended = l.input.ended } };
+    ghost aside = { λ l. record {
+      left = Some l.input.left;
+      taken = Some l.input.taken;
+      ended = l.input.ended;
+      notes = Some l.notes;
+    } };
 
     ghost count = { λ l. l.plan.faults };
 
@@ -180,7 +208,20 @@ impl Sink for MemLink {
 }
 
 impl Link for MemLink {
+    type Over = Passed;
+
     fn note_idle(&mut self) {}
+
+    fn note_over(&mut self, over: &Passed)
+        ensures { self.new ≡ record self.old {
+          notes = record { put = length self.old.put; moment = passed_at over.now } ∷ self.old.notes;
+        } }
+    {
+        self.notes.tell(&Noted {
+            put: self.put.len() as u64,
+            over: Snapshot::of(over),
+        });
+    }
 
     ghost one_count = { λ _. refl };
 

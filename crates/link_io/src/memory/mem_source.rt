@@ -1,6 +1,7 @@
 //! A source in memory.
 ghost use Rattle.std.specs.Prelude.{◌≡◌, ◌<◌, ◌↔◌, ◌++◌, ◌==◌, [], None, Some, false, drop, take, length, min};
 ghost use Rattle.fault_types.specs.Counts.{Rose};
+ghost use Rattle.link_io.specs.Notes.{no_output};
 ghost use Rattle.link_io.specs.Took.{IfTook, OnTookFailed};
 ghost use Rattle.link_io.specs.Pieces.{piece_room};
 ghost use Rattle.link_io.specs.MemInput.{fresh_input};
@@ -58,7 +59,7 @@ impl Source for MemSource {
 
     ghost ended = { λ s. s.input.ended };
 
-    ghost aside = { λ _. None };
+    ghost aside = { λ _. no_output };
 
     ghost count = { λ s. s.plan.faults };
 

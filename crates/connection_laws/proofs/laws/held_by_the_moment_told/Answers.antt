@@ -15,4 +15,5 @@ pub returns : goal.returns
 returns g c start final taken put over whole h =
     held-more (GivenBy g.C.Clock c.args.clock.now g.D.Disk.count)
     (given_by (IsTold (g.C.Clock.told c.args.clock.now)) (MayCount g.D.Disk.count))
-    (given-told g.C.Clock c.args.clock.now g.D.Disk.count) (progress_at start) final taken put over whole h
+    (given-told g.C.Clock c.args.clock.now g.D.Disk.count) (progress_at start) final g.S.Said.said taken put over
+    whole h

@@ -7,5 +7,5 @@ use Rattle.connection_laws.proofs.laws.held_from_earlier_marks.Goals as goal
 pub returns : goal.returns
 returns g c start final seen totals faults taken put over whole a b le h =
     held-earlier (progress_at start) (progress_from seen totals faults) final
-    (GivenBy g.C.Clock c.args.clock.now g.D.Disk.count) taken put over whole
+    (GivenBy g.C.Clock c.args.clock.now g.D.Disk.count) g.S.Said.said taken put over whole
     (record { seen = a; totals = b; faults = le; left = le_refl 0 }) h

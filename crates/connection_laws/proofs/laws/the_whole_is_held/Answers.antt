@@ -6,9 +6,9 @@ use Rattle.connection_laws.proofs.laws.the_whole_is_held.Goals as goal
 
 pub returns : goal.returns
 returns g c = record {
-  whole = λ start final taken put over items more steps rest end s i q read w.
-      so_far-whole start final (GivenBy g.C.Clock c.args.clock.now g.D.Disk.count) taken put over items more steps rest
-      end s i q read w;
+  whole = λ start final taken put over items more steps rest end s i q read w told.
+      so_far-whole start final (GivenBy g.C.Clock c.args.clock.now g.D.Disk.count) g.S.Said.said taken put over
+      items more steps rest end s i q read w told;
   shut = λ taken items item o shut settled. record {
     closes = refl;
     stays = opens-shut taken items item o shut settled;

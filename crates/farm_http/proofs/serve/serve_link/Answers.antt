@@ -5,7 +5,8 @@ use Rattle.connection_laws.specs.declared.served.Why.{Why}
 use Rattle.http_requests.specs.Items.{Items}
 use Rattle.farm_http.specs.Connection.{GoesOn, work_left}
 use Rattle.link_io.specs.Links.{link_state}
-use Rattle.farm_http.proofs.Serving.{front-start, serves-further, serving-start}
+use Rattle.farm_http.proofs.Endings.{serves-further}
+use Rattle.farm_http.proofs.Serving.{front-start, serving-start}
 use Rattle.farm_http.proofs.serve.serve_link.Goals as goal
 
 pub loop-ended-init : goal.loop-ended-init
@@ -35,7 +36,7 @@ returns-in-Err-clause-follows g c =
     let start = progress_from caller.pass.seen caller.reader caller.pass.faults in
     let before = link_state g.L.Source g.L.Sink c.args.link.now in
     let e = c.every_input_has_items.ensures in
-    let f = serves-further (Err c.in-Err.fault) _ _ _ _ _ _ _ _
+    let f = serves-further (Err c.in-Err.fault) _ _ _ _ _ _ _ _ _
     (c.in-Err.ensures.goes_on start caller before c.loop-ended.invariant.serving c.requires.legal e.0 e.1
     (subst (λ (l : List ℕ). Items l e.0 e.1) c.held.ensures e.2)) in
     record { longer = f.within.seen; more = f.within.faults }
@@ -46,7 +47,7 @@ returns-in-Err-clause-read g c =
     let start = progress_from caller.pass.seen caller.reader caller.pass.faults in
     let before = link_state g.L.Source g.L.Sink c.args.link.now in
     let e = c.every_input_has_items.ensures in
-    let f = serves-further (Err c.in-Err.fault) _ _ _ _ _ _ _ _
+    let f = serves-further (Err c.in-Err.fault) _ _ _ _ _ _ _ _ _
     (c.in-Err.ensures.goes_on start caller before c.loop-ended.invariant.serving c.requires.legal e.0 e.1
     (subst (λ (l : List ℕ). Items l e.0 e.1) c.held.ensures e.2)) in
     f.counted
@@ -67,7 +68,7 @@ returns-in-Some-clause-follows g c =
     let caller = c.args.caller.now in
     let start = progress_from caller.pass.seen caller.reader caller.pass.faults in
     let before = link_state g.L.Source g.L.Sink c.args.link.now in
-    let f = serves-further (Ok _) _ _ _ _ _ _ _ _
+    let f = serves-further (Ok _) _ _ _ _ _ _ _ _ _
     (subst (λ (o : Option Why). GoesOn start (GivenBy g.C.Clock c.args.service.now.clock.now g.D.Disk.count) caller
     before (work_left c.loop-ended.connection.received) (Ok o) c.serve_next.new.caller
     (link_state g.L.Source g.L.Sink c.serve_next.new.link) c.serve_next.new.self.received
@@ -80,7 +81,7 @@ returns-in-Some-clause-read g c =
     let caller = c.args.caller.now in
     let start = progress_from caller.pass.seen caller.reader caller.pass.faults in
     let before = link_state g.L.Source g.L.Sink c.args.link.now in
-    let f = serves-further (Ok _) _ _ _ _ _ _ _ _
+    let f = serves-further (Ok _) _ _ _ _ _ _ _ _ _
     (subst (λ (o : Option Why). GoesOn start (GivenBy g.C.Clock c.args.service.now.clock.now g.D.Disk.count) caller
     before (work_left c.loop-ended.connection.received) (Ok o) c.serve_next.new.caller
     (link_state g.L.Source g.L.Sink c.serve_next.new.link) c.serve_next.new.self.received

@@ -1,5 +1,5 @@
 use Rattle.std.proofs.Common.{◌≡◌, ◌≤◌, []}
-use Rattle.connection_laws.specs.Moments.{Given, GivenBy}
+use Rattle.connection_laws.specs.Moments.{GivenBy}
 use Rattle.connection_laws.specs.Progress.{progress_from}
 use Rattle.farm_entry.specs.Legal.{IsLegal}
 use Rattle.farm_http.specs.Connection.{IsServing, work_left}

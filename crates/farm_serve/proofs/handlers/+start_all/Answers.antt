@@ -51,9 +51,12 @@ handed A B C D E F a b c d e f =
 global : IsSend Global.the_row
 global = search (sendable, crosses) depth 20
 
--- what the bounds say
+-- what the bounds say, of the disk's moments by the bound of their trait
 disk-send : (g : _) (t : _) (c : goal.After-split_off-mine g t) → IsSend (param 1 g.row.D)
 disk-send g t c = search
+
+over-send : (g : _) (t : _) (c : goal.After-split_off-mine g t) → IsSend (param 7 g.row.D-Over)
+over-send g t c = search
 
 beginning-send : (g : _) (t : _) (c : goal.After-split_off-mine g t) → IsSend (param 2 g.row.B)
 beginning-send g t c = search
@@ -68,21 +71,29 @@ runtime-sync : (g : _) (t : _) (c : goal.After-split_off-mine g t) → IsSync (p
 runtime-sync g t c = search
 
 -- the farm may be lent to several threads
-farm-sync : (g : _) (t : _) (c : goal.After-split_off-mine g t) → IsSync (SharedFarm.the_row (param 1 g.row.D) (param 2 g.row.B) g.D.Disk g.B.Beginning)
+farm-sync : (g : _) (t : _) (c : goal.After-split_off-mine g t)
+    → IsSync (SharedFarm.the_row (param 1 g.row.D) (param 2 g.row.B) (param 7 g.row.D-Over)
+    g.D.DatedDisk g.D.Disk g.D.Over.Past
+    g.B.Beginning)
 farm-sync g t c =
-    shared_farm-sync (param 1 g.row.D) (param 2 g.row.B) g.D.Disk g.B.Beginning (disk-send g t c) (beginning-send g t c)
+    shared_farm-sync (param 1 g.row.D) (param 2 g.row.B) (param 7 g.row.D-Over) g.D.DatedDisk g.D.Disk g.D.Over.Past
+    g.B.Beginning (disk-send g t c) (beginning-send g t c) (over-send g t c)
 
 -- and so may the lock round the network
 lock-sync : (g : _) (t : _) (c : goal.After-split_off-mine g t)
-    → IsSync (Mutex.the_row (Gate.the_row (param 3 g.row.N) (param 5 g.row.J) (param 7 g.row.N-End) g.N.Network g.N.End.Source
-    g.N.End.Sink g.J.Naming g.J.Ledger))
+    → IsSync (Mutex.the_row (Gate.the_row (param 3 g.row.N) (param 5 g.row.J) (param 7 g.row.D-Over)
+    (param 8 g.row.N-End)
+    g.N.Network g.D.Over.Past g.N.End.Source g.N.End.Sink g.J.Naming g.J.Ledger))
 lock-sync g t c =
-    let held = GateCrosses.the_send (param 3 g.row.N) (param 5 g.row.J) (param 7 g.row.N-End) g.N.Network g.N.End.Source
-    g.N.End.Sink g.J.Naming g.J.Ledger (network-send g t c) in
+    let held = GateCrosses.the_send (param 3 g.row.N) (param 5 g.row.J) (param 7 g.row.D-Over)
+    (param 8 g.row.N-End) g.N.Network
+    g.D.Over.Past g.N.End.Source g.N.End.Sink g.J.Naming g.J.Ledger (network-send g t c) in
     search crosses depth 4
 
 pub spawn_with-requires-send-F : goal.spawn_with-requires-send-F
 spawn_with-requires-send-F g t c κs within =
     handed _ _ _ _ _ _ (shr_send (named 6) κs.1.1.1.1.1.1.0 _ (runtime-sync g t c)) global
-    (shr_send (named 7) κs.1.1.1.1.1.1.1.0 _ (lock-sync g t c)) (shr_send (named 8) κs.1.1.1.1.1.1.1.1.0 _ (farm-sync g t c))
-    (shr_send (named 9) κs.1.1.1.1.1.1.1.1.1.0 _ (clock-sync g t c)) (ShareCrosses.the_send (param 5 g.row.J) g.J.Ledger)
+    (shr_send (named 7) κs.1.1.1.1.1.1.1.0 _ (lock-sync g t c))
+    (shr_send (named 8) κs.1.1.1.1.1.1.1.1.0 _ (farm-sync g t c))
+    (shr_send (named 9) κs.1.1.1.1.1.1.1.1.1.0 _ (clock-sync g t c))
+    (ShareCrosses.the_send (param 5 g.row.J) g.J.Ledger)

@@ -10,6 +10,7 @@ returns-clause-served g c =
     (λ _ fresh. served_link c.serve_link-served.result g.J.Naming.entry.start _ c.args.caller.now.pass.seen
     c.args.caller.now.reader _
     c.args.caller.now.pass.faults (MayGive g.C.Clock c.args.service.now.clock.now) g.J.Naming.gives
-    (MayCount g.D.Disk.count) _ _ _ c.args.caller.now.pass.mine _ c.requires.gives
+    (MayCount g.D.Disk.count) c.serve_link-served.new.caller.pass.rows _ _ _ c.args.caller.now.pass.mine _
+    c.requires.gives
     c.requires.pass.begins.longer c.requires.pass.begins.more c.requires.reader.begins c.requires.fresh.unfailed
     c.finish.ensures e.cause e.serves fresh) c.requires.fresh.idle

@@ -14,7 +14,8 @@ returns-in-Ok-clause-ends g c =
     let served = c.serve_store-store in
     opened-ends g.D.Disk (MayGive g.C.Clock c.args.clock.now) c.args.links c.args.disk c.into_disk.result
     c.faults-before.result c.in-Ok.store served.result.0 served.result.2 c.end-ending.result _ _
-    (output_seen g.K.Sink c.args.output.now) (output_seen g.K.Sink c.end-ending.new.output) c.faults-before.ensures (record {
+    (output_seen g.K.Sink c.args.output.now) (output_seen g.K.Sink c.end-ending.new.output) c.faults-before.ensures
+    (record {
       none = opened.decided;
       same = opened.same;
       held = opened.answers;
@@ -22,7 +23,8 @@ returns-in-Ok-clause-ends g c =
       stored = opened.stored;
       only = opened.only;
       never_falls = opened.never_falls;
-    }) served.ensures.comes served.ensures.came c.end-ending.ensures.says c.end-ending.ensures.legal c.into_disk.ensures.disk
+    }) served.ensures.comes served.ensures.came c.end-ending.ensures.says c.end-ending.ensures.legal
+    c.into_disk.ensures.disk
     c.into_disk.ensures.stored
 
 pub returns-in-Ok-clause-completes : goal.returns-in-Ok-clause-completes

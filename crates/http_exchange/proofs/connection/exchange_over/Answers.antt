@@ -14,7 +14,8 @@ returns-clause-told g c =
       record { taken = asked.1; put = asked.0; ended = g.N.End.Source.ended now; count = count },
       c.done.ensures.told
           ∙ over-told (g.N.Network.told c.args.network.now) (link_state g.N.End.Source g.N.End.Sink c.args.link)
-          (link_state g.N.End.Source g.N.End.Sink now) asked.0 asked.1 c.requires.fresh asked.2 asked.3,
+          (link_state g.N.End.Source g.N.End.Sink now) asked.0 asked.1 c.requires.fresh asked.2 asked.3
+          c.ask-answer.ensures.notes,
       answered-by c.args.request.now asked.0 asked.1 (g.N.End.Source.ended now) count c.ask-answer.result c.outcome.result asked.4
           is (λ failed. subst (λ (n : ℕ). Rose n count) c.requires.unfailed (c.ask-answer.ensures.rises failed)),
     )
@@ -29,6 +30,7 @@ returns-clause-enough g c =
       record { taken = came.1; put = came.0; ended = g.N.End.Source.ended now; count = count },
       c.done.ensures.told
           ∙ over-told (g.N.Network.told c.args.network.now) (link_state g.N.End.Source g.N.End.Sink c.args.link)
-          (link_state g.N.End.Source g.N.End.Sink now) came.0 came.1 c.requires.fresh came.2 came.3,
+          (link_state g.N.End.Source g.N.End.Sink now) came.0 came.1 c.requires.fresh came.2 came.3
+          c.ask-answer.ensures.notes,
       came.4,
     )))

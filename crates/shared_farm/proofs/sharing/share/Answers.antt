@@ -1,18 +1,24 @@
 -- The turn of the one who asked for all, by the lemmas of `Members` and `Handing`.
-use Rattle.std.proofs.Common.{◌≡◌, ◌∷◌, ◌∙◌, ◌≤◌, ◌<◌, ◌-◌, ◌++◌, [], List, ℕ, Ok, Err, Vec, Global, length, take, drop, get_or, map, ap, refl, sym, subst, arith}
+use Rattle.std.proofs.Common.{◌≡◌, ◌∷◌, ◌∙◌, ◌≤◌, ◌<◌, ◌-◌, ◌++◌, [], List, ℕ, Ok, Err, Vec, Global, length, take, drop, get_or, le_refl, map, ap, refl, sym, subst, arith}
 use Rattle.farm_entry.specs.declared.entry.Entry.{Entry}
 use Rattle.farm_store.specs.Answering.{BatchSays}
 use Rattle.farm_store.specs.Together.{all_asks}
 use Rattle.farm_store.specs.declared.asking.Ask.{Ask}
 use Rattle.farm_store.specs.declared.asking.Part.{Part}
+use Rattle.past_moments.proofs.Rows.{IsOlder-trans}
+use Rattle.past_moments.specs.Rows.{IsOlder}
+use Rattle.past_moments.specs.declared.row.Row.{Row}
+use Rattle.turn_lock.specs.Known.{Known}
+use Rattle.list_prefix.proofs.Prefixes.{IsPrefix-length}
 use Rattle.shared_farm.specs.Errands.{errands_asks}
+use Rattle.shared_farm.specs.Logs.{IsOver}
 use Rattle.shared_farm.specs.Outcomes.{HadTurn}
 use Rattle.shared_farm.specs.Rounds.{first_asks}
 use Rattle.shared_farm.specs.declared.errand.Errand.{Errand}
 use Rattle.shared_farm.specs.declared.sharing.TheConstants.{MOST_PARTS}
 use Rattle.shared_farm.proofs.Handing.{AreErrands, all-first, first-rest, first-same, helped-errands, helped-same, length-same, lent-back, rest-same}
-use Rattle.shared_farm.proofs.Members.{AreStored, IsOnward, failed-had, given-stored, shared-on, stored-had, stored-onward}
-use Rattle.shared_farm.proofs.Turning.{IsTaken, taken-found}
+use Rattle.shared_farm.proofs.Members.{AreStored, IsOnward, failed-had, given-stored, shared-on, stored-had, stored-onward, take-begins}
+use Rattle.shared_farm.proofs.Turning.{IsTaken, over-after, taken-found}
 use Rattle.shared_farm.proofs.sharing.share.Goals.{After-remove-asks, After-run-turn, In-Ok}
 use Rattle.shared_farm.proofs.sharing.share.Goals as goal
 
@@ -64,40 +70,40 @@ parted g c =
 
 -- the store that answers is the one that the turn took
 taken : (g : _) (c : After-remove-asks g)
-    → IsTaken g.D.Disk.count c.args.turn.before.pass c.args.turn.before c.deref_mut.result.now
+    → IsTaken g.D.Disk.count c.args.turn.before.pass c.args.turn.before c.deref_mut.result.now.store
 taken g c =
     let first = c.requires.begins in
-    taken-found g.D.Disk.count c.args.turn.before.pass c.args.turn.before c.args.turn.value.value
-    c.deref_mut.result.now c.deref_mut.ensures.value first.took first.settled first.seen first.faults
+    taken-found g.D.Disk.count c.args.turn.before.pass c.args.turn.before c.args.turn.value.value.store
+    c.deref_mut.result.now.store (ap (λ l. l.store) c.deref_mut.ensures.value) first.took first.settled first.seen first.faults
 
 -- the record was stored: the asks of the first part begin where the turn's own places do
 stored : (g : _) (c : In-Ok g)
     → IsParted c.args.parts.items c.call_together-result.new.parts c.remove-asks.result c.remove-asks.new.self.items
-    → AreStored g.D.Disk.count c.deref_mut.result.now c.call_together-result.new.self
+    → AreStored g.D.Disk.count c.deref_mut.result.now.store c.call_together-result.new.self.store
     (length c.history.result.now - c.recorded.result) (c.remove-asks.result ∷ c.remove-asks.new.self.items)
 stored g c is =
     let gave = c.call_together-result in
-    let store = gave.new.self in
+    let store = gave.new.self.store in
     let count = g.D.Disk.count in
-    let old = c.deref_mut.result.now in
+    let old = c.deref_mut.result.now.store in
     let start = length c.history.result.now - c.recorded.result in
     let start_is : start ≡ length store.history - store.recorded =
     ap (λ (n : ℕ). n - c.recorded.result)
-    (ap (λ (l : List Entry). length l) (c.history.ensures.value ∙ ap (λ l. l.history) c.deref.ensures))
-    ∙ ap (λ (n : ℕ). length store.history - n) (c.recorded.ensures ∙ ap (λ l. l.recorded) c.deref-2.ensures) in
+    (ap (λ (l : List Entry). length l) (c.history.ensures.value ∙ ap (λ l. l.store.history) c.deref.ensures))
+    ∙ ap (λ (n : ℕ). length store.history - n) (c.recorded.ensures ∙ ap (λ l. l.store.recorded) c.deref-2.ensures) in
     subst (λ (l : List Part). AreStored count old store start l) is.whole
     (given-stored count old store c.deref_mut-2.result.now gave.new.parts start c.in-Ok.ensures.says start_is
     gave.ensures.goes_on)
 
 -- and the turn may go on behind the first part
-onward : (g : _) (c : After-run-turn g) → AreStored g.D.Disk.count c.deref_mut.result.now
-    c.call_together-result.new.self (length c.history.result.now - c.recorded.result)
+onward : (g : _) (c : After-run-turn g) → AreStored g.D.Disk.count c.deref_mut.result.now.store
+    c.call_together-result.new.self.store (length c.history.result.now - c.recorded.result)
     (c.remove-asks.result ∷ c.remove-asks.new.self.items)
-    → IsTaken g.D.Disk.count c.args.turn.before.pass c.args.turn.before c.deref_mut.result.now
-    → IsOnward g.D.Disk.count c.call_together-result.new.self c.remove-asks.result c.remove-asks.new.self.items
+    → IsTaken g.D.Disk.count c.args.turn.before.pass c.args.turn.before c.deref_mut.result.now.store
+    → IsOnward g.D.Disk.count c.call_together-result.new.self.store c.remove-asks.result c.remove-asks.new.self.items
     c.args.turn.before.taken c.run-turn.result
 onward g c all took =
-    stored-onward g.D.Disk.count c.deref_mut.result.now c.call_together-result.new.self
+    stored-onward g.D.Disk.count c.deref_mut.result.now.store c.call_together-result.new.self.store
     (length c.history.result.now - c.recorded.result) c.remove-asks.result c.remove-asks.new.self.items
     c.args.turn.before.taken c.run-turn.result all took.took c.run-turn.ensures
 
@@ -105,35 +111,35 @@ pub overflow_sub-end : goal.overflow_sub-end
 overflow_sub-end g c =
     let at = goal.at.overflow_sub-end g c in
     let start = length c.history.result.now - c.recorded.result in
-    (shared-on c.call_together-result.new.self start c.remove-asks.result
+    (shared-on c.call_together-result.new.self.store start c.remove-asks.result
     c.remove-asks.new.self.items (stored g at.In-Ok (parted g at.After-remove-asks)).shared).1
 
 pub share_out-requires-clause-grown : goal.share_out-requires-clause-grown
-share_out-requires-clause-grown g c =
+share_out-requires-clause-grown g c κs within =
     let at = goal.at.share_out-requires-clause-grown g c in
     let b = at.After-remove-asks in
     (onward g at.After-run-turn (stored g at.In-Ok (parted g b)) (taken g b)).grown
 
 pub share_out-requires-clause-places : goal.share_out-requires-clause-places
-share_out-requires-clause-places g c =
+share_out-requires-clause-places g c κs within =
     let at = goal.at.share_out-requires-clause-places g c in
     let b = at.After-remove-asks in
     (onward g at.After-run-turn (stored g at.In-Ok (parted g b)) (taken g b)).places
 
 pub share_out-requires-clause-shared : goal.share_out-requires-clause-shared
-share_out-requires-clause-shared g c =
+share_out-requires-clause-shared g c κs within =
     let at = goal.at.share_out-requires-clause-shared g c in
     let b = at.After-remove-asks in
     (onward g at.After-run-turn (stored g at.In-Ok (parted g b)) (taken g b)).shared
 
 pub share_out-requires-clause-helped : goal.share_out-requires-clause-helped
-share_out-requires-clause-helped g c =
+share_out-requires-clause-helped g c κs within =
     helped-same c.args.lock.now c.args.errands.now (drop 1 c.args.parts.items) c.remove-asks.new.self.items
     c.args.group.items (parted g (goal.at.share_out-requires-clause-helped g c).After-remove-asks).others
     c.requires.helped
 
 pub ask_each-requires-clause-helped : goal.ask_each-requires-clause-helped
-ask_each-requires-clause-helped g c =
+ask_each-requires-clause-helped g c κs within =
     helped-same c.args.lock.now c.args.errands.now (drop 1 c.args.parts.items) c.remove-asks.new.self.items
     c.args.group.items (parted g (goal.at.ask_each-requires-clause-helped g c).After-remove-asks).others
     c.requires.helped
@@ -147,21 +153,21 @@ returns-in-Ok-clause-had g c =
     let known = c.args.turn.before.pass in
     let start = length c.history.result.now - c.recorded.result in
     subst (λ (l : List Ask). HadTurn count c.args.lock.now l (Ok part.answers) known c.share_out.new.pass) is.first
-    (stored-had count c.deref_mut.result.now c.call_together-result.new.self start part c.remove-asks.new.self.items
+    (stored-had count c.deref_mut.result.now.store c.call_together-result.new.self.store start part c.remove-asks.new.self.items
     known c.share_out.new.pass c.args.turn.before c.run-turn.result c.args.lock.now (stored g at.In-Ok is) refl
-    (taken g at.After-remove-asks) c.requires.begins.places c.run-turn.ensures c.share_out.ensures.pass)
+    (taken g at.After-remove-asks) c.requires.begins.places c.run-turn.ensures c.call_together-result.new.self.log c.share_out.ensures.pass)
 
 pub returns-clause-had : goal.returns-clause-had
 returns-clause-had g c =
     let parts = c.args.parts.items in
     let gave = c.call_together-result in
-    let old = c.deref_mut.result.now in
-    let store = gave.new.self in
+    let old = c.deref_mut.result.now.store in
+    let store = gave.new.self.store in
     let f = c.in-Err.fault in
     let lock = c.args.lock.now in
     let later = drop 1 parts in
     let jobs = map (λ h. h.taken.job) c.args.group.items in
-    let errands : AreErrands lock c.args.errands.now later jobs =
+    let errands : AreErrands lock later jobs =
     helped-errands lock c.args.errands.now later c.args.group.items c.requires.helped in
     let says : BatchSays (first_asks parts ++ errands_asks jobs) (Err f) old store =
     subst (λ (l : List Ask). BatchSays l (Err f) old store)
@@ -171,4 +177,47 @@ returns-clause-had g c =
     c.args.turn.before c.args.turn.own lock c.requires.own errands.each
     (few_others parts jobs errands.count c.requires.some c.requires.few) says c.in-Err.ensures.cause
     gave.ensures.goes_on refl (taken g (goal.at.returns-clause-had g c).After-remove-asks) c.requires.begins.places
-    c.requires.nothing c.ask_each.ensures.pass
+    c.requires.nothing gave.new.self.log c.ask_each.ensures.pass
+
+-- the turn's log only got newer rows
+told : (g : _) (c : After-remove-asks g) → IsOlder c.args.turn.before.log c.call_together-result.new.self.log
+told g c =
+    let gave = c.call_together-result in
+    let older : IsOlder c.args.turn.value.value.log gave.new.self.log =
+    subst (λ (l : List Row). IsOlder l gave.new.self.log) (ap (λ l. l.log) c.deref_mut.ensures.value) gave.ensures.told in
+    IsOlder-trans c.args.turn.before.log c.args.turn.value.value.log gave.new.self.log c.requires.logged older
+
+pub share_out-requires-clause-logged : goal.share_out-requires-clause-logged
+share_out-requires-clause-logged g c κs within =
+    told g (goal.at.share_out-requires-clause-logged g c).After-remove-asks
+
+pub ask_each-requires-clause-logged : goal.ask_each-requires-clause-logged
+ask_each-requires-clause-logged g c κs within =
+    told g (goal.at.ask_each-requires-clause-logged g c).After-remove-asks
+
+-- the moment that was asked for behind the record is that of the newest row, which has all entries
+over : (g : _) (c : After-remove-asks g) (new : Known)
+    → new.rows ≡ take 1 c.call_together-result.new.self.log ++ c.args.turn.before.pass.rows
+    → length new.seen ≤ length c.call_together-result.new.self.store.history
+    → IsOver (g.D.Over.Past.at c.passed-over.result) new
+over g c new rows holds =
+    let asked = c.passed-over in
+    over-after g.D.DatedDisk.dated (g.D.Over.Past.at asked.result) new c.call_together-result.new.self c.deref-4.result.now
+    c.args.turn.before.pass.rows c.deref-4.ensures asked.ensures.newest asked.ensures.over rows holds
+
+pub returns-in-Ok-clause-over : goal.returns-in-Ok-clause-over
+returns-in-Ok-clause-over g c =
+    let H = c.call_together-result.new.self.store.history in
+    let part = c.remove-asks.result in
+    over g (goal.at.returns-in-Ok-clause-over g c).After-remove-asks c.share_out.new.pass
+    (ap (λ (k : Known). k.rows) c.share_out.ensures.pass)
+    (subst (λ (l : List Entry). length l ≤ length H) (sym (ap (λ (k : Known). k.seen) c.share_out.ensures.pass))
+    (IsPrefix-length (take part.end H) H (take-begins part.end H)))
+
+pub returns-clause-over : goal.returns-clause-over
+returns-clause-over g c =
+    over g (goal.at.returns-clause-over g c).After-remove-asks c.ask_each.new.pass
+    (ap (λ (k : Known). k.rows) c.ask_each.ensures.pass)
+    (subst (λ (l : List Entry). length l ≤ length c.call_together-result.new.self.store.history)
+    (sym (ap (λ (k : Known). k.seen) c.ask_each.ensures.pass))
+    (le_refl (length c.call_together-result.new.self.store.history)))

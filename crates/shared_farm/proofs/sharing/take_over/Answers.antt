@@ -34,7 +34,7 @@ loop-preserved g c =
     omega (arith, c.if-bytes-gt-MAX_RECORD_BYTES.false, own, most) in
     let pushed = c.push_reserved.ensures in
     let joined = c.push_reserved-in-loop.ensures in
-    let helped : Helped _ = record { taken = c.in-Some.taken; pass = errand.pass } in
+    let helped : Helped _ _ = record { taken = c.in-Some.taken; pass = errand.pass } in
     let one : IsHelped c.args.errands.now.key c.args.errands.now part helped = record {
       table = ap (λ (t : JobOf _ _). t.table) at;
       errand = subst (λ t. IsErrand c.args.errands.now.key t) (sym (ap (λ (t : JobOf _ _). t.job) at)) may;

@@ -6,5 +6,5 @@ use Rattle.farm_http.proofs.batch.Batch.ask.Goals as goal
 
 pub returns-clause-turn : goal.returns-clause-turn
 returns-clause-turn g c =
-    subst (λ (l : List Ask). IsTurn g.D.Disk.count l c.call_batch.result c.args.pass.now c.call_batch.new.pass)
+    subst (λ (l : List Ask). IsTurn g.D.Disk.count l c.call_batch.result.0 c.args.pass.now c.call_batch.new.pass)
     (ap (λ (b : BatchState). b.asks) c.self.view_is) c.call_batch.ensures.turn

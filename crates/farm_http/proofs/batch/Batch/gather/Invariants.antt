@@ -1,5 +1,5 @@
 use Rattle.std.proofs.Common.{length, ◌-◌}
-use Rattle.connection_laws.specs.Moments.{Given, GivenBy}
+use Rattle.connection_laws.specs.Moments.{GivenBy}
 use Rattle.farm_store.specs.declared.asking.TheConstants.{MAX_BATCH}
 use Rattle.farm_http.specs.Batches.{IsBatch}
 use Rattle.farm_http.proofs.batch.Batch.gather.Given as goal

@@ -1,6 +1,7 @@
 use Rattle.std.proofs.Common.{ℕ, ◌≡◌, ◌∙◌, refl, Bool, List, length, Result, Ok, Err, ap, sym, subst}
 use Rattle.std.proofs.lemmas.Result.{err_from_is_err_and}
 use Rattle.std.specs.Prelude.{slice_range}
+use Rattle.past_moments.proofs.Rows.{AreAmong-refl}
 use Rattle.connection_laws.specs.Answers.{Response}
 use Rattle.connection_laws.specs.Kinds.{commands, kind_by}
 use Rattle.connection_laws.specs.Moments.{GivenBy}
@@ -13,6 +14,7 @@ use Rattle.http_words.specs.declared.endpoint.Endpoint.{Endpoint}
 use Rattle.http_words.specs.declared.fault.Fault.{Fault}
 use Rattle.farm_http.specs.Batches.{BatchState, IsBatch, all_answered}
 use Rattle.farm_http.specs.Bytes.{PutSays, request_bytes}
+use Rattle.farm_http.specs.Fronts.{halves}
 use Rattle.farm_http.specs.Received.{is_complete}
 use Rattle.farm_http.specs.declared.front.Answered.{Answered}
 use Rattle.farm_http.proofs.BatchSteps.{batch-put_err, batch-put_ok, batch-says}
@@ -29,7 +31,8 @@ returns-in_err-answer_misread-in-Err-clause-says g c = λ prog w.
     let before = g.L.Sink.written c.args.link.now in
     let last = g.L.Sink.written c.answer_misread.new.link in
     unasked-says (GivenBy g.C.Clock c.args.service.now.clock.now g.D.Disk.count) prog (is_complete r) r.held r.interim
-    before last c.args.pass.now first c.requires.next c.requires.interim w c.args.route c.in-Err.fault c.requires.asks
+    (halves g.L.Sink c.args.link.now c.answer_misread.new.link) c.args.pass.now first c.requires.next
+    c.requires.interim w c.args.route c.in-Err.fault c.requires.asks
     (λ ne. subst (λ (l : List ℕ). body_reading c.args.route (slice_range l first.body first.size) ≡ Err c.in-Err.fault)
     c.held-held.ensures (c.in-Err.ensures.refused ne)) c.from_residual.result
     (no-answer (one_answered first) c.from_residual.result p.0 p.1)
@@ -42,8 +45,8 @@ returns-in-Err-clause-says g c = λ prog w.
     let r = c.args.received.now in
     let put = c.in_ok-answer_misread-in-Err.ensures in
     unasked-says (GivenBy g.C.Clock c.args.service.now.clock.now g.D.Disk.count) prog (is_complete r) r.held r.interim
-    (g.L.Sink.written c.args.link.now)
-    (g.L.Sink.written c.answer_misread.new.link) c.args.pass.now first c.requires.next c.requires.interim w c.args.route
+    (halves g.L.Sink c.args.link.now c.answer_misread.new.link) c.args.pass.now first c.requires.next
+    c.requires.interim w c.args.route
     c.in-Err.fault c.requires.asks
     (λ ne. subst (λ (l : List ℕ). body_reading c.args.route (slice_range l first.body first.size) ≡ Err c.in-Err.fault)
     c.held-held.ensures (c.in-Err.ensures.refused ne)) (Ok c.one.result)
@@ -60,7 +63,8 @@ returns-in_err-put_response-clause-says g c = λ prog w.
     let before = g.L.Sink.written c.args.link.now in
     let last = g.L.Sink.written c.put_response.new.link in
     unread-says (GivenBy g.C.Clock c.args.service.now.clock.now g.D.Disk.count) prog (is_complete r) r.held r.interim
-    before last c.args.pass.now first c.requires.next c.requires.interim w c.args.route c.requires.asks result
+    (halves g.L.Sink c.args.link.now c.put_response.new.link) c.args.pass.now first c.requires.next c.requires.interim w
+    c.args.route c.requires.asks result
     (no-answer (one_answered first) result p.0 p.1)
     (subst (λ (x : Response). PutSays (request_bytes first x) before last result) c.no_memory.ensures
     (put-as_err _ before last result p.0 p.1 c.in_err-put_response.ensures.says))
@@ -73,14 +77,15 @@ returns-then-not-begin-clause-says g c = λ prog w.
     let last = g.L.Sink.written c.put_response.new.link in
     let one = c.one-then-not-begin in
     unread-says (GivenBy g.C.Clock c.args.service.now.clock.now g.D.Disk.count) prog (is_complete r) r.held r.interim
-    before last c.args.pass.now first c.requires.next c.requires.interim w c.args.route c.requires.asks (Ok one.result)
+    (halves g.L.Sink c.args.link.now c.put_response.new.link) c.args.pass.now first c.requires.next c.requires.interim w
+    c.args.route c.requires.asks (Ok one.result)
     (ok-answer (one_answered first) one.result (answered-one one.result first one.ensures.requests one.ensures.size
     one.ensures.closes))
     (subst (λ (x : Response). PutSays (request_bytes first x) before last (Ok one.result)) c.no_memory.ensures
     c.in_ok-put_response.ensures.says)
 
 pub gather-requires : goal.gather-requires
-gather-requires g c =
+gather-requires g c κs within =
     let first = c.args.first.now in
     let r = c.args.received.now in
     let gives = GivenBy g.C.Clock c.args.service.now.clock.now g.D.Disk.count in
@@ -100,7 +105,7 @@ gather-requires g c =
     (subst (λ (l : List ℕ). IsBatch gives (is_complete r) l c.begin.new.self) (sym c.held-held.ensures) whole)
 
 pub answer_batch-requires-clause-some : goal.answer_batch-requires-clause-some
-answer_batch-requires-clause-some g c = batch-some _ _ _ c.gather.new.self c.gather.ensures
+answer_batch-requires-clause-some g c κs within = batch-some _ _ _ c.gather.new.self c.gather.ensures
 
 pub returns-in_err-answer_batch-clause-says : goal.returns-in_err-answer_batch-clause-says
 returns-in_err-answer_batch-clause-says g c = λ prog w.
@@ -112,9 +117,9 @@ returns-in_err-answer_batch-clause-says g c = λ prog w.
     let is = subst (λ (l : List ℕ). IsBatch gives (is_complete r) l b) c.held-held.ensures
     (subst (λ (x : Bool). IsBatch gives x c.held-held.result.now b) c.is_complete.ensures c.gather.ensures) in
     let says = c.in_err-answer_batch.ensures.says in
-    batch-says g.D.Disk.count gives prog (is_complete r) r.held r.interim (g.L.Sink.written c.args.link.now)
-    (g.L.Sink.written c.answer_batch.new.link) c.args.pass.now c.answer_batch.new.pass b
-    (λ disk. record { disk = disk; is = refl }) is
+    batch-says g.D.Disk.count gives prog (is_complete r) r.held r.interim
+    (halves g.L.Sink c.args.link.now c.answer_batch.new.link) c.args.pass.now c.answer_batch.new.pass b
+    (λ disk. record { disk = disk; is = refl }) c.answer_batch.ensures.aside is
     (c.requires.interim ∙ batch-shown gives (is_complete r) r.held b c.args.first.now is c.requires.next) w
     c.in_err-answer_batch.ensures.faults result (no-answer (all_answered b) result p.0 p.1)
     (batch-put_err g.D.Disk.count b.asks b.requests c.args.pass.now c.answer_batch.new.pass
@@ -129,9 +134,9 @@ returns-clause-says g c = λ prog w.
     (subst (λ (x : Bool). IsBatch gives x c.held-held.result.now b) c.is_complete.ensures c.gather.ensures) in
     let d : Answered = record { requests = length c.asks.result.now; size = c.size.result; closes = c.closes.result } in
     let same = c.in_ok-answer_batch.ensures.same in
-    batch-says g.D.Disk.count gives prog (is_complete r) r.held r.interim (g.L.Sink.written c.args.link.now)
-    (g.L.Sink.written c.answer_batch.new.link) c.args.pass.now c.answer_batch.new.pass b
-    (λ disk. record { disk = disk; is = refl }) is
+    batch-says g.D.Disk.count gives prog (is_complete r) r.held r.interim
+    (halves g.L.Sink c.args.link.now c.answer_batch.new.link) c.args.pass.now c.answer_batch.new.pass b
+    (λ disk. record { disk = disk; is = refl }) c.answer_batch.ensures.aside is
     (c.requires.interim ∙ batch-shown gives (is_complete r) r.held b c.args.first.now is c.requires.next) w
     c.in_ok-answer_batch.ensures.faults (Ok d)
     (ok-answer (all_answered b) d
@@ -141,3 +146,15 @@ returns-clause-says g c = λ prog w.
     (c.closes.ensures ∙ ap (λ (x : BatchState). x.closes) same)))
     (batch-put_ok g.D.Disk.count b.asks b.requests c.args.pass.now c.answer_batch.new.pass
     (g.L.Sink.written c.args.link.now) (g.L.Sink.written c.answer_batch.new.link) d _ c.in_ok-answer_batch.ensures.says)
+
+pub returns-in_err-answer_misread-in-Err-clause-rows : goal.returns-in_err-answer_misread-in-Err-clause-rows
+returns-in_err-answer_misread-in-Err-clause-rows g c = AreAmong-refl c.args.pass.now.rows
+
+pub returns-in-Err-clause-rows : goal.returns-in-Err-clause-rows
+returns-in-Err-clause-rows g c = AreAmong-refl c.args.pass.now.rows
+
+pub returns-in_err-put_response-clause-rows : goal.returns-in_err-put_response-clause-rows
+returns-in_err-put_response-clause-rows g c = AreAmong-refl c.args.pass.now.rows
+
+pub returns-then-not-begin-clause-rows : goal.returns-then-not-begin-clause-rows
+returns-then-not-begin-clause-rows g c = AreAmong-refl c.args.pass.now.rows

@@ -1,8 +1,6 @@
 use Rattle.std.proofs.Common.{◌≡◌, ℕ, ◌+◌, Bool, List, [], ◌∷◌, ◌++◌, length, Option, sym, ap, subst, ◌∙◌, arith}
-use Rattle.std.specs.Option.{IfSome, is_some}
+use Rattle.std.specs.Option.{is_some}
 use Rattle.farm_rules.specs.Orders.{Ordered}
-use Rattle.farm_rules.specs.declared.orders.Draft.{Draft}
-use Rattle.revert_orders.specs.Book.{Book}
 use Rattle.farm_entry.specs.History.{lease_in, opening_in, order_lines}
 use Rattle.farm_entry.specs.Legal.{IsLegal}
 use Rattle.farm_entry.specs.Orders.{orders}
@@ -10,12 +8,12 @@ use Rattle.farm_entry.specs.declared.entry.Entry.{Entry}
 use Rattle.farm_entry.specs.declared.lease.LeasedRun.{LeasedRun}
 use Rattle.farm_laws.proofs.Bounds.{entries-bounded}
 use Rattle.farm_books.proofs.Entries.{entry-steps}
-use Rattle.farm_ledger.specs.Booked.{draft_in, one_if, with_carried, with_order}
+use Rattle.farm_ledger.specs.Booked.{given_in, with_booking}
 use Rattle.farm_ledger.specs.Rows.{AreRows, with_lease, with_row}
+use Rattle.farm_ledger.specs.declared.notes.Booking.{Booking}
 use Rattle.farm_ledger.specs.declared.notes.Row.{Row}
-use Rattle.farm_ledger.proofs.Bookings.{IsCarriable, bookable-free, bookable-number, carriable-few, carriable-free, carriable-none_given, carriable-room, carried-booked, draft-booked, orders-few, pushed-given, pushed-orders}
+use Rattle.farm_ledger.proofs.Bookings.{may-book, pushed-given, pushed-orders}
 use Rattle.farm_ledger.proofs.Changed.{lease-few, lease-rowed, pushed-rows}
-use Rattle.farm_ledger.proofs.register.Register.push.Goals.{After-put_order}
 use Rattle.farm_ledger.proofs.register.Register.push.Goals as goal
 
 pub overflow_cast-place : goal.overflow_cast-place
@@ -42,71 +40,14 @@ put_lease-requires-clause-few c =
     lease-few H c.reserve.new.self.items c.lease-lease.result h.legal
     (subst (AreRows H) (sym c.reserve.ensures.items) h.rows)
 
-pub put_order-requires-clause-few : goal.put_order-requires-clause-few
-put_order-requires-clause-few c =
-    let h = c.self.invariant in
-    omega (
-      arith,
-      ap length (c.in_ok-reserve-2.ensures.orders ∙ h.orders_are),
-      orders-few c.self.inside.turns h.legal,
-    )
-
-pub put_order-requires-clause-number : goal.put_order-requires-clause-number
-put_order-requires-clause-number c =
+pub book-requires : goal.book-requires
+book-requires c =
     let H : List Entry = c.self.inside.turns in
     let h = c.self.invariant in
-    let step = entry-steps H c.args.self.now c.args.entry h.legal c.self.view_is c.requires in
-    let book : Book = c.reserve-2.new.self in
-    bookable-number book.orders book.given c.draft_in-draft.result
-    (draft-booked H c.args.entry book.orders book.given c.draft_in-draft.result step
-    (c.in_ok-reserve-2.ensures.orders ∙ h.orders_are) (c.in_ok-reserve-2.ensures.given ∙ h.given_are)
-    c.draft_in-draft.ensures)
-
-pub put_order-requires-clause-free : goal.put_order-requires-clause-free
-put_order-requires-clause-free c =
-    let H : List Entry = c.self.inside.turns in
-    let h = c.self.invariant in
-    let step = entry-steps H c.args.self.now c.args.entry h.legal c.self.view_is c.requires in
-    let book : Book = c.reserve-2.new.self in
-    bookable-free book.orders book.given c.draft_in-draft.result
-    (draft-booked H c.args.entry book.orders book.given c.draft_in-draft.result step
-    (c.in_ok-reserve-2.ensures.orders ∙ h.orders_are) (c.in_ok-reserve-2.ensures.given ∙ h.given_are)
-    c.draft_in-draft.ensures)
-
--- what an order that is carried over asks of the book
-carriable : (c : After-put_order) → IfSome c.carried_in-carried.result (IsCarriable c.put_order.new.orders)
-carriable c =
-    let H : List Entry = c.self.inside.turns in
-    let h = c.self.invariant in
-    carried-booked H c.args.entry c.reserve-2.new.self c.put_order.new.orders c.draft_in-draft.result
-    c.carried_in-carried.result h.legal
+    may-book H c.args.entry c.make_room.new.orders c.booking_in-booking.result h.legal
     (entry-steps H c.args.self.now c.args.entry h.legal c.self.view_is c.requires)
-    (record {
-      orders_are = c.in_ok-reserve-2.ensures.orders ∙ h.orders_are;
-      given_are = c.in_ok-reserve-2.ensures.given ∙ h.given_are;
-      room = c.in_ok-reserve-2.ensures.ok;
-    })
-    c.draft_in-draft.ensures c.put_order.ensures.same c.carried_in-carried.ensures
-
-pub put_carried-requires-clause-room : goal.put_carried-requires-clause-room
-put_carried-requires-clause-room c =
-    carriable-room c.put_order.new.orders c.carried_in-carried.result
-    (carriable (goal.at.put_carried-requires-clause-room c).After-put_order)
-
-pub put_carried-requires-clause-few : goal.put_carried-requires-clause-few
-put_carried-requires-clause-few c =
-    carriable-few c.put_order.new.orders c.carried_in-carried.result
-    (carriable (goal.at.put_carried-requires-clause-few c).After-put_order)
-
-pub put_carried-requires-clause-none_given : goal.put_carried-requires-clause-none_given
-put_carried-requires-clause-none_given c =
-    carriable-none_given c.put_order.new.orders c.carried_in-carried.result
-    (carriable (goal.at.put_carried-requires-clause-none_given c).After-put_order)
-
-pub put_carried-requires-clause-free : goal.put_carried-requires-clause-free
-put_carried-requires-clause-free c =
-    carriable-free c.put_order.new.orders c.carried_in-carried.result
-    (carriable (goal.at.put_carried-requires-clause-free c).After-put_order)
+    (c.in_ok-make_room.ensures.orders ∙ h.orders_are) (c.in_ok-make_room.ensures.given ∙ h.given_are)
+    c.booking_in-booking.ensures c.in_ok-make_room.ensures.room
 
 pub invariant_of-self-2 : goal.invariant_of-self-2
 invariant_of-self-2 c =
@@ -134,21 +75,16 @@ invariant_of-self-2 c =
           subst (λ (X : List Entry). AreRows X c.put_row.new.rows.items) is
           (subst (AreRows (H ++ e ∷ [])) (sym made) (pushed-rows H e rows (length L) h.legal h.rows step at));
       orders_are =
-          c.put_carried.ensures.orders
-          ∙ ap (λ (os : List Ordered). with_carried os c.carried_in-carried.result)
-          (c.put_order.ensures.orders
-          ∙ ap (λ (os : List Ordered). with_order os c.draft_in-draft.result)
-          (c.in_ok-reserve-2.ensures.orders ∙ h.orders_are)
-          ∙ ap (λ (x : Option Draft). with_order (orders H) x) c.draft_in-draft.ensures)
-          ∙ ap (λ (x : Option Ordered). with_carried (with_order (orders H) (draft_in e.what)) x)
-          c.carried_in-carried.ensures
+          c.book.ensures.orders
+          ∙ ap (λ (os : List Ordered). with_booking os c.booking_in-booking.result)
+          (c.in_ok-make_room.ensures.orders ∙ h.orders_are)
+          ∙ ap (λ (x : Booking). with_booking (orders H) x) c.booking_in-booking.ensures
           ∙ pushed-orders H e
           ∙ ap orders is;
       given_are =
-          c.put_carried.ensures.given
-          ∙ c.put_order.ensures.given
-          ∙ ap (λ (n : ℕ). n + one_if (is_some c.draft_in-draft.result)) (c.in_ok-reserve-2.ensures.given ∙ h.given_are)
-          ∙ ap (λ (x : Option Draft). length (order_lines H) + one_if (is_some x)) c.draft_in-draft.ensures
+          c.book.ensures.given
+          ∙ ap (λ (n : ℕ). n + given_in c.booking_in-booking.result) (c.in_ok-make_room.ensures.given ∙ h.given_are)
+          ∙ ap (λ (x : Booking). length (order_lines H) + given_in x) c.booking_in-booking.ensures
           ∙ pushed-given H e
           ∙ ap (λ (X : List Entry). length (order_lines X)) is;
     }

@@ -12,6 +12,7 @@ invariant_of-self g c =
     rw c.add.ensures.total
     (serving_used g.J.Naming.entry g.J.Naming.gives c.self.inside.held c.split-pass.new.pass _ _ _ _
     (ap (λ (k : Known). k.lock) same) (ap (λ (k : Known). k.ready) same) (ap mark_of same)
+    (ap (λ (k : Known). k.rows) same)
     (serving_link g.J.Naming.entry g.J.Naming.gives c.self.inside.held c.self.inside.out.total s (s.left - 1) _ _ _ _
     (omega arith) c.accept.ensures.never_falls c.self.invariant c.if-self.false c.in-Linked.ensures.told))
 

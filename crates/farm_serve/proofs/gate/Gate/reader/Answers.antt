@@ -11,11 +11,13 @@ invariant_of-self g c =
     (serving_longer g.J.Naming.entry g.J.Naming.gives c.self.inside.held c.reader-made.new.pass c.self.inside.out.total
     c.self.inside.standing (g.N.Network.told c.self.inside.network) (g.N.Network.count c.self.inside.network)
     (subst (λ (l : TableId). IsReady l c.reader-made.new.pass) c.requires.farm c.reader-made.ensures.keeps.ready)
-    record { longer = c.reader-made.ensures.keeps.longer; more = c.reader-made.ensures.keeps.faults } c.self.invariant)
+    record { longer = c.reader-made.ensures.keeps.longer; more = c.reader-made.ensures.keeps.faults }
+    c.reader-made.ensures.keeps.rows c.self.invariant)
 
 pub invariant_of-self-else-is_err : goal.invariant_of-self-else-is_err
 invariant_of-self-else-is_err g c =
     serving_longer g.J.Naming.entry g.J.Naming.gives c.self.inside.held c.reader-made.new.pass c.self.inside.out.total
     c.self.inside.standing (g.N.Network.told c.self.inside.network) (g.N.Network.count c.self.inside.network)
     (subst (λ (l : TableId). IsReady l c.reader-made.new.pass) c.requires.farm c.reader-made.ensures.keeps.ready)
-    record { longer = c.reader-made.ensures.keeps.longer; more = c.reader-made.ensures.keeps.faults } c.self.invariant
+    record { longer = c.reader-made.ensures.keeps.longer; more = c.reader-made.ensures.keeps.faults }
+    c.reader-made.ensures.keeps.rows c.self.invariant

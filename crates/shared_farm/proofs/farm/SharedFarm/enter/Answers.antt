@@ -1,5 +1,7 @@
-use Rattle.std.proofs.Common.{ap, ◌∙◌}
+use Rattle.std.proofs.Common.{List, ap, subst, sym, ◌∙◌}
 use Rattle.farm_store.specs.Entering.{Enters}
+use Rattle.past_moments.specs.Rows.{IsOlder}
+use Rattle.past_moments.specs.declared.row.Row.{Row}
 use Rattle.shared_farm.specs.Answered.{own_places}
 use Rattle.shared_farm.proofs.Turning.{IsServed, IsServing, served-keeps, served-own, served-turn, serving-givable, taken-found}
 use Rattle.shared_farm.proofs.farm.SharedFarm.enter.Goals.{After-own_places-turn}
@@ -7,17 +9,17 @@ use Rattle.shared_farm.proofs.farm.SharedFarm.enter.Goals as goal
 
 -- the turn of the caller, when the store has answered
 serving : (g : _) (c : After-own_places-turn g) → IsServing g.D.Disk.count c.args.pass.now
-    c.turn-turn.result.before c.deref_mut.result.now c.enter-result.new.self c.own_places-turn.result
+    c.turn-turn.result.before c.deref_mut.result.now.store c.enter-result.new.self.store c.own_places-turn.result
 serving g c =
     let turn = c.turn-turn in
     record {
       held_is = turn.ensures.pass;
       places = turn.ensures.places;
-      taken = taken-found g.D.Disk.count c.args.pass.now turn.result.before turn.result.value.value
-          c.deref_mut.result.now c.deref_mut.ensures.value turn.ensures.taken turn.ensures.settled turn.ensures.seen
+      taken = taken-found g.D.Disk.count c.args.pass.now turn.result.before turn.result.value.value.store
+          c.deref_mut.result.now.store (ap (λ l. l.store) c.deref_mut.ensures.value) turn.ensures.taken turn.ensures.settled turn.ensures.seen
           turn.ensures.faults;
       answered = c.enter-result.ensures.goes_on;
-      own_is = c.own_places-turn.ensures ∙ ap (λ l. own_places l) c.deref.ensures;
+      own_is = c.own_places-turn.ensures ∙ ap (λ l. own_places l.store) c.deref.ensures;
     }
 
 pub back-requires-clause-places : goal.back-requires-clause-places
@@ -28,12 +30,18 @@ pub back-requires-clause-settled : goal.back-requires-clause-settled
 back-requires-clause-settled g c =
     (serving-givable (serving g (goal.at.back-requires-clause-settled g c).After-own_places-turn)).settled
 
+pub back-requires-clause-logged : goal.back-requires-clause-logged
+back-requires-clause-logged g c =
+    subst (λ (l : List Row). IsOlder l c.enter-result.new.self.log)
+    (ap (λ l. l.log) c.deref_mut.ensures.value ∙ sym c.turn-turn.ensures.log) c.enter-result.ensures.told
+
 -- and when it was given back
 served : (g : _) (c : goal.After-ring_next g) → IsServed g.D.Disk.count c.args.pass.now c.back.new.pass
-    c.turn-turn.result.before c.deref_mut.result.now c.enter-result.new.self c.own_places-turn.result
+    c.turn-turn.result.before c.deref_mut.result.now.store c.enter-result.new.self.store c.own_places-turn.result
 served g c = record {
   serving = serving g (goal.at.returns-clause-own g c).After-own_places-turn;
   lock = c.self.inside.lock;
+  log = c.enter-result.new.self.log;
   new_is = c.back.ensures.pass;
 }
 

@@ -1,9 +1,12 @@
-use Rattle.std.proofs.Common.{ap, subst, sym, ◌∙◌, ◌≡◌, ◌+◌, ℕ, Some}
+use Rattle.std.proofs.Common.{List, ap, subst, sym, ◌∙◌, ◌≡◌, ◌+◌, ℕ, Some}
 use Rattle.atomic_table.specs.Seated.{TableId}
 use Rattle.farm_store.specs.State.{StoreState}
 use Rattle.list_prefix.proofs.Prefixes.{IsPrefix-equal}
 use Rattle.turn_lock.specs.Known.{Known}
 use Rattle.turn_lock.specs.declared.view.Taken.{Taken}
+use Rattle.past_moments.proofs.Rows.{IsOlder-refl}
+use Rattle.past_moments.specs.Rows.{IsOlder}
+use Rattle.past_moments.specs.declared.row.Row.{Row}
 use Rattle.shared_farm.specs.Turns.{KeepsPass}
 use Rattle.shared_farm.proofs.Turning.{IsTaken, look-keeps, taken-found}
 use Rattle.shared_farm.proofs.farm.SharedFarm.reader.Goals as goal
@@ -14,11 +17,11 @@ taken_of count s = record { entries = s.history; count = count s.disk; pending =
 
 -- the turn took just the store that it gave back
 same_store : (g : _) (c : goal.After-ring_next g)
-    → c.reader-reader.new.self ≡ c.turn-turn.result.value.value
-same_store g c = c.reader-reader.ensures.same ∙ c.deref_mut.ensures.value
+    → c.reader-reader.new.self.store ≡ c.turn-turn.result.value.value.store
+same_store g c = ap (λ l. l.store) (c.reader-reader.ensures.same ∙ c.deref_mut.ensures.value)
 
 same_taken : (g : _) (c : goal.After-ring_next g) → c.turn-turn.result.before.taken
-    ≡ taken_of g.D.Disk.count c.reader-reader.new.self
+    ≡ taken_of g.D.Disk.count c.reader-reader.new.self.store
 same_taken g c =
     c.turn-turn.ensures.taken
     ∙ ap (λ (s : StoreState g.row.D.Denot). taken_of g.D.Disk.count s) (sym (same_store g c))
@@ -26,16 +29,16 @@ same_taken g c =
 pub back-requires-clause-grown : goal.back-requires-clause-grown
 back-requires-clause-grown g c =
     let turn = c.turn-turn.result in
-    let after = c.reader-reader.new.self in
+    let after = c.reader-reader.new.self.store in
     IsPrefix-equal turn.before.taken.entries after.history
     (ap (λ (t : Taken). t.entries) c.turn-turn.ensures.taken
     ∙ ap (λ (s : StoreState g.row.D.Denot). s.history)
-    (sym (c.reader-reader.ensures.same ∙ c.deref_mut.ensures.value)))
+    (sym (ap (λ l. l.store) (c.reader-reader.ensures.same ∙ c.deref_mut.ensures.value))))
 
 pub returns-clause-look : goal.returns-clause-look
 returns-clause-look g c =
     let new = c.back.ensures.pass in
-    let last : c.back.new.pass.last ≡ taken_of g.D.Disk.count c.reader-reader.new.self =
+    let last : c.back.new.pass.last ≡ taken_of g.D.Disk.count c.reader-reader.new.self.store =
     ap (λ (k : Known). k.last) new ∙ same_taken g c in
     record {
       used = ap (λ (k : Known). k.uses) new ∙ ap (λ (k : Known). k.uses + 1) c.turn-turn.ensures.pass;
@@ -48,11 +51,17 @@ pub returns-clause-keeps : goal.returns-clause-keeps
 returns-clause-keeps g c =
     let turn = c.turn-turn in
     let count = g.D.Disk.count in
-    let found = turn.result.value.value in
-    let left = c.reader-reader.new.self in
+    let found = turn.result.value.value.store in
+    let left = c.reader-reader.new.self.store in
     let taken : IsTaken count c.args.pass.now turn.result.before left =
     taken-found count c.args.pass.now turn.result.before found left (same_store g c) turn.ensures.taken
     turn.ensures.settled turn.ensures.seen turn.ensures.faults in
     subst (λ (lock : TableId). KeepsPass lock c.args.pass.now c.back.new.pass) c.self.view_is
-    (look-keeps count c.args.pass.now c.back.new.pass turn.result.before left turn.result.own c.self.inside.lock
+    (look-keeps count c.args.pass.now c.back.new.pass turn.result.before left turn.result.own c.self.inside.lock _
     turn.ensures.pass taken turn.ensures.places c.reader-reader.ensures.legal turn.ensures.own c.back.ensures.pass)
+
+pub back-requires-clause-logged : goal.back-requires-clause-logged
+back-requires-clause-logged g c =
+    subst (λ (l : List Row). IsOlder c.turn-turn.result.before.log l)
+    (c.turn-turn.ensures.log ∙ ap (λ l. l.log) (sym (c.reader-reader.ensures.same ∙ c.deref_mut.ensures.value)))
+    (IsOlder-refl c.turn-turn.result.before.log)

@@ -1,15 +1,18 @@
-use Rattle.std.proofs.Common.{◌≡◌, ◌⊎◌, [], ap, subst}
+use Rattle.std.proofs.Common.{◌≡◌, ◌⊎◌, [], ap, subst, ◌∷◌, length, ◌∙◌}
 use Rattle.std.specs.Prelude.{OnOk}
 use Rattle.farm_store.specs.State.{StoreState}
 use Rattle.fault_types.specs.Counts.{Rose}
+use Rattle.past_moments.specs.declared.row.Row.{Row}
 use Rattle.shared_farm.specs.Answered.{GoesOn}
+use Rattle.shared_farm.specs.Logs.{LockedState}
 use Rattle.shared_farm.proofs.ByCommands.{by-says}
 use Rattle.shared_farm.proofs.Recorded.{goes-on_by, says-decided, says-grown}
+use Rattle.shared_farm.proofs.Logging.{locked-logged}
 use Rattle.shared_farm.proofs.Resting.{came-on}
 use Rattle.shared_farm.proofs.locked.Locked.call_batch.Goals as goal
 
 -- nothing is pending then, or the disk failed
-decided : (g : _) (c : goal.After-post g) → (c.call_batch-result.new.self.pending ≡ [])
+decided : (g : _) (c : goal.After-tell g) → (c.call_batch-result.new.self.pending ≡ [])
     ⊎ Rose (g.D.Disk.count c.self.inside.store.disk) (g.D.Disk.count c.call_batch-result.new.self.disk)
 decided g c =
     let e = c.call_batch-result.ensures in
@@ -22,7 +25,9 @@ decided g c =
 pub invariant_of-self : goal.invariant_of-self
 invariant_of-self g c =
     let e = c.call_batch-result.ensures in
-    let now = c.post.ensures.posted in (
+    let now = c.post.ensures.posted in
+    let logged = locked-logged g.D.Disk g.D.DatedDisk.dated (λ P. OnOk c.call_batch-result.result P) c.self.inside.store c.call_batch-result.new.self
+    c.self.inside.log c.tell.new.log e.keeps (decided g c) c.self.invariant.4 c.tell.ensures.told c.tell.ensures.moment in (
       ap (λ p. p.board) now,
       ap (λ p. p.posts) now,
       ap (λ p. p.seen) now,
@@ -30,6 +35,8 @@ invariant_of-self g c =
           c.call_batch-result.new.self c.self.invariant.3 e.keeps (decided g c)
           (by-says c.args.asks.now c.call_batch-result.result c.self.inside.store
           c.call_batch-result.new.self e.says),
+      logged.0,
+      logged.1,
     )
 
 pub returns-clause-goes_on : goal.returns-clause-goes_on
@@ -38,6 +45,13 @@ returns-clause-goes_on g c =
     let count = g.D.Disk.count in
     let old = c.self.inside.store in
     let new = c.call_batch-result.new.self in
-    subst (λ (s : StoreState g.row.D.Denot). GoesOn count s new) c.self.view_is
+    subst (λ (s : StoreState g.row.D.Denot). GoesOn count s new)
+    (ap (λ (l : LockedState g.row.D.Denot). l.store) c.self.view_is)
     (goes-on_by count old new c.history.ensures.legal c.post.ensures.legal e.keeps.longer
     (says-grown c.args.asks.now c.call_batch-result.result old new e.says) (decided g c) e.keeps.never_falls)
+
+pub returns-clause-told : goal.returns-clause-told
+returns-clause-told g c =
+    let new = c.call_batch-result.new.self in
+    let row : Row = record { entries = length new.history; moment = g.D.DatedDisk.dated new.disk } in
+    (row ∷ [], c.tell.ensures.told ∙ ap (λ (l : LockedState g.row.D.Denot). row ∷ l.log) c.self.view_is)

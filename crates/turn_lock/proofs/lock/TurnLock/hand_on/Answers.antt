@@ -3,6 +3,8 @@ use mathlib.Core.Option.{none}
 use Rattle.atomic_table.specs.Table.{Allows, step, Me, rest}
 use Rattle.farm_entry.specs.declared.entry.Entry.{Entry}
 use Rattle.list_prefix.specs.Prefix.{IsPrefix}
+use Rattle.past_moments.specs.Rows.{IsOlder}
+use Rattle.past_moments.specs.declared.row.Row.{Row}
 use Rattle.turn_lock.specs.Known.{Before, IsSettled}
 use Rattle.turn_lock.specs.Places.{ArePlaces}
 use Rattle.turn_lock.specs.Rule.{IsKept}
@@ -32,20 +34,22 @@ load-requires g c =
           ∙ sym c.self.view_is,
       omega (arith, c.self.invariant.0),
       subst
-          (λ (n : ℕ). Allows (IsKept t.entries t.count t.pending) n seat.id seat.me 1 (λ k. k)
-          (Notes t.entries t.count t.pending (step n 1 0 0 none) seat.me))
+          (λ (n : ℕ). Allows (IsKept t.entries t.count t.pending t.log) n seat.id seat.me 1 (λ k. k)
+          (Notes t.entries t.count t.pending t.log (step n 1 0 0 none) seat.me))
           (sym c.self.invariant.1)
           (subst
-          (λ (m : Me (Option (Home g.row.T.Denot)) View). Allows (IsKept t.entries t.count t.pending) 1 seat.id m 1
+          (λ (m : Me (Option (Home g.row.T.Denot)) View). Allows (IsKept t.entries t.count t.pending t.log) 1 seat.id m 1
           (λ k. k)
-          (Notes t.entries t.count t.pending (step 1 1 0 0 none) m))
+          (Notes t.entries t.count t.pending t.log (step 1 1 0 0 none) m))
           (sym me)
-          (notes t.entries t.count t.pending seat.id old.me.0 home held.taken held.taken_is
+          (notes t.entries t.count t.pending t.log seat.id old.me.0 home held.taken held.taken_is
           (subst (λ (o : Taken). IsPrefix o.entries now) taken c.requires.grown)
           (subst (λ (o : Taken). o.count ≤ t.count turn.value) taken c.requires.faults)
           (subst (λ (o : Taken). IsSettled (Some o.pending) o.count (t.count turn.value) (t.pending turn.value)) taken
           c.requires.settled)
-          (subst (λ (o : Taken). ArePlaces (length o.entries) (length now) turn.own) taken c.requires.places))),
+          (subst (λ (o : Taken). ArePlaces (length o.entries) (length now) turn.own) taken c.requires.places)
+          (subst (λ (l : List Row). IsOlder l (t.log turn.value)) (ap (λ (b : Before). b.log) (sym c.before-2.view_is))
+          c.requires.logged))),
     )
 
 pub exchange-home-requires : goal.exchange-home-requires
@@ -64,7 +68,7 @@ split_seat-other-requires g c =
       c.exchange-home.ensures.0 ∙ c.load.ensures.0 ∙ (c.exchange-empty.ensures.0
           ∙ ap (λ (b : Before). b.pass.lock) c.before-2.view_is ∙ c.requires.own ∙ sym c.self.view_is),
       omega (arith, c.self.invariant.0),
-      leaves t.entries t.count t.pending seat.id seat.me.0,
+      leaves t.entries t.count t.pending t.log seat.id seat.me.0,
     )
 
 pub join_seat-requires : goal.join_seat-requires
@@ -78,8 +82,8 @@ join_seat-requires g c =
       c.take_seat.ensures.lock ∙ c.requires.next.own ∙ sym c.self.view_is,
       ap (λ m. m.1) c.take_seat.ensures.me,
       omega (arith, c.self.invariant.0),
-      takes_over t.entries t.count t.pending seat.id seat.me.0 other.id other.me.0
-          (idle-idle_again other.me next.seen next.mine next.faults next.uses next.last next.pending
+      takes_over t.entries t.count t.pending t.log seat.id seat.me.0 other.id other.me.0
+          (idle-idle_again other.me next.seen next.mine next.faults next.uses next.last next.pending next.rows
           c.take_seat.ensures.me),
     )
 
@@ -97,10 +101,10 @@ load-requires-2 g c =
           ∙ (c.exchange-empty.ensures.0 ∙ ap (λ (b : Before). b.pass.lock) c.before-2.view_is ∙ c.requires.own
           ∙ sym c.self.view_is),
       omega (arith, c.self.invariant.0),
-      subst (λ (n : ℕ). Allows (IsKept t.entries t.count t.pending) n seat.id seat.me 1 (λ k. k)
+      subst (λ (n : ℕ). Allows (IsKept t.entries t.count t.pending t.log) n seat.id seat.me 1 (λ k. k)
           (Meets (step n 1 0 0 none) seat.me))
           (sym c.self.invariant.1)
-          (meets t.entries t.count t.pending seat.id seat.me taken
+          (meets t.entries t.count t.pending t.log seat.id seat.me taken
           (ap (λ m. m.0.taken) c.join_seat.ensures.2 ∙ ap (λ m. m.0.taken) c.split_seat-other.ensures.2
           ∙ ap (λ m. m.0.taken) c.exchange-home.ensures.3 ∙ ap (λ m. m.0.taken) c.load.ensures.2.2)),
     )

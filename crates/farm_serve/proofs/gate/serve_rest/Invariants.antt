@@ -1,6 +1,6 @@
 use Rattle.std.proofs.Common.{◌≡◌}
 use Rattle.farm_serve.specs.Nexts.{IsReaderOf}
-use Rattle.farm_serve.proofs.gate.Gate.serve_rest.Given as goal
+use Rattle.farm_serve.proofs.gate.serve_rest.Given as goal
 
 abbrev pub invariant-loop-reader : goal.invariant-loop-reader
 invariant-loop-reader g l = record {
@@ -10,4 +10,4 @@ invariant-loop-reader g l = record {
 }
 
 abbrev pub decreases-loop-reader : goal.decreases-loop-reader
-decreases-loop-reader g l = l.self.left
+decreases-loop-reader g l = l.gate.left

@@ -1,0 +1,48 @@
+//! What the turns at a farm left, for contracts alone.
+ghost use Rattle.std.specs.Prelude.{◌≡◌, ◌∷◌, []};
+ghost use Rattle.shared_farm.specs.Logs.{row_of};
+
+use past_moments::Past;
+use std::marker::Model;
+use told_list::ToldList;
+
+/// What is kept of a turn: how many entries the history had after it, and a moment of the disk that was over then.
+#[derive(Drop)]
+pub(crate) struct Noted<O> {
+    pub entries: u64,
+    pub over: O,
+}
+
+/// What each turn left. Contracts see it as a list of rows, the newest first. It takes the bytes of a flag.
+#[derive(Drop)]
+pub(crate) struct TurnLog<O: Past> {
+    turns: ToldList<Noted<O>>,
+}
+
+impl<O: Past> Model for TurnLog<O> {
+    ghost use Rattle.std.specs.Prelude.{List, map};
+    ghost use Rattle.past_moments.specs.declared.row.Row.{Row};
+    ghost use Rattle.shared_farm.specs.Logs.{row_of};
+
+    ghost Value = { List Row };
+
+    ghost view = { λ l. map (λ noted. row_of O.at noted) l.turns };
+}
+
+impl<O: Past> TurnLog<O> {
+    /// No turn yet.
+    pub fn new() -> TurnLog<O>
+        ensures { result ≡ [] }
+    {
+        TurnLog {
+            turns: ToldList::new(),
+        }
+    }
+
+    /// Tells what a turn left.
+    pub fn tell(&mut self, noted: &Noted<O>)
+        ensures { self.new ≡ row_of O.at noted.now ∷ self.old }
+    {
+        self.turns.tell(noted);
+    }
+}
