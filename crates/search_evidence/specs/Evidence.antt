@@ -43,7 +43,7 @@ abbrev pub spaced : List ℕ → List ℕ
 spaced [] = []
 spaced (n ∷ ns) = SPACE ∷ (decimal n ++ spaced ns)
 
--- the search line: `search A B T U CALM W1 .. Wn`
+-- the search line: `search A B T U CALM WEIGHT ..`
 abbrev pub search_line : Opening → List ℕ
 search_line o = line_of (codes "search" ∷ map decimal (search_numbers o))
 

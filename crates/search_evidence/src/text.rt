@@ -14,7 +14,7 @@ use plain_history::opening_numbered;
 use std::alloc::Global;
 
 /// The evidence of the search with a number, where the history has it: `miss C D` where a broken test may pass,
-/// `search A B T U CALM W1 .. Wn`, and `run R K pass` or `run R K fail` for each report that is evidence, R counting
+/// `search A B T U CALM WEIGHT ..`, and `run R K pass` or `run R K fail` for each report that is evidence, R counting
 /// from 1. Each line ends with a line feed.
 ///
 /// # Errors
