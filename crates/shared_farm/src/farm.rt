@@ -189,8 +189,8 @@ impl<D: DatedDisk, B: Beginning> SharedFarm<D, B> {
     /// Answers 1 to `MAX_BATCH` asks in one turn, as single calls one after the other would be, their new entries
     /// stored in one record. Callers who wait while turns are long share a record: whoever has the turn then answers
     /// their asks behind its own, each caller's at a turn of its own in the history, and stores them all at once. The
-    /// asks come back as they are. Beside the answers it gives a moment of the disk that was over after the turn, by which
-    /// all that the pass has seen then stood.
+    /// asks come back as they are. Beside the answers it gives a moment of the disk that was over after the turn, by
+    /// which all that the pass has seen then stood.
     ///
     /// # Errors
     ///

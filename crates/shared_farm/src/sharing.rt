@@ -33,8 +33,8 @@ pub const MOST_PARTS: usize = 16;
 /// How often a caller looks after its errand before it sleeps.
 const MOST_LOOKS: u32 = 64;
 
-/// Asks a batch as an errand, which another caller may run. The asks come back as they are, and with the answers a moment
-/// that is over, by which all that the pass has seen then stood.
+/// Asks a batch as an errand, which another caller may run. The asks come back as they are, and with the answers a
+/// moment that is over, by which all that the pass has seen then stood.
 pub fn hand_in<R: Wait, D: DatedDisk, B: Beginning>(
     rt: &R,
     lock: &FarmLock<D, B>,
