@@ -20,16 +20,16 @@ pub data OriginSeen (N : Type 0) : Type 0 where
   by_table : List TableRow → OriginSeen N
   by_host : N → OriginSeen N
 
-abbrev pub origin_seen : {N L : Type 0} → Origin N L → OriginSeen N
+abbrev pub origin_seen : {N O L : Type 0} → Origin N O L → OriginSeen N
 origin_seen origin.Nothing = by_nothing
 origin_seen (origin.Table rows) = by_table rows
 origin_seen (origin.Host network) = by_host network
 
-abbrev pub origin_of : {N L : Type 0} → TestRunner N L → OriginSeen N
+abbrev pub origin_of : {N O L : Type 0} → TestRunner N O L → OriginSeen N
 origin_of runner = origin_seen runner.origin
 
 -- how often it has failed
-abbrev pub runner_faults : {N L : Type 0} → TestRunner N L → ℕ
+abbrev pub runner_faults : {N O L : Type 0} → TestRunner N O L → ℕ
 runner_faults runner = runner.faults
 
 -- what a run answers of whose test this is said, or nothing
