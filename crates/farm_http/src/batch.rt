@@ -100,8 +100,8 @@ impl Batch {
         self.asks.clear();
     }
 
-    /// Asks the farm for the commands, of which there are some, at one turn of the pass. With the
-    /// answers comes a moment that is over, by which all that the pass has seen then stood.
+    /// Asks the farm for the commands, of which there are some, at one turn of the pass. With the answers comes a moment
+    /// of the disk that was over after the turn, by which all that the pass has then seen stood.
     pub fn ask<R: Wait, D: DatedDisk, B: Beginning, C: Clock>(
         &mut self,
         service: &Service<R, D, B, C>,
@@ -232,7 +232,7 @@ impl Batch {
         held: &[u8],
         complete: bool,
     )
-        requires { IsBatch (GivenBy C.Clock service.now.clock.now D.count) complete held.now self.old }
+        requires batch { IsBatch (GivenBy C.Clock service.now.clock.now D.count) complete held.now self.old }
         ensures { IsBatch (GivenBy C.Clock service.now.clock.now D.count) complete held.now self.new }
     {
         while self.is_open() {

@@ -46,7 +46,8 @@ pub record IsServing (a : AtEntry) (clock : Moment → Type 0) (pass : Known) (o
 
 -- Of the events that a network gained in serving: they hold so many accepts, or fewer of which the last one answered
 -- that no more will come, unless memory ran out, and the network was asked for nothing else; as many links were taken
--- back as were given; each is held for the mark at exit; and the standing says whether an accept failed.
+-- back as were given; each is held for the mark at exit, with what its notes say of its answers; and the standing says
+-- whether an accept failed.
 pub record AreServed (start final : Mark) (clock : Moment → Type 0)
     (said : List Note → Saying) (links : ℕ) (s : Standing)
     (before : List NetworkEvent) (now : Option (List NetworkEvent)) : Type 0 where

@@ -84,8 +84,8 @@ returns-then-not-begin-clause-says g c = λ prog w.
     (subst (λ (x : Response). PutSays (request_bytes first x) before last (Ok one.result)) c.no_memory.ensures
     c.in_ok-put_response.ensures.says)
 
-pub gather-requires : goal.gather-requires
-gather-requires g c κs within =
+pub gather-requires-clause-batch : goal.gather-requires-clause-batch
+gather-requires-clause-batch g c κs within =
     let first = c.args.first.now in
     let r = c.args.received.now in
     let gives = GivenBy g.C.Clock c.args.service.now.clock.now g.D.Disk.count in
