@@ -1,6 +1,6 @@
 //! Leaders that are followed over a network in memory.
 use crate::leader::{Leader, follower_of};
-use crate::words::{number_of, page_of, word};
+use crate::words::{number_of, page_of, put, put_fault, word};
 use entry_codec::write_entries;
 use farm_disk::MemDisk;
 use farm_wire::log_text;
@@ -8,40 +8,44 @@ use journal_follow::{Follower, follow};
 use link_io::MemLink;
 use net_io::MemNetwork;
 use std::alloc::{AllocError, Global};
-use std::fmt::Write;
-use std::io;
 
-/// Prints what following comes to, and how many entries are held then.
+/// Puts what following comes to behind a line, and how many entries are held then.
 pub(crate) fn play_follow(
-    rt: &impl Print,
     alloc: Global,
+    out: &mut String,
     leader: &Leader,
     rest: &str,
-) -> io::Result<()> {
+) -> Result<(), AllocError> {
+    out.push_str("follow ")?;
+    out.push_str(rest)?;
+    out.push_str(": ")?;
     let (held, rest) = word(rest);
     let (rounds, answers) = word(rest);
-    print!(rt; "follow {held} {rounds} {answers}: ")?;
     let links = links_of(alloc, leader, answers)?;
     let mut network = MemNetwork::of(Vec::new(alloc), links, Vec::new(alloc));
     let mut follower = follower_of(alloc, leader, held, Vec::new(alloc))?;
-    print_followed(rt, alloc, &mut network, &mut follower, number_of(rounds))
+    let told = put_followed(alloc, out, &mut network, &mut follower, number_of(rounds));
+    let _disk = follower.into_disk();
+    told
 }
 
-fn print_followed(
-    rt: &impl Print,
+fn put_followed(
     alloc: Global,
+    out: &mut String,
     network: &mut MemNetwork,
     follower: &mut Follower<MemDisk>,
     rounds: u32,
-) -> io::Result<()> {
+) -> Result<(), AllocError> {
     match follow(alloc, network, follower, rounds) {
         Ok(followed) => {
+            put(out, "followed ", u64::from(followed.entries))?;
             let extent = if followed.whole { "whole" } else { "more" };
-            print!(rt; "followed {} entries {extent}", followed.entries)?;
+            out.push_str(" entries ")?;
+            out.push_str(extent)?;
         }
-        Err(fault) => print!(rt; "{fault:?}")?,
+        Err(fault) => put_fault(out, fault)?,
     }
-    println!(rt; ", holds {}", follower.history().len())
+    put(out, ", holds ", follower.history().len() as u64)
 }
 
 /// The links of which each gives one answer.
@@ -92,13 +96,9 @@ fn page_response(alloc: Global, leader: &Leader, text: &str) -> Result<Vec<u8>, 
 fn response(alloc: Global, status: u32, body: &str, more: usize) -> Result<Vec<u8>, AllocError> {
     let size = body.len().saturating_add(more);
     let mut text = String::new(alloc);
-    if write!(
-        text,
-        "HTTP/1.1 {status} X\r\nContent-Length: {size}\r\n\r\n{body}"
-    )
-    .is_err()
-    {
-        return Err(AllocError);
-    }
+    put(&mut text, "HTTP/1.1 ", u64::from(status))?;
+    put(&mut text, " X\r\nContent-Length: ", size as u64)?;
+    text.push_str("\r\n\r\n")?;
+    text.push_str(body)?;
     text.as_bytes().to_vec(alloc)
 }

@@ -14,10 +14,9 @@ use farm_types::{MOMENT_MIN_MS, Moment};
 use farm_wire::line_of;
 use journal_follow::Follower;
 use std::alloc::{AllocError, Global};
-use std::io;
 
-/// A leader: its history stands on a disk.
-#[derive(Drop)]
+/// A leader: its history stands on a disk. It is ended, and not dropped, so that no check goes into what a store is
+/// made of.
 pub(crate) struct Leader {
     store: Store<CalmDisk>,
 }
@@ -30,20 +29,26 @@ pub(crate) fn founded(alloc: Global, daily: u32) -> Result<Leader, AllocError> {
     };
     match Store::found(alloc, CalmDisk::of(Vec::new(alloc)), settings, at) {
         Ok(store) => Ok(Leader { store }),
-        Err(_) => Err(AllocError),
+        Err((_disk, _fault)) => Err(AllocError),
     }
 }
 
 impl Leader {
     /// Answers the command of a script's line.
-    pub(crate) fn record(&mut self, alloc: Global, line: &str) -> io::Result<()> {
+    pub(crate) fn record(&mut self, alloc: Global, line: &str) -> Result<(), AllocError> {
         match line_of(alloc, line.as_bytes()) {
             Ok((at, command)) => {
                 let _ = self.store.call(alloc, &command, at);
                 Ok(())
             }
-            Err(_) => Err(AllocError.into()),
+            Err(_) => Err(AllocError),
         }
+    }
+
+    /// Ends it.
+    pub(crate) fn end(self) {
+        let Leader { store } = self;
+        let _disk = store.into_disk();
     }
 
     /// So many of its entries, from one on, as far as it has them.
@@ -91,7 +96,7 @@ pub(crate) fn follower_of(
     let bytes = journal_of(alloc, leader, held)?;
     match Follower::open_on(alloc, MemDisk::of(bytes, fails)) {
         Ok(follower) => Ok(follower),
-        Err(_) => Err(AllocError),
+        Err((_disk, _fault)) => Err(AllocError),
     }
 }
 
@@ -99,7 +104,9 @@ pub(crate) fn follower_of(
 fn journal_of(alloc: Global, leader: &Leader, held: &str) -> Result<Vec<u8>, AllocError> {
     if held == "daily" {
         let other = founded(alloc, 9)?;
-        return spelled(alloc, other.entries(1, 1));
+        let bytes = spelled(alloc, other.entries(1, 1));
+        other.end();
+        return bytes;
     }
     let entries = leader.entries(1, crate::words::number_of(held));
     if entries.is_empty() {
@@ -150,7 +157,7 @@ fn led(alloc: Global, payload: Vec<u8>) -> Result<Leader, AllocError>
     let bytes = recorded(alloc, payload)?;
     match Store::open_on(alloc, CalmDisk::of(bytes)) {
         Ok(store) => Ok(Leader { store }),
-        Err(_) => Err(AllocError),
+        Err((_disk, _fault)) => Err(AllocError),
     }
 }
 

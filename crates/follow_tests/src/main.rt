@@ -20,50 +20,78 @@ mod words;
 use farm_store::CloseFault;
 use follows::play_follow;
 use leader::{Leader, closing, founded, holding};
-use std::alloc::Global;
-use std::io;
+use std::alloc::{AllocError, Global};
+use std::{io, mem};
 use takes::play_take;
 use words::word;
 
-fn play(rt: &impl Print, alloc: Global, leader: &mut Leader, line: &str) -> io::Result<()> {
+/// Puts a case behind a line, and what it comes to.
+fn play(
+    alloc: Global,
+    out: &mut String,
+    leader: &mut Leader,
+    line: &str,
+) -> Result<(), AllocError> {
     let (name, rest) = word(line);
     match name {
-        "follow" => play_follow(rt, alloc, leader, rest),
-        "take" => play_take(rt, alloc, leader, rest),
-        "close" => play_close(rt, alloc, leader, rest),
-        "holds" => play_holds(alloc, leader, rest),
-        _ if line.starts_with("{") => leader.record(alloc, line),
-        _ => println!(rt; "{line}"),
+        "follow" => play_follow(alloc, out, leader, rest),
+        "take" => play_take(alloc, out, leader, rest),
+        "close" => play_close(alloc, out, leader, rest),
+        _ => out.push_str(line),
     }
 }
 
 /// Gives the leader another journal.
-fn play_holds(alloc: Global, leader: &mut Leader, digits: &str) -> io::Result<()> {
-    *leader = holding(alloc, digits)?;
+fn play_holds(alloc: Global, leader: &mut Leader, digits: &str) -> Result<(), AllocError> {
+    let next = holding(alloc, digits)?;
+    mem::replace(leader, next).end();
     Ok(())
 }
 
-/// Prints what closing the leader's farm comes to.
-fn play_close(rt: &impl Print, alloc: Global, leader: &mut Leader, at: &str) -> io::Result<()> {
-    let (left, closed) = closing(alloc, leader, at.parse::<u64>().unwrap_or(0))?;
-    *leader = left;
-    let outcome = match closed {
-        Ok(()) => "closed",
-        Err(CloseFault::Busy) => "busy",
-        Err(_) => "not closed",
-    };
-    println!(rt; "close {at}: {outcome}")
+/// Closes the leader's farm, and puts what that comes to behind a line.
+fn play_close(
+    alloc: Global,
+    out: &mut String,
+    leader: &mut Leader,
+    at: &str,
+) -> Result<(), AllocError> {
+    let (next, closed) = closing(alloc, leader, at.parse::<u64>().unwrap_or(0))?;
+    mem::replace(leader, next).end();
+    out.push_str("close ")?;
+    out.push_str(at)?;
+    out.push_str(match closed {
+        Ok(()) => ": closed",
+        Err(CloseFault::Busy) => ": busy",
+        Err(_) => ": not closed",
+    })
+}
+
+/// Plays a line, and prints it with what it comes to where it isn't one that the leader takes.
+fn play_line(rt: &impl Print, alloc: Global, leader: &mut Leader, line: &str) -> io::Result<()> {
+    if line.starts_with("{") {
+        leader.record(alloc, line)?;
+        return Ok(());
+    }
+    if let Some(digits) = line.strip_prefix("holds ") {
+        play_holds(alloc, leader, digits)?;
+        return Ok(());
+    }
+    let mut out = String::new(alloc);
+    play(alloc, &mut out, leader, line)?;
+    println!(rt; "{}", out.as_str())
+}
+
+fn play_all(rt: &impl Print, alloc: Global, leader: &mut Leader, text: &str) -> io::Result<()> {
+    for line in text.strip_suffix("\n").unwrap_or("").split('\n') {
+        play_line(rt, alloc, leader, line)?;
+    }
+    Ok(())
 }
 
 fn main(rt: HostRuntime) -> io::Result<()> {
     let text = io::read_to_string(rt.alloc(), rt.reader())?;
     let mut leader = founded(rt.alloc(), 10)?;
-    play_all(&rt, rt.alloc(), &mut leader, text.as_str())
-}
-
-fn play_all(rt: &impl Print, alloc: Global, leader: &mut Leader, text: &str) -> io::Result<()> {
-    for line in text.strip_suffix("\n").unwrap_or("").split('\n') {
-        play(rt, alloc, leader, line)?;
-    }
-    Ok(())
+    let played = play_all(&rt, rt.alloc(), &mut leader, text.as_str());
+    leader.end();
+    played
 }

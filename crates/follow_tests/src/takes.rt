@@ -4,90 +4,101 @@ ghost use Rattle.std.specs.Prelude.{All};
 ghost use Rattle.entry_codec.specs.Grammar.{IsWithinLimits};
 
 use crate::leader::{Leader, fits, follower_of};
-use crate::words::{fails_of, page_of, word};
+use crate::words::{fails_of, page_of, put, put_fault, word};
 use farm_disk::{CalmDisk, MemDisk};
 use farm_entry::Entry;
 use journal_follow::Follower;
 use std::alloc::{AllocError, Global};
-use std::io;
 
-/// Prints what each page comes to, and how many entries are held then, and what a read and the smallest image hold at
-/// the end.
+/// Puts behind a line what each page comes to, and how many entries are held then, and what a read and two images hold
+/// at the end.
 pub(crate) fn play_take(
-    rt: &impl Print,
     alloc: Global,
+    out: &mut String,
     leader: &Leader,
     rest: &str,
-) -> io::Result<()> {
+) -> Result<(), AllocError> {
     let (held, rest) = word(rest);
     let (fails, pages) = word(rest);
-    print!(rt; "take {held} {fails}:")?;
+    out.push_str("take ")?;
+    out.push_str(held)?;
+    out.push_str(" ")?;
+    out.push_str(fails)?;
+    out.push_str(":")?;
     let fails_at = fails_of(alloc, fails)?;
     let mut follower = follower_of(alloc, leader, held, fails_at)?;
-    let taken = take_pages(rt, alloc, leader, &mut follower, pages);
+    let taken = take_pages(alloc, out, leader, &mut follower, pages);
     let disk = follower.into_disk();
-    let shown = print_disk(rt, alloc, &disk);
     taken?;
-    shown
+    put_disk(alloc, out, &disk)
 }
 
 fn take_pages(
-    rt: &impl Print,
     alloc: Global,
+    out: &mut String,
     leader: &Leader,
     follower: &mut Follower<MemDisk>,
     pages: &str,
-) -> io::Result<()> {
+) -> Result<(), AllocError> {
     for page in pages.split(' ') {
         let (from, count) = page_of(page);
-        print!(rt; " {page}")?;
-        take_page(rt, alloc, leader.entries(from, count), follower, from)?;
+        out.push_str(" ")?;
+        out.push_str(page)?;
+        take_page(alloc, out, leader.entries(from, count), follower, from)?;
     }
     Ok(())
 }
 
-/// Prints what a page comes to, if it may be taken, and how many entries are held then.
+/// Puts behind a line what a page comes to, if it may be taken, and how many entries are held then.
 fn take_page(
-    rt: &impl Print,
     alloc: Global,
+    out: &mut String,
     entries: &[Entry],
     follower: &mut Follower<MemDisk>,
     from: u32,
-) -> io::Result<()>
+) -> Result<(), AllocError>
     requires { All (λ entry. IsWithinLimits entry.what) entries.now }
 {
-    if from == 0 {
-        return print!(rt; " begins nowhere");
-    }
-    if entries.is_empty() {
-        return print!(rt; " has no entry");
-    }
-    if !fits(alloc, entries) {
-        return print!(rt; " fits no record");
+    if from == 0 || entries.is_empty() || !fits(alloc, entries) {
+        return out.push_str(" may not be taken");
     }
     match follower.take(alloc, from, entries) {
-        Ok(count) => print!(rt; " stored {count} holds {},", follower.history().len()),
-        Err(fault) => print!(rt; " {fault:?} holds {},", follower.history().len()),
+        Ok(count) => put(out, " stored ", u64::from(count))?,
+        Err(fault) => {
+            out.push_str(" ")?;
+            put_fault(out, fault)?;
+        }
     }
+    put(out, " holds ", follower.history().len() as u64)?;
+    out.push_str(",")
 }
 
-/// Prints what a read and two images of a disk hold.
-fn print_disk(rt: &impl Print, alloc: Global, disk: &MemDisk) -> io::Result<()> {
-    print_held(rt, alloc, "read", disk.bytes().to_vec(alloc)?)?;
-    print_held(rt, alloc, "small image", image(disk, 0, 0)?)?;
-    print_held(rt, alloc, "large image", image(disk, 1_000_000, 255)?)?;
-    println!(rt;)
+/// Puts behind a line what a read and two images of a disk hold.
+fn put_disk(alloc: Global, out: &mut String, disk: &MemDisk) -> Result<(), AllocError> {
+    out.push_str(" read ")?;
+    put_held(alloc, out, disk.bytes().to_vec(alloc)?)?;
+    out.push_str(" small image ")?;
+    put_held(alloc, out, image(disk, 0, 0)?)?;
+    out.push_str(" large image ")?;
+    put_held(alloc, out, image(disk, 1_000_000, 255)?)
 }
 
 /// An image that a crash may leave.
 fn image(disk: &MemDisk, size: u64, fill: u8) -> Result<Vec<u8>, AllocError> {
-    disk.image(size, fill).map_err(|_| AllocError)
+    match disk.image(size, fill) {
+        Ok(image) => Ok(image),
+        Err(_) => Err(AllocError),
+    }
 }
 
-/// Prints how many entries a follower holds that is opened on these bytes.
-fn print_held(rt: &impl Print, alloc: Global, what: &str, bytes: Vec<u8>) -> io::Result<()> {
+/// Puts behind a line how many entries a follower holds that is opened on these bytes.
+fn put_held(alloc: Global, out: &mut String, bytes: Vec<u8>) -> Result<(), AllocError> {
     match Follower::open_on(alloc, CalmDisk::of(bytes)) {
-        Ok(follower) => print!(rt; " {what} {}", follower.history().len()),
-        Err((_, fault)) => print!(rt; " {what} {fault:?}"),
+        Ok(follower) => {
+            let held = follower.history().len();
+            let _disk = follower.into_disk();
+            put(out, "", held as u64)
+        }
+        Err((_disk, _fault)) => out.push_str("damaged"),
     }
 }

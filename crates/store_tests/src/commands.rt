@@ -1,5 +1,5 @@
 //! Commands from words: `open:WIDTH`, `solo:COMMIT`, `many`, `lease`, `fail:RUN`, `pass:RUN`, `revert` and `farm`, each
-//! with `@` and a moment behind it where it isn't asked at the usual one. A key is the number of the word in its case.
+//! with `@` and a moment behind it where it isn't asked at the usual one.
 use crate::words::number_of;
 use farm_entry::{Command, OpenAsk, Suspects};
 use farm_store::Ask;
@@ -11,15 +11,10 @@ use weight_exact::Verdict;
 /// The moment of what is asked at no other.
 const USUAL: u32 = 100_000_000;
 
+/// The commit whose last byte is the last one of a number.
 fn commit(number: u32) -> CommitId {
     let mut bytes = [0; 20];
-    for (byte, digits) in bytes
-        .iter_mut()
-        .rev()
-        .zip(number.to_be_bytes().iter().rev())
-    {
-        *byte = *digits;
-    }
+    bytes[19] = number.to_be_bytes()[3];
     CommitId::of(bytes)
 }
 
@@ -99,7 +94,7 @@ fn command(alloc: Global, text: &str, key: Key) -> Result<Command, AllocError> {
     }
 }
 
-/// What a word asks, where its number in the case is this.
+/// What a word asks, under the key of this number.
 pub(crate) fn ask_of(alloc: Global, text: &str, number: u32) -> Result<Ask, AllocError> {
     let (text, ms) = text.split_once('@').unwrap_or((text, ""));
     let ms = if ms.is_empty() { USUAL } else { number_of(ms) };

@@ -1,19 +1,12 @@
 //! What the images of a crash hold.
+use crate::words::put;
 use farm_disk::{CalmDisk, MemDisk};
 use farm_entry::Entry;
+use farm_journal::Journal;
 use farm_store::{OpeningFault, Store};
-use std::alloc::Global;
+use std::alloc::{AllocError, Global};
 
-// How many entries an image holds, where it is sound and they are the first ones of a history: none where it is unborn.
-fn held(alloc: Global, image: Vec<u8>, whole: &[Entry]) -> Option<usize> {
-    match Store::open_on(alloc, CalmDisk::of(image)) {
-        Ok(store) => begins(whole, store.history()),
-        Err((_, OpeningFault::Unborn)) => Some(0),
-        Err(_) => None,
-    }
-}
-
-// How many entries there are, where a history begins with them.
+/// How many entries there are, where a history begins with them.
 fn begins(whole: &[Entry], history: &[Entry]) -> Option<usize> {
     let front = whole.get(..history.len())?;
     if front == history {
@@ -23,6 +16,25 @@ fn begins(whole: &[Entry], history: &[Entry]) -> Option<usize> {
     }
 }
 
+/// How many entries an image holds, where it is sound and they are the first ones of a history: none where it is unborn.
+fn held(alloc: Global, image: Vec<u8>, whole: &[Entry]) -> Option<usize> {
+    match Store::open_on(alloc, CalmDisk::of(image)) {
+        Ok(store) => {
+            let count = begins(whole, store.history());
+            let _disk = store.into_disk();
+            count
+        }
+        Err((_disk, fault)) => {
+            if fault == OpeningFault::Unborn {
+                Some(0)
+            } else {
+                None
+            }
+        }
+    }
+}
+
+/// How many entries the image of this size holds, with these bytes wherever any may stand.
 fn held_in_image(
     alloc: Global,
     disk: &MemDisk,
@@ -37,47 +49,56 @@ fn held_in_image(
 }
 
 /// The least and the greatest number of entries in the images of the least and of the greatest size, with 0 and with 7
-/// wherever any byte may stand, where all are sound and hold the first entries of a history.
+/// wherever any byte may stand, where all are sound and hold the first entries of a history; where no part is wanted, all
+/// or none of it.
 pub(crate) fn held_in_images(
     alloc: Global,
     disk: &MemDisk,
+    parts: bool,
     whole: &[Entry],
 ) -> Option<(usize, usize)> {
-    let low_0 = held_in_image(alloc, disk, 0, 0, whole)?;
-    let low_7 = held_in_image(alloc, disk, 0, 7, whole)?;
-    let high_0 = held_in_image(alloc, disk, u64::MAX, 0, whole)?;
-    let high_7 = held_in_image(alloc, disk, u64::MAX, 7, whole)?;
-    Some((
-        low_0.min(low_7).min(high_0).min(high_7),
-        low_0.max(low_7).max(high_0).max(high_7),
-    ))
-}
-
-/// Whether an image holds a whole history, or none where so few entries are sure: it is unborn then.
-fn holds_so(
-    alloc: Global,
-    disk: &MemDisk,
-    size: u64,
-    fill: u8,
-    sure: usize,
-    whole: &[Entry],
-) -> bool {
-    match held_in_image(alloc, disk, size, fill, whole) {
-        Some(0) => sure == 0,
-        Some(count) => count == whole.len(),
-        None => false,
+    let mut least = whole.len();
+    let mut most = 0;
+    for (size, fill) in [(0, 0), (0, 7), (u64::MAX, 0), (u64::MAX, 7)] {
+        let count = held_in_image(alloc, disk, size, fill, whole)?;
+        if !parts && count > 0 && count < whole.len() {
+            return None;
+        }
+        least = least.min(count);
+        most = most.max(count);
     }
+    Some((least, most))
 }
 
-/// Whether each of those images holds a whole history, or, where no entry is sure, none.
-pub(crate) fn holds_all_or_none(
+/// Puts behind a line how many payloads a file has, and these numbers of entries.
+fn put_counts(
     alloc: Global,
-    disk: &MemDisk,
-    sure: usize,
-    whole: &[Entry],
-) -> bool {
-    holds_so(alloc, disk, 0, 0, sure, whole)
-        && holds_so(alloc, disk, 0, 7, sure, whole)
-        && holds_so(alloc, disk, u64::MAX, 0, sure, whole)
-        && holds_so(alloc, disk, u64::MAX, 7, sure, whole)
+    out: &mut String,
+    disk: CalmDisk,
+    held: Option<(usize, usize)>,
+    entries: usize,
+) -> Result<(), AllocError> {
+    if let Some((least, most)) = held {
+        put(out, "images ", least as u64)?;
+        put(out, "-", most as u64)?;
+    }
+    if let Ok((_, payloads)) = Journal::open_on(alloc, disk) {
+        put(out, "; payloads ", payloads.len() as u64)?;
+    }
+    put(out, "; entries ", entries as u64)
+}
+
+/// Puts behind a line what the file of a store holds: its entries and payloads, and the entries of the images of a crash.
+pub(crate) fn put_held(alloc: Global, out: &mut String, disk: &MemDisk) -> Result<(), AllocError> {
+    let Ok(image) = disk.image(u64::MAX, 0) else {
+        return Err(AllocError);
+    };
+    match Store::open_on(alloc, CalmDisk::of(image)) {
+        Ok(store) => {
+            let held = held_in_images(alloc, disk, true, store.history());
+            let entries = store.history().len();
+            put_counts(alloc, out, store.into_disk(), held, entries)
+        }
+        Err((_disk, _fault)) => out.push_str("damaged"),
+    }
 }

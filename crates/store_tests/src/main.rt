@@ -1,51 +1,58 @@
-//! Plays the cases of standard input over stores in memory, and prints what each comes to. A case is a line: a word,
-//! and what the word asks for. A line that begins with `#` is printed as it is. The file `stdout` has what is wanted;
-//! it was worked out by hand.
+//! Plays the cases of standard input over stores in memory, and prints what each comes to. A case is a line: a word, the
+//! disk that it is about, and what is done there.
+//!
+//! - `found FILE` and `inherit FILE ORDERS` found a store on a disk with these bytes, and print them as they are then;
+//!   `open FILE` opens one.
+//! - `asks FAILS SCRIPT` asks a founded store what a script says, over a disk of which these calls fail, and prints
+//!   what its file and the images of a crash hold then; `asks_east` does so of one with other settings.
+//! - `close SCRIPT; SCRIPT` closes the farm that the first script leaves, closes it again at a later moment, and asks
+//!   it the second script.
+//! - `faults FILE BEGIN SCRIPT` lets each call of the disk fail in turn; `close_faults SCRIPT` does so while the farm
+//!   that a script leaves is closed.
+//!
+//! How a store is begun is said in [`stores`], and what a script asks in [`asks`]. A line that begins with `#` is printed
+//! as it is. The file `stdout` has what is wanted; it was worked out by hand.
 #![tactic(auto)]
 
-mod closing;
+mod asks;
+mod cases;
 mod commands;
 mod faults;
 mod images;
-mod inheriting;
-mod openings;
-mod plays;
-mod sharing;
+mod replies;
+mod stores;
 mod words;
 
-use closing::{play_close, play_close_faults};
+use cases::{play_asks, play_close, play_close_faults, play_found, play_inherit, play_open};
 use faults::play_faults;
-use inheriting::{play_inherit, play_inherit_faults};
-use openings::play_open;
-use plays::{play_batches, play_calls, play_found};
-use sharing::play_together;
-use std::alloc::Global;
+use std::alloc::{AllocError, Global};
 use std::io;
-use words::word;
+use words::{bytes_of, word};
 
-fn play(rt: &impl Print, alloc: Global, line: &str) -> io::Result<()> {
+/// Plays a case, and puts what it comes to behind a line.
+fn play(alloc: Global, out: &mut String, line: &str) -> Result<(), AllocError> {
     let (name, rest) = word(line);
     let (first, second) = word(rest);
+    let (how, script) = word(second);
     match name {
-        "found" => play_found(rt, alloc, rest),
-        "open" => play_open(rt, alloc, rest),
-        "calls" => play_calls(rt, alloc, first, second),
-        "batches" => play_batches(rt, alloc, first, second),
-        "together" => play_together(rt, alloc, first, second),
-        "calls_with_faults" => play_faults(rt, alloc, false, first, second),
-        "batches_with_faults" => play_faults(rt, alloc, true, first, second),
-        "close" => play_close(rt, alloc, rest),
-        "close_with_faults" => play_close_faults(rt, alloc, rest),
-        "inherit" => play_inherit(rt, alloc, first, second),
-        "inherit_with_faults" => play_inherit_faults(rt, alloc, first, second),
-        _ => println!(rt; "{line}"),
+        "found" => play_found(alloc, out, first, "found"),
+        "inherit" => play_inherit(alloc, out, first, second),
+        "open" => play_open(alloc, out, first),
+        "asks" => play_asks(alloc, out, "found", first, second),
+        "asks_east" => play_asks(alloc, out, "east", first, second),
+        "close" => play_close(alloc, out, rest),
+        "faults" => play_faults(alloc, out, &bytes_of(alloc, first), how, script),
+        "close_faults" => play_close_faults(alloc, out, rest),
+        _ => out.push_str(line),
     }
 }
 
 fn main(rt: HostRuntime) -> io::Result<()> {
     let text = io::read_to_string(rt.alloc(), rt.reader())?;
     for line in text.as_str().strip_suffix("\n").unwrap_or("").split('\n') {
-        play(&rt, rt.alloc(), line)?;
+        let mut out = String::new(rt.alloc());
+        play(rt.alloc(), &mut out, line)?;
+        println!(rt; "{}", out.as_str())?;
     }
     Ok(())
 }

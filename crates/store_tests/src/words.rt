@@ -1,4 +1,4 @@
-//! The words of a case.
+//! The words of a case, and what is put behind a line.
 use farm_disk::DiskFail;
 use std::alloc::{AllocError, Global};
 
@@ -20,14 +20,31 @@ pub(crate) fn bytes_of(alloc: Global, digits: &str) -> Vec<u8> {
     }
 }
 
-/// The calls of the disk that are to fail: their numbers with commas between, or `-` for none. No byte goes through.
-pub(crate) fn fails_of(alloc: Global, text: &str) -> Result<Vec<DiskFail>, AllocError> {
+/// A list of one call of a disk that is to fail.
+pub(crate) fn fail_at(alloc: Global, fail: DiskFail) -> Result<Vec<DiskFail>, AllocError> {
     let mut fails = Vec::new(alloc);
-    for call in text.split(',') {
-        fails.push(DiskFail {
-            call: u64::from(number_of(call)),
-            kept: 0,
-        })?;
-    }
+    fails.push(fail)?;
     Ok(fails)
+}
+
+/// The calls of a disk that are to fail: at most two numbers, with a comma between, or `-` for none. No byte goes
+/// through. Calls are numbered from 1, so that number 0 never fails.
+pub(crate) fn fails_of(alloc: Global, text: &str) -> Result<Vec<DiskFail>, AllocError> {
+    let (first, second) = text.split_once(',').unwrap_or((text, ""));
+    let call = u64::from(number_of(first));
+    let mut fails = fail_at(alloc, DiskFail { call, kept: 0 })?;
+    let call = u64::from(number_of(second));
+    fails.push(DiskFail { call, kept: 0 })?;
+    Ok(fails)
+}
+
+/// Puts a text and a number behind a line.
+pub(crate) fn put(out: &mut String, text: &str, number: u64) -> Result<(), AllocError> {
+    write!(out, "{text}{number}")
+}
+
+/// Puts the digits of bytes behind a line.
+pub(crate) fn put_bytes(alloc: Global, out: &mut String, bytes: &[u8]) -> Result<(), AllocError> {
+    let digits = hex::encode(alloc, bytes)?;
+    out.push_str(digits.as_str())
 }
