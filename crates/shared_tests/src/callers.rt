@@ -192,7 +192,8 @@ fn ask_all<R: Wait>(
     if asks.is_empty() || asks.len() > MAX_BATCH {
         return false;
     }
-    match farm.call_batch(rt, alloc, pass, asks).0 {
+    let (answered, _) = farm.call_batch(rt, alloc, pass, asks);
+    match answered {
         Ok(answers) => is_answered(answers.as_slice()),
         Err(_) => false,
     }

@@ -7,7 +7,7 @@ use crate::callers::{is_answered, is_legal};
 use crate::counts::leases_of;
 use crate::missed::{Missed, failed, missed_founding};
 use crate::slow_disk::SlowDisk;
-use farm_disk::DatedDisk;
+use farm_disk::{DatedDisk, Disk};
 use farm_entry::{Entry, Settings};
 use farm_store::{Ask, CallFault, MAX_BATCH, Store};
 use shared_farm::{Pass, SharedFarm, TotalsReader};
@@ -61,7 +61,8 @@ fn ask<R: Wait, D: DatedDisk>(
     if asks.is_empty() || asks.len() > MAX_BATCH {
         return Ok(false);
     }
-    match farm.call_batch(rt, alloc, pass, asks).0 {
+    let (answered, _) = farm.call_batch(rt, alloc, pass, asks);
+    match answered {
         Ok(answers) => Ok(is_answered(answers.as_slice())),
         Err(fault) => Err(fault),
     }
