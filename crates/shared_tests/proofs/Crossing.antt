@@ -15,7 +15,7 @@ use Rattle.shared_farm.proofs.Crossing.{shared_farm-sync, along}
 calm_disk-send : IsSend CalmDisk.the_row
 calm_disk-send = search (told_list-send, sendable, crosses) depth 20
 
-passed-send : IsSend Passed.the_row
+pub passed-send : IsSend Passed.the_row
 passed-send = search (told_list-send, sendable, crosses) depth 20
 
 brand-send : IsSend Brand.the_row

@@ -4,9 +4,10 @@ ghost use Rattle.turn_lock.specs.Known.{IsReady};
 use crate::asks::moment;
 use crate::missed::{Missed, failed, missed_call};
 use crate::passes::founded;
-use farm_disk::{CalmDisk, DatedDisk, Disk};
+use farm_disk::{CalmDisk, DatedDisk};
 use farm_entry::{Command, Reply};
 use file_disk::{FileDisk, Opening};
+use past_moments::Passed;
 use shared_farm::{Pass, SharedFarm};
 use std::alloc::Global;
 use std::sync::Wait;
@@ -15,7 +16,7 @@ use std::thread;
 use std::thread::Threads;
 
 /// How many entries the farm shows.
-fn show<D: DatedDisk, R: Wait>(
+fn show<D: DatedDisk<Over = Passed>, R: Wait>(
     rt: &R,
     alloc: Global,
     farm: &SharedFarm<D>,
@@ -35,7 +36,7 @@ fn show<D: DatedDisk, R: Wait>(
 }
 
 /// How many entries the farm shows to two callers together.
-fn show_to_two<D: DatedDisk + Drop + Send, R: Threads + Wait + Sync>(
+fn show_to_two<D: DatedDisk<Over = Passed> + Drop + Send, R: Threads + Wait + Sync>(
     rt: &R,
     alloc: Global,
     farm: &SharedFarm<D>,
@@ -54,7 +55,7 @@ fn show_to_two<D: DatedDisk + Drop + Send, R: Threads + Wait + Sync>(
 }
 
 /// The same of a farm that is founded on a disk.
-fn shown<D: DatedDisk + Drop + Send, R: Threads + Wait + Sync>(
+fn shown<D: DatedDisk<Over = Passed> + Drop + Send, R: Threads + Wait + Sync>(
     rt: &R,
     alloc: Global,
     disk: D,

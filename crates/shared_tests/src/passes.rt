@@ -3,7 +3,7 @@ ghost use Rattle.turn_lock.specs.Known.{IsReady};
 
 use crate::asks::{key, lease, moment, open_four};
 use crate::missed::{Missed, failed, missed_call, missed_founding};
-use farm_disk::{CalmDisk, DatedDisk};
+use farm_disk::{CalmDisk, Disk};
 use farm_entry::{Command, Reply, Settings};
 use farm_store::Store;
 use shared_farm::{Pass, SharedFarm, TotalsReader};
@@ -33,7 +33,7 @@ struct Seen {
 }
 
 /// A store that was founded on a disk.
-pub(crate) fn founded<D: DatedDisk + Drop>(alloc: Global, disk: D) -> Result<Store<D>, Missed> {
+pub(crate) fn founded<D: Disk + Drop>(alloc: Global, disk: D) -> Result<Store<D>, Missed> {
     let Ok(settings) = Settings::of(LEASE_MS, 10, 0) else {
         return Err(Missed::Reply);
     };

@@ -10,6 +10,7 @@ use crate::slow_disk::SlowDisk;
 use farm_disk::{DatedDisk, Disk};
 use farm_entry::{Entry, Settings};
 use farm_store::{Ask, CallFault, MAX_BATCH, Store};
+use past_moments::Passed;
 use shared_farm::{Pass, SharedFarm, TotalsReader};
 use std::alloc::Global;
 use std::sync::Wait;
@@ -48,7 +49,7 @@ fn batch(alloc: Global, caller: u64, number: u64, entries: u64) -> Option<Vec<As
 }
 
 /// Asks a batch, and answers whether its replies are as they should be.
-fn ask<R: Wait, D: DatedDisk>(
+fn ask<R: Wait, D: DatedDisk<Over = Passed>>(
     rt: &R,
     alloc: Global,
     farm: &SharedFarm<D>,
@@ -70,7 +71,7 @@ fn ask<R: Wait, D: DatedDisk>(
 
 /// Asks a batch, and the same again where the disk failed. Answers how often it did, where the replies are as they
 /// should be.
-fn ask_again<R: Wait, D: DatedDisk>(
+fn ask_again<R: Wait, D: DatedDisk<Over = Passed>>(
     rt: &R,
     alloc: Global,
     farm: &SharedFarm<D>,
@@ -91,7 +92,7 @@ fn ask_again<R: Wait, D: DatedDisk>(
 }
 
 /// One batch of a caller.
-fn step<R: Wait, D: DatedDisk>(
+fn step<R: Wait, D: DatedDisk<Over = Passed>>(
     rt: &R,
     alloc: Global,
     farm: &SharedFarm<D>,
@@ -116,7 +117,7 @@ fn sum(first: Option<u64>, second: Option<u64>) -> Option<u64> {
 
 /// So many batches of a caller, one after the other, each at a moment by the totals. Answers how often the disk failed
 /// it, where each reply is as it should be.
-fn play<R: Wait, D: DatedDisk>(
+fn play<R: Wait, D: DatedDisk<Over = Passed>>(
     rt: &R,
     alloc: Global,
     farm: &SharedFarm<D>,
@@ -142,7 +143,7 @@ fn play<R: Wait, D: DatedDisk>(
 }
 
 /// The same with a reader of the caller's own.
-fn call_all<R: Wait, D: DatedDisk>(
+fn call_all<R: Wait, D: DatedDisk<Over = Passed>>(
     rt: &R,
     alloc: Global,
     farm: &SharedFarm<D>,
@@ -161,7 +162,7 @@ fn call_all<R: Wait, D: DatedDisk>(
 }
 
 /// Two callers.
-fn call_by_two<D: DatedDisk + Drop + Send, R: Threads + Wait + Sync>(
+fn call_by_two<D: DatedDisk<Over = Passed> + Drop + Send, R: Threads + Wait + Sync>(
     rt: &R,
     alloc: Global,
     farm: &SharedFarm<D>,
@@ -184,7 +185,7 @@ fn call_by_two<D: DatedDisk + Drop + Send, R: Threads + Wait + Sync>(
 }
 
 /// Four callers.
-fn call_by_four<D: DatedDisk + Drop + Send, R: Threads + Wait + Sync>(
+fn call_by_four<D: DatedDisk<Over = Passed> + Drop + Send, R: Threads + Wait + Sync>(
     rt: &R,
     alloc: Global,
     farm: &SharedFarm<D>,
@@ -211,7 +212,7 @@ fn call_by_four<D: DatedDisk + Drop + Send, R: Threads + Wait + Sync>(
 }
 
 /// A store that was founded on a disk.
-fn founded<D: DatedDisk + Drop>(alloc: Global, disk: D) -> Result<Store<D>, Missed> {
+fn founded<D: Disk + Drop>(alloc: Global, disk: D) -> Result<Store<D>, Missed> {
     let Ok(settings) = Settings::of(LEASE_MS, 10, 0) else {
         return Err(Missed::Reply);
     };
@@ -225,7 +226,7 @@ fn founded<D: DatedDisk + Drop>(alloc: Global, disk: D) -> Result<Store<D>, Miss
 }
 
 /// Whether a search is opened.
-fn is_opened<R: Wait, D: DatedDisk>(
+fn is_opened<R: Wait, D: DatedDisk<Over = Passed>>(
     rt: &R,
     alloc: Global,
     farm: &SharedFarm<D>,
@@ -244,7 +245,7 @@ fn is_opened<R: Wait, D: DatedDisk>(
 }
 
 /// A search that is opened, and the batches of four callers, or as many of one.
-fn open_and_call<D: DatedDisk + Drop + Send, R: Threads + Wait + Sync>(
+fn open_and_call<D: DatedDisk<Over = Passed> + Drop + Send, R: Threads + Wait + Sync>(
     rt: &R,
     alloc: Global,
     farm: &SharedFarm<D>,
@@ -266,7 +267,7 @@ fn open_and_call<D: DatedDisk + Drop + Send, R: Threads + Wait + Sync>(
 }
 
 /// The store after all batches, and how often the disk failed a caller, where each reply was as it should be.
-fn played<D: DatedDisk + Drop + Send, R: Threads + Wait + Sync>(
+fn played<D: DatedDisk<Over = Passed> + Drop + Send, R: Threads + Wait + Sync>(
     rt: &R,
     alloc: Global,
     store: Store<D>,
