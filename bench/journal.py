@@ -5,8 +5,9 @@ share of its time for which `run` had the processor.
 
     bench/journal.py [FOLDER [LEASES]]        1000 leases in the folder for temporary files, if not said
 
-Run it after `./finder build`. The two programs are run in turn, each timed from its start to its end. What a sync takes is
-the disk's: on a folder in memory it is nothing, and what `run` takes there is the processor's work alone.
+Run it after `./finder build`; FINDER names another program than that. The two programs are run in turn, each timed from
+its start to its end. What a sync takes is the disk's: on a folder in memory it is nothing, and what `run` takes there
+is the processor's work alone.
 """
 import json
 import os
@@ -18,7 +19,7 @@ import tempfile
 import time
 
 ROOT = os.path.dirname(os.path.dirname(os.path.abspath(__file__)))
-PROGRAM = os.path.join(ROOT, "crates", "culprit_finder", "out", "culprit_finder")
+PROGRAM = os.environ.get("FINDER", os.path.join(ROOT, "crates", "culprit_finder", "out", "culprit_finder"))
 # In 2096: a farm takes no moment before that of its founding, which is the clock's.
 START = 4_000_000_000_000
 LEASE_MS = 60_000

@@ -2,7 +2,8 @@
 """Times `judge` on large searches, and prints seconds and peak memory. Where runs are counted it times a plain judge in
 C beside it (plain_judge.c, built here by `cc`), and prints the ratio of the two.
 
-Run it after `./finder build`. Each input is made here by rule, so two runs measure the same work.
+Run it after `./finder build`; FINDER names another program than that. Each input is made here by rule, so two runs
+measure the same work.
 """
 import os
 import select
@@ -12,7 +13,7 @@ import tempfile
 import time
 
 ROOT = os.path.dirname(os.path.dirname(os.path.abspath(__file__)))
-PROGRAM = os.path.join(ROOT, "crates", "culprit_finder", "out", "culprit_finder")
+PROGRAM = os.environ.get("FINDER", os.path.join(ROOT, "crates", "culprit_finder", "out", "culprit_finder"))
 JUDGE = [PROGRAM, "judge"]
 
 

@@ -4,8 +4,9 @@ journal holds then: `show` opens it, and each line whose reply was read is in it
 
     bench/kill.py [FOLDER [TIMES [SEED]]]        500 times in the folder for temporary files, if not said
 
-Run it after `./finder build`. That an entry is there is seen by sending its line again: a line that is known gets its
-first reply. What a kill can't show is what the disk itself would keep at a loss of power.
+Run it after `./finder build`; FINDER names another program than that. That an entry is there is seen by sending its
+line again: a line that is known gets its first reply. What a kill can't show is what the disk itself would keep at a
+loss of power.
 """
 import json
 import os
@@ -17,7 +18,7 @@ import threading
 import time
 
 ROOT = os.path.dirname(os.path.dirname(os.path.abspath(__file__)))
-PROGRAM = os.path.join(ROOT, "crates", "culprit_finder", "out", "culprit_finder")
+PROGRAM = os.environ.get("FINDER", os.path.join(ROOT, "crates", "culprit_finder", "out", "culprit_finder"))
 # In 2096: a farm takes no moment before that of its founding, which is the clock's.
 START = 4_000_000_000_000
 LINES = 200

@@ -1,14 +1,14 @@
 #!/usr/bin/env python3
-"""Times `show` over a journal of a million entries, and prints seconds, microseconds an entry, the peak of memory, and
-the size of the file.
+"""Times `show` over a journal of a million entries, and prints seconds, those of the processor, the peak of memory in
+bytes an entry, those that a service over it keeps once it listens, and the size of the file.
 
     bench/million.py [FOLDER [ENTRIES ..]]        1000000 entries in the folder for temporary files, if not said
 
 Run it after `./finder build`. The journal is written here, an entry a record, in the form that docs/FORMATS.md says, as
-`run JOURNAL` would take too long for it. It has rounds: searches are opened, their runs are leased, and leased again when
-they expire, and then all are reported: the first passes at its position, and the fails after it change no weight. Then
-the searches are cancelled. Each time is the least of some runs. After it one more lease is asked for, by `run` on a
-copy: a farm of a million entries is full.
+`run JOURNAL` would take too long for it. It has rounds: searches are opened, their runs are leased, and leased again
+when they expire, and then all are reported: the first passes at its position, and the fails after it change no weight.
+Then the searches are cancelled. Each time is the least of some runs. After it one more lease is asked for, by `run` on
+a copy: a farm of a million entries is full.
 """
 import json
 import os
@@ -20,7 +20,7 @@ import tempfile
 import time
 
 import journal
-import opening
+from service import Farm
 
 TURNS = 3
 FOUNDED = 1_000_000_000_000
@@ -76,9 +76,9 @@ def open_search(to):
     to.entry(2, head + counts + suspects + struct.pack(">HHHHBB", 1, 10, 9, 10, 1, 1))
 
 
-def lease(to, search, position=POSITION):
+def lease(to, search, position=None):
     to.runs += 1
-    numbers = struct.pack(">IIBHQ", to.runs, search, 1, position, to.at + LEASE_MS)
+    numbers = struct.pack(">IIBHQ", to.runs, search, 1, position or POSITION, to.at + LEASE_MS)
     to.entry(3, to.next_key() + name(b"bot") + numbers)
 
 
@@ -130,6 +130,31 @@ def show_more(path, written):
         print("  " + line)
 
 
+def least(path):
+    """The least seconds of `show`, the least of the processor's, and the most bytes of memory."""
+    turns = []
+    for _ in range(TURNS):
+        began = time.monotonic()
+        child = subprocess.Popen([journal.PROGRAM, "show", path], stdout=subprocess.DEVNULL)
+        _, status, usage = os.wait4(child.pid, 0)
+        turns.append((time.monotonic() - began, usage.ru_utime + usage.ru_stime))
+    command = ["/usr/bin/time", "-f", "%M", journal.PROGRAM, "show", path]
+    told = subprocess.run(command, check=True, stdout=subprocess.DEVNULL, stderr=subprocess.PIPE, text=True)
+    return min(turn[0] for turn in turns), min(turn[1] for turn in turns), int(told.stderr) * 1024
+
+
+def resident(path, folder):
+    """The bytes of memory of a service over a copy of the journal, once it listens."""
+    farm = Farm(folder=folder)
+    shutil.copy(path, farm.journal)
+    farm.start()
+    try:
+        return farm.memory() * 1024
+    finally:
+        farm.kill()
+        os.remove(farm.journal)
+
+
 def main():
     words = sys.argv[1:]
     where = words[0] if words else None
@@ -142,10 +167,11 @@ def main():
             page = json.loads(shown.stdout.splitlines()[0]) if shown.returncode == 0 else {}
             if page.get("entries") != entries:
                 sys.exit(f"million.py: show ended with {shown.returncode}")
-            least = min(opening.seconds(path) for _ in range(TURNS))
-            size = os.path.getsize(path)
-            print(f"{entries} entries, {written.searches} searches, {size} bytes: {least:.3f} s, "
-                  f"{least / entries * 1e6:.2f} us an entry, {opening.kilobytes(path) / 1024:.0f} MiB", flush=True)
+            seconds, spent, most = least(path)
+            kept = resident(path, folder)
+            print(f"{entries} entries, {written.searches} searches, {os.path.getsize(path)} bytes: {seconds:.3f} s,"
+                  f" {spent:.3f} of the processor; bytes of memory an entry: {most / entries:.0f} at most,"
+                  f" {kept / entries:.0f} in a service", flush=True)
             copy = os.path.join(folder, "copy")
             shutil.copy(path, copy)
             show_more(copy, written)

@@ -1,5 +1,5 @@
 //! Threads that take turns at a number.
-ghost use Rattle.std.specs.Prelude.{◌≡◌, []};
+ghost use Rattle.std.specs.Prelude.{◌≡◌, ◌<◌, []};
 ghost use Rattle.turn_lock.specs.Known.{IsReady};
 
 use std::alloc::Global;
@@ -59,7 +59,7 @@ fn raise_by_two<R: Threads + Wait + Sync>(
     pass: Pass,
     turns: u64,
 ) -> Pass
-    requires { IsReady lock.now pass }
+    requires { IsReady lock.now pass × (1 < pass.stake.parts) }
     ensures { IsReady lock.entry.now result }
 {
     let mut pass = pass;
@@ -91,6 +91,7 @@ fn raise_for_both<R: Wait>(rt: &R, lock: &TurnLock<Counter>, pass: &mut Pass, ne
     requires pass { IsReady lock.now pass.old }
     requires next { IsReady lock.now next.old }
     ensures pass { IsReady lock.entry.now pass.new }
+    ensures parts { pass.new.stake.parts ≡ pass.old.stake.parts }
     ensures next { IsReady lock.entry.now next.new }
 {
     let mut turn = lock.turn(rt, pass);
@@ -106,7 +107,7 @@ fn wait_behind<R: Threads + Wait + Sync + Clock>(
     lock: &TurnLock<Counter>,
     pass: Pass,
 ) -> Pass
-    requires { IsReady lock.now pass }
+    requires { IsReady lock.now pass × (1 < pass.stake.parts) }
     ensures { IsReady lock.entry.now result }
 {
     let mut pass = pass;

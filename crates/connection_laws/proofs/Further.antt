@@ -13,6 +13,7 @@ use Rattle.connection_laws.specs.Held.{HeldFrom}
 use Rattle.connection_laws.specs.Kinds.{Kind, faulty, commands, totals, log, kind_of}
 use Rattle.connection_laws.specs.Marks.{Mark}
 use Rattle.connection_laws.specs.Outcomes.{Outcome, faulted, misread, answered, counted, copied, failed, failed_too, unread, uncalled, Step}
+use Rattle.connection_laws.specs.Owners.{Holding}
 use Rattle.connection_laws.specs.Progress.{Progress, IsWithin, progress_after, progress_past, recorded_place, recorded_places}
 use Rattle.connection_laws.specs.Serving.{HasPassed, IsKept, IsStopped, IsWaiting, OnReadFault}
 use Rattle.connection_laws.specs.declared.served.ServeFault.{ServeFault}
@@ -20,7 +21,8 @@ use Rattle.connection_laws.specs.Steps.{AreSteps, IsStep, MayComeTo}
 use Rattle.connection_laws.specs.Told.{AreSaid, Saying, if_put}
 use Rattle.connection_laws.proofs.Said.{AreSaid-append, AreSaid-unput}
 use Rattle.connection_laws.proofs.Transcripts.{transcript-append}
-use Rattle.connection_laws.proofs.Progress.{progress_after-append, recorded_places-append, steps-append}
+use Rattle.connection_laws.proofs.Owners.{HoldsMore-append, HoldsMore-nothing}
+use Rattle.connection_laws.proofs.Progress.{progress_after-append, steps-append}
 
 -- a step to which an item of this kind may come, whatever the farm does
 abbrev pub further_step : Progress → Kind → Step
@@ -80,6 +82,7 @@ further-within c (item ∷ items) final w =
     let same = kept.faults in let low = w.faults in
     further-within next items final (record {
       seen = subst (λ (H : List Entry). IsPrefix H final.seen) (sym kept.seen) w.seen;
+      totals = subst (λ (H : List Entry). IsPrefix H final.totals) (sym kept.totals) w.totals;
       faults = subst (λ (n : ℕ). n ≤ final.faults) (sym same) low;
     })
 
@@ -164,19 +167,15 @@ with_further-told gives said start put items more steps g p told =
     (further_steps (progress_after start steps) more) (omega (arith, le)))
 
 -- they record nothing, and the totals stay
-pub with_further-kept : (start : Progress) (steps : List Step) (more : List Item) (mine kept : List ℕ)
+pub with_further-kept : (start : Progress) (steps : List Step) (more : List Item) (mine kept : Holding)
     (read : List Entry)
     → IsKept start steps mine kept read → IsKept start (with_further start steps more) mine kept read
 with_further-kept start steps more mine kept read k =
     let c = progress_after start steps in
     let rest = further_steps c more in
     record {
-      places =
-          k.places
-          ∙ ap (λ (l : List ℕ). mine ++ l)
-          (sym
-          (recorded_places-append steps rest ∙ ap (λ (l : List ℕ). recorded_places steps ++ l) (further-places c more)
-          ∙ append-nil (recorded_places steps)));
+      holds = HoldsMore-append steps rest mine kept kept k.holds
+          (HoldsMore-nothing rest kept kept (further-places c more) refl);
       counted =
           k.counted
           ∙ sym (ap (λ (d : Progress). d.totals) (progress_after-append start steps rest) ∙ further-totals c more);
@@ -201,7 +200,7 @@ further-held start final gives said taken put over items more steps end i g lega
 -- The serving stopped there.
 pub further-stopped : (fault : ServeFault) (start : Progress) (final : Mark) (gives : Given → Type 0)
     (said : Saying) (old new : LinkState) (taken put : List ℕ)
-    (items more : List Item) (steps : List Step) (end : End) (mine kept : List ℕ) (read : List Entry)
+    (items more : List Item) (steps : List Step) (end : End) (mine kept : Holding) (read : List Entry)
     → HasPassed old new taken put → length taken ≤ INPUT_LIMIT
     → Items taken (items ++ more) end → AreSteps gives start items steps → IsLegal start.totals
     → IsWithin (progress_after start steps) final → IsPrefix put (transcript items steps)

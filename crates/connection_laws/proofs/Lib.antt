@@ -5,8 +5,8 @@ pub mod Further
 pub mod Loop
 pub mod Moments
 pub mod Noting
+pub mod Owners
 pub mod Progress
 pub mod Said
 pub mod Serving
-pub mod Short
 pub mod Transcripts

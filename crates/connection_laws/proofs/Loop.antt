@@ -23,8 +23,8 @@ use Rattle.connection_laws.proofs.Transcripts.{transcript-append}
 -- ---- what is held
 
 -- later marks
-pub held-longer : (start : Progress) (final later : Mark) (gives : Given → Type 0) (said : Saying) (taken put : List ℕ)
-    (over whole : Bool)
+unfoldable pub held-longer : (start : Progress) (final later : Mark) (gives : Given → Type 0) (said : Saying)
+    (taken put : List ℕ) (over whole : Bool)
     → Follows final later → HeldFrom start final gives said taken put over whole
     → HeldFrom start later gives said taken put over whole
 held-longer start final later gives said taken put over whole f h = record {
@@ -37,8 +37,8 @@ held-longer start final later gives said taken put over whole f h = record {
 }
 
 -- earlier marks
-pub held-earlier : (early start : Progress) (final : Mark) (gives : Given → Type 0) (said : Saying) (taken put : List ℕ)
-    (over whole : Bool)
+unfoldable pub held-earlier : (early start : Progress) (final : Mark) (gives : Given → Type 0) (said : Saying)
+    (taken put : List ℕ) (over whole : Bool)
     → IsBefore early start → HeldFrom start final gives said taken put over whole
     → HeldFrom early final gives said taken put over whole
 held-earlier early start final gives said taken put over whole b h = record {
@@ -93,9 +93,10 @@ held-follows start final gives said taken put over whole h =
     let end = progress_after start h.steps in
     let low = progress_after-count gives start h.items h.steps h.are_steps in
     let high = h.ends.faults in
+    let longer = progress_after-longer gives start h.items h.steps h.are_steps in
     record {
-      seen = IsPrefix-trans start.seen end.seen final.seen
-          (progress_after-longer gives start h.items h.steps h.are_steps).0 h.ends.seen;
+      seen = IsPrefix-trans start.seen end.seen final.seen longer.0 h.ends.seen;
+      totals = IsPrefix-trans start.totals end.totals final.totals longer.1 h.ends.totals;
       faults = omega arith;
     }
 
@@ -204,11 +205,12 @@ so_far-whole start final gives said taken put over items more steps rest end s i
 -- ---- the empty start
 
 start_within : (start final : Mark) → Follows start final → IsWithin (progress_at start) final
-start_within start final f = record { seen = f.longer; faults = f.more }
+start_within start final f = record { seen = f.longer; totals = f.counted; faults = f.more }
 
 pub held-none : (start final : Mark) (gives : Given → Type 0) (said : Saying) (taken : List ℕ) (over : Bool)
     (items : List Item) (end : End)
-    → Items taken items end → IsLegal start.seen → Follows start final → Held start final gives said taken [] over false
+    → Items taken items end → IsLegal start.totals → Follows start final → Held start final gives said taken [] over
+    false
 held-none start final gives said taken over items end i legal f =
     further-held (progress_at start) final gives said taken [] over [] items [] end i tt legal
     (start_within start final f) (IsPrefix-refl []) tt
@@ -230,8 +232,8 @@ held-silent start final gives said f = record {
 }
 
 -- what is said of answers may be something weaker of each history that begins the one at exit
-pub held-said : (start : Progress) (final : Mark) (gives : Given → Type 0) (said other : Saying) (taken put : List ℕ)
-    (over whole : Bool)
+unfoldable pub held-said : (start : Progress) (final : Mark) (gives : Given → Type 0) (said other : Saying)
+    (taken put : List ℕ) (over whole : Bool)
     → ((place : ℕ) (H : List Entry) → IsPrefix H final.seen → said place H → other place H)
     → HeldFrom start final gives said taken put over whole → HeldFrom start final gives other taken put over whole
 held-said start final gives said other taken put over whole weaker h = record {

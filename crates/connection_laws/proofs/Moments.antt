@@ -45,7 +45,7 @@ module _ (gives other : Given → Type 0) (more : (given : Given) → gives give
     steps-more (progress_past c step.outcome) items steps g.1,
   )
 
-  pub held-more : (start : Progress) (final : Mark) (said : Saying) (taken put : List ℕ) (over whole : Bool)
+  unfoldable pub held-more : (start : Progress) (final : Mark) (said : Saying) (taken put : List ℕ) (over whole : Bool)
       → HeldFrom start final gives said taken put over whole → HeldFrom start final other said taken put over whole
   held-more start final said taken put over whole h = record {
     items = h.items;

@@ -122,12 +122,20 @@ progress_after-before c d (step ∷ steps) b =
 pub within-before : (c d : Progress) (final : Mark) → IsBefore c d → IsWithin d final → IsWithin c final
 within-before c d final b w =
     let low = b.faults in let high = w.faults in
-    record { seen = IsPrefix-trans c.seen d.seen final.seen b.seen w.seen; faults = omega arith }
+    record {
+      seen = IsPrefix-trans c.seen d.seen final.seen b.seen w.seen;
+      totals = IsPrefix-trans c.totals d.totals final.totals b.totals w.totals;
+      faults = omega arith;
+    }
 
 pub within-longer : (c : Progress) (final later : Mark) → IsWithin c final → Follows final later → IsWithin c later
 within-longer c final later w f =
     let low = w.faults in let more = f.more in
-    record { seen = IsPrefix-trans c.seen final.seen later.seen w.seen f.longer; faults = omega arith }
+    record {
+      seen = IsPrefix-trans c.seen final.seen later.seen w.seen f.longer;
+      totals = IsPrefix-trans c.totals final.totals later.totals w.totals f.counted;
+      faults = omega arith;
+    }
 
 -- a decision takes nothing off a history
 pub after-longer : (H : List Entry) (d : Decision) → IsPrefix H (after H d)

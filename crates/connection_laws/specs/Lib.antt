@@ -5,6 +5,7 @@ pub mod Kinds
 pub mod Marks
 pub mod Moments
 pub mod Outcomes
+pub mod Owners
 pub mod Progress
 pub mod Serving
 pub mod Steps

@@ -26,9 +26,9 @@ pub record Progress : Type 0 where
 abbrev pub progress_from : (seen totals : List Entry) → (faults : ℕ) → Progress
 progress_from seen totals faults = record { seen = seen; totals = totals; faults = faults; left = 0 }
 
--- the same, where both begin with one mark
+-- the same, by a mark
 abbrev pub progress_at : Mark → Progress
-progress_at start = progress_from start.seen start.seen start.faults
+progress_at start = progress_from start.seen start.totals start.faults
 
 -- from an item that isn't of a batch that failed, with this history after it
 abbrev pub progress_with : Progress → List Entry → Progress
@@ -60,9 +60,10 @@ abbrev pub progress_after : Progress → List Step → Progress
 progress_after c [] = c
 progress_after c (step ∷ steps) = progress_after (progress_past c step.outcome) steps
 
--- what was carried is within what is seen in the end
+-- what was carried is within what is seen in the end, and the totals that were read last with it
 pub record IsWithin (c : Progress) (final : Mark) : Type 0 where
   pub seen : IsPrefix c.seen final.seen
+  pub totals : IsPrefix c.totals final.totals
   pub faults : c.faults ≤ final.faults
 
 -- the first may be carried in place of the second: its histories begin those of the second, and its count isn't greater

@@ -9,7 +9,8 @@ use Rattle.link_io.specs.Links.{LinkState}
 use Rattle.link_io.specs.Notes.{Note, TakesNotes}
 use Rattle.link_io.specs.declared.source.TheConstants.{INPUT_LIMIT}
 use Rattle.connection_laws.specs.Answers.{interim_of}
-use Rattle.connection_laws.specs.Progress.{Progress, IsWithin, progress_after, recorded_places}
+use Rattle.connection_laws.specs.Owners.{HoldsMore, Holding, IsOwnedBy, Owned}
+use Rattle.connection_laws.specs.Progress.{Progress, IsWithin, progress_after}
 use Rattle.connection_laws.specs.Held.{Held, HeldFrom, IsSoFar}
 use Rattle.connection_laws.specs.Marks.{Mark}
 use Rattle.connection_laws.specs.Outcomes.{Step}
@@ -28,9 +29,9 @@ pub record HasPassed (old new : LinkState) (taken put : List ℕ) : Type 0 where
   pub notes : TakesNotes old.notes new.notes
 
 -- What a pass and a reader keep of a connection: the places of the entries that its commands recorded are added to the
--- pass's, and the reader has seen the history of the last totals.
-pub record IsKept (start : Progress) (steps : List Step) (mine kept : List ℕ) (read : List Entry) : Type 0 where
-  pub places : kept ≡ mine ++ recorded_places steps
+-- pass's, and what its turns left undecided, and the reader has seen the history of the last totals.
+pub record IsKept (start : Progress) (steps : List Step) (mine kept : Holding) (read : List Entry) : Type 0 where
+  pub holds : HoldsMore steps mine kept
   pub counted : read ≡ (progress_after start steps).totals
 
 -- why the serving ended, by how the items end
@@ -40,7 +41,7 @@ why_of ended taken = if length taken == INPUT_LIMIT then why.Limit else why.End
 
 -- the connection was served: all is held, and the answer counts the items and says why it ended
 pub record IsServed (served : Served) (start : Progress) (final : Mark) (gives : Given → Type 0) (said : Saying)
-    (old new : LinkState) (mine kept : List ℕ) (read : List Entry) : Type 0 where
+    (old new : LinkState) (mine kept : Holding) (read : List Entry) : Type 0 where
   pub taken : List ℕ
   pub put : List ℕ
   pub passed : HasPassed old new taken put
@@ -53,7 +54,7 @@ pub record IsServed (served : Served) (start : Progress) (final : Mark) (gives :
 -- More had to be taken: all items that stand whole in what was taken were answered, none of them closes, and nothing
 -- else was put but the interim answer of the item that comes next, where it has one and its head is whole.
 pub record IsWaiting (start : Progress) (final : Mark) (gives : Given → Type 0) (said : Saying) (old new : LinkState)
-    (mine kept : List ℕ) (read : List Entry) : Type 0 where
+    (mine kept : Holding) (read : List Entry) : Type 0 where
   pub taken : List ℕ
   pub put : List ℕ
   pub items : List Item
@@ -74,7 +75,7 @@ OnReadFault Memory P = ⊤
 -- The serving stopped on the way: a prefix is held. Where a take failed, all that could be answered by then was, and
 -- the interim answer that the next item has was put.
 pub record IsStopped (fault : ServeFault) (start : Progress) (final : Mark) (gives : Given → Type 0) (said : Saying)
-    (old new : LinkState) (mine kept : List ℕ) (read : List Entry) : Type 0 where
+    (old new : LinkState) (mine kept : Holding) (read : List Entry) : Type 0 where
   pub taken : List ℕ
   pub put : List ℕ
   pub passed : HasPassed old new taken put
@@ -87,7 +88,7 @@ pub record IsStopped (fault : ServeFault) (start : Progress) (final : Mark) (giv
 -- the pass has seen at exit, with the moments and counts that may be given, what is said of the answers, the link
 -- before and after, the places of the pass before and after, and what the reader has seen at exit.
 abbrev pub Serves : Result Served ServeFault → Progress → Mark → (Given → Type 0) → Saying → (old new : LinkState)
-    → (mine kept : List ℕ) → List Entry → Type 0
+    → (mine kept : Holding) → List Entry → Type 0
 Serves (Ok served) start final gives said old new mine kept read =
     IsServed served start final gives said old new mine kept read
 Serves (Err fault) start final gives said old new mine kept read =
@@ -98,9 +99,9 @@ abbrev pub is_whole : Result Served ServeFault → Bool
 is_whole (Ok served) = true
 is_whole (Err fault) = false
 
--- what is held of a link that tells, with what is said by the notes that it took
-pub record IsHeldOf (start final : Mark) (gives : Given → Type 0) (said : List Note → Saying) (link : LinkState)
-    (whole : Bool) : Type 0 where
+-- what is held of a link that tells, with what is said by the notes that it took, and what entries are its own
+pub record IsHeldOf (start final : Mark) (gives : Given → Type 0) (said : List Note → Saying) (owned : Owned)
+    (link : LinkState) (whole : Bool) : Type 0 where
   pub taken : List ℕ
   pub put : List ℕ
   pub takes : link.taken ≡ Some taken
@@ -108,3 +109,4 @@ pub record IsHeldOf (start final : Mark) (gives : Given → Type 0) (said : List
   pub notes : List Note
   pub tells : link.notes ≡ Some notes
   pub held : Held start final gives (said notes) taken put link.ended whole
+  pub owns : IsOwnedBy held.steps owned

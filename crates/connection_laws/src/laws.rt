@@ -1,5 +1,5 @@
 //! Laws of what is held of a connection. A function here does nothing: its contract is the law.
-ghost use Rattle.std.specs.Prelude.{◌≡◌, ◌≢◌, Err, ◌≤◌, ◌<◌, ◌+◌, ◌⊎◌, ◌++◌, ℕ, List, [], ◌∷◌, length, Bool, true, false, Result};
+ghost use Rattle.std.specs.Prelude.{◌≡◌, ◌≤◌, ◌<◌, ◌+◌, ◌++◌, ℕ, List, [], ◌∷◌, length, Bool, true, false, Result};
 ghost use Rattle.std.specs.List.{range_with_len};
 ghost use Rattle.farm_entry.specs.Legal.{IsLegal};
 ghost use Rattle.farm_entry.specs.Playing.{after};
@@ -11,15 +11,15 @@ ghost use Rattle.link_io.specs.Links.{LinkState, fresh_link};
 ghost use Rattle.http_requests.specs.Fields.{fields_of};
 ghost use Rattle.http_requests.specs.Framing.{has_origin};
 ghost use Rattle.http_requests.specs.Fronts.{Opens, behind};
-ghost use Rattle.http_requests.specs.Items.{Item, Items, IsNext, IsRequest, End, ended, closed};
+ghost use Rattle.http_requests.specs.Items.{Item, Items, IsNext, IsRequest, End, closed};
 ghost use Rattle.list_prefix.specs.Prefix.{IsPrefix};
 ghost use Rattle.past_moments.specs.declared.row.Row.{Row};
 ghost use Rattle.fault_types.specs.Counts.{Rose};
-ghost use Rattle.connection_laws.specs.Answers.{item_bytes, response_bytes, interim_of, response_of, transcript};
+ghost use Rattle.connection_laws.specs.Answers.{item_bytes, transcript};
 ghost use Rattle.connection_laws.specs.Batches.{AreAsked, AreAnsweredBy, AreAtOnce, failed_steps, uncalled_steps};
-ghost use Rattle.connection_laws.specs.Progress.{Progress, IsWithin, decision_on, progress_after, progress_at, progress_from, recorded_place, recorded_places};
+ghost use Rattle.connection_laws.specs.Owners.{Holding, none_owned};
+ghost use Rattle.connection_laws.specs.Progress.{Progress, IsWithin, decision_on, progress_after, progress_from, recorded_place, recorded_places};
 ghost use Rattle.connection_laws.specs.Held.{Held, HeldFrom, IsReadOut, StaysClosed, IsSoFar};
-ghost use Rattle.connection_laws.specs.Kinds.{commands, kind_of};
 ghost use Rattle.connection_laws.specs.Marks.{Mark, Follows};
 ghost use Rattle.connection_laws.specs.Moments.{GivenBy, IsTold, MayCount, given_by};
 ghost use Rattle.connection_laws.specs.Outcomes.{Step, answered, failed, faulted, unread};
@@ -31,7 +31,6 @@ ghost use Rattle.connection_laws.specs.Worked.{cut_item, cut_bytes, foreign_item
 use crate::{ServeFault, Served};
 use farm_disk::Disk;
 use farm_entry::{Answer, Refusal};
-use farm_wire::WireFault;
 use http_words::{Allow, Fault};
 use link_io::Clock;
 
@@ -48,10 +47,10 @@ pub fn held_for_later_marks<C: Clock, D: Disk, S: Said>(clock: &C)
         → Held start later (GivenBy C.Clock clock.now D.count) S.said taken put over whole }
 {}
 
-/// What is held from what a pass and a reader had seen at entry is held from each mark with which both began.
+/// What is held from what a pass and a reader had seen at entry is held from each mark with which they began.
 pub fn held_from_earlier_marks<C: Clock, D: Disk, S: Said>(clock: &C)
     ensures { (start final : Mark) (seen totals : List Entry) (faults : ℕ) (taken put : List ℕ)
-        (over whole : Bool) → IsPrefix start.seen seen → IsPrefix start.seen totals → start.faults ≤ faults
+        (over whole : Bool) → IsPrefix start.seen seen → IsPrefix start.totals totals → start.faults ≤ faults
         → HeldFrom (progress_from seen totals faults) final (GivenBy C.Clock clock.now D.count) S.said taken put over
         whole
         → Held start final (GivenBy C.Clock clock.now D.count) S.said taken put over whole }
@@ -79,7 +78,7 @@ pub fn nothing_is_answered_at_first<C: Clock, D: Disk, S: Said>(clock: &C)
     ensures so_far { (start : Progress) (taken : List ℕ)
         → IsSoFar start (GivenBy C.Clock clock.now D.count) S.said taken [] [] [] }
     ensures held { (start final : Mark) (taken : List ℕ) (over : Bool) (items : List Item) (end : End)
-        → Items taken items end → IsLegal start.seen → Follows start final
+        → Items taken items end → IsLegal start.totals → Follows start final
         → Held start final (GivenBy C.Clock clock.now D.count) S.said taken [] over false }
     ensures silent { (start final : Mark) → Follows start final
         → Held start final (GivenBy C.Clock clock.now D.count) S.said [] [] true true }
@@ -117,15 +116,6 @@ pub fn a_part_is_held<C: Clock, D: Disk, S: Said>(clock: &C)
         → HeldFrom start final (GivenBy C.Clock clock.now D.count) S.said taken (put ++ part) over false }
 {}
 
-/// What is put for one item is its interim answer, where it has one, and then its answer; so its interim answer is a
-/// part.
-pub fn an_interim_answer_comes_first()
-    ensures both { (item : Item) (step : Step)
-        → transcript (item ∷ []) (step ∷ []) ≡ interim_of item.interim ++ response_bytes item (response_of step) }
-    ensures part { (item : Item) (step : Step)
-        → IsPrefix (interim_of item.interim) (transcript (item ∷ []) (step ∷ [])) }
-{}
-
 /// The serving ends: all items behind those so far are answered, and no more had to be taken.
 pub fn the_whole_is_held<C: Clock, D: Disk, S: Said>(clock: &C)
     ensures whole { (start : Progress) (final : Mark) (taken put : List ℕ) (over : Bool)
@@ -143,16 +133,17 @@ pub fn the_whole_is_held<C: Clock, D: Disk, S: Said>(clock: &C)
         → StaysClosed taken (items ++ item ∷ []) closed }
 {}
 
-/// What the serving of a new link came to is held from each mark with which its pass and its reader both began, for
+/// What the serving of a new link came to is held from each mark with which its pass and its reader began, for
 /// whatever is seen later: the whole where it was served to its end, and else a prefix.
 pub fn what_is_served_is_held<C: Clock, D: Disk>(clock: &C)
     ensures { (result : Result Served ServeFault) (start final later : Mark) (seen totals read : List Entry)
-        (faults : ℕ) (rows : List Row) (link : LinkState) (mine kept : List ℕ)
-        → IsPrefix start.seen seen → IsPrefix start.seen totals → start.faults ≤ faults → Follows final later
+        (faults : ℕ) (rows : List Row) (link : LinkState) (mine kept : Holding)
+        → mine.owned ≡ none_owned → IsPrefix start.seen seen → IsPrefix start.totals totals → start.faults ≤ faults
+        → Follows final later
         → Serves result (progress_from seen totals faults) final (GivenBy C.Clock clock.now D.count)
         (noted_in rows fresh_link link) fresh_link link mine kept read
-        → IsHeldOf start later (GivenBy C.Clock clock.now D.count) (λ notes. IsNoted rows notes) link
-        (is_whole result) }
+        → IsHeldOf start later (GivenBy C.Clock clock.now D.count) (λ notes. IsNoted rows notes)
+        kept.owned link (is_whole result) }
 {}
 
 /// What is held with the moments that a clock may give is held with the one moment that the clock tells, where it does.
@@ -204,11 +195,6 @@ pub fn a_batch_finds_no_memory<C: Clock, D: Disk>(clock: &C)
         → IsPrefix c.seen H → let d = progress_after c (uncalled_steps H asks) in
         IsPrefix d.seen H × (d.totals ≡ c.totals) × (d.faults ≡ c.faults) }
     ensures places { (H : List Entry) (asks : List Ask) → recorded_places (uncalled_steps H asks) ≡ [] }
-{}
-
-/// No body of an item is too long to be read as a command.
-pub fn no_body_is_too_long()
-    ensures { (bytes : List ℕ) (item : Item) → IsNext bytes item → kind_of item ≢ commands (Err WireFault.TooLong) }
 {}
 
 /// No request with a field named `Origin` adds an entry, whatever its method and whatever stands in the field: what it

@@ -1,4 +1,5 @@
 //! Farms in memory, and connections to them.
+ghost use Rattle.std.specs.Prelude.{◌≡◌, [], IfSome};
 ghost use Rattle.turn_lock.specs.Known.{IsReady};
 
 use entry_codec::read_entries;
@@ -105,7 +106,9 @@ fn serve_store<R: Wait>(
     pages: &Pages,
     store: Store<CalmDisk>,
     connections: &mut [Connection],
-) -> Option<CalmDisk> {
+) -> Option<CalmDisk>
+    requires { store.pending ≡ [] }
+{
     let Ok((farm, pass)) = SharedFarm::of(alloc, store) else {
         return None;
     };
@@ -114,14 +117,18 @@ fn serve_store<R: Wait>(
 }
 
 /// The store of a farm that was founded just now, unless out of memory.
-fn founded(alloc: Global) -> Option<Store<CalmDisk>> {
+fn founded(alloc: Global) -> Option<Store<CalmDisk>>
+    ensures { IfSome result (λ store. store.pending ≡ []) }
+{
     let at = Moment::of(NOW_MS).ok()?;
     let settings = Settings::of(LEASE_MS, 10, 0).ok()?;
     Store::found(alloc, CalmDisk::of(Vec::new(alloc)), settings, at).ok()
 }
 
 /// The store of a journal, unless out of memory.
-fn opened(alloc: Global, journal: &[u8]) -> Option<Store<CalmDisk>> {
+fn opened(alloc: Global, journal: &[u8]) -> Option<Store<CalmDisk>>
+    ensures { IfSome result (λ store. store.pending ≡ []) }
+{
     let bytes = journal.to_vec(alloc).ok()?;
     Store::open_on(alloc, CalmDisk::of(bytes)).ok()
 }

@@ -42,84 +42,127 @@ pub(crate) const SOUND: u32 = 8;
 /// How many kinds are outside a limit.
 pub(crate) const FAULTY: u32 = 10;
 
+/// In place of a number that is picked by chance, or of a base that is the first suspect.
+const PICKED: u32 = u32::MAX;
+
+/// A search of which the most is picked by chance.
+const MOST: Shape = Shape {
+    base: 200,
+    first: PICKED,
+    count: PICKED,
+    weight: PICKED,
+    calm: 1,
+    rate: (1, 10),
+    miss: (0, 1),
+    bar: (8, 10),
+    width: PICKED,
+    reruns: PICKED,
+};
+
+/// The searches of each kind.
+const KINDS: [Shape; 18] = [
+    // Runs that hardly tell hypotheses apart, so that the budget of about a dozen is used up.
+    Shape {
+        rate: (989, 1_000),
+        miss: (1, 100),
+        bar: (9_999, 10_000),
+        width: 8,
+        ..MOST
+    },
+    Shape {
+        rate: (989, 1_000),
+        miss: (1, 100),
+        bar: (9_999, 10_000),
+        width: 8,
+        ..MOST
+    },
+    // The same, but a pass clears suspects.
+    Shape {
+        rate: (999, 1_000),
+        bar: (9_999, 10_000),
+        width: 6,
+        ..MOST
+    },
+    // One suspect, which the prior alone brings to the bar.
+    Shape {
+        count: 1,
+        weight: 1_000,
+        ..MOST
+    },
+    Shape {
+        count: 1,
+        weight: 1_000,
+        ..MOST
+    },
+    // Many suspects, several runs at once and a high bar.
+    Shape {
+        count: 20,
+        rate: (1, 100),
+        bar: (99, 100),
+        width: 8,
+        reruns: 3,
+        ..MOST
+    },
+    Shape {
+        calm: 1_000,
+        ..MOST
+    },
+    Shape {
+        miss: (1, 20),
+        ..MOST
+    },
+    // Those outside a limit.
+    Shape { count: 0, ..MOST },
+    Shape {
+        count: 1_001,
+        ..MOST
+    },
+    Shape {
+        weight: 65_536,
+        ..MOST
+    },
+    Shape { calm: 0, ..MOST },
+    Shape {
+        base: PICKED,
+        ..MOST
+    },
+    Shape {
+        rate: (0, 10),
+        ..MOST
+    },
+    Shape {
+        miss: (19, 20),
+        ..MOST
+    },
+    Shape {
+        bar: (1, 2),
+        ..MOST
+    },
+    Shape { width: 9, ..MOST },
+    Shape { reruns: 0, ..MOST },
+];
+
+// A number, or the one that was picked by chance where that is wanted.
+fn or(number: u32, picked: u32) -> u32 {
+    if number == PICKED { picked } else { number }
+}
+
 /// The search of a kind.
 pub(crate) fn shape_of(kind: u32, dice: &mut Dice) -> Shape {
-    let shape = Shape {
-        first: dice.below(5),
-        count: dice.below(5).saturating_add(2),
-        weight: dice.below(3).saturating_add(1),
-        bar: (8, 10),
-        width: dice.below(3).saturating_add(1),
-        reruns: dice.below(2).saturating_add(1),
-        ..PLAIN
-    };
-    match kind {
-        // Runs that hardly tell hypotheses apart, so that the budget of about a dozen is used up.
-        0 | 1 => Shape {
-            rate: (989, 1_000),
-            miss: (1, 100),
-            bar: (9_999, 10_000),
-            width: 8,
-            ..shape
-        },
-        // The same, but a pass clears suspects.
-        2 => Shape {
-            rate: (999, 1_000),
-            bar: (9_999, 10_000),
-            width: 6,
-            ..shape
-        },
-        // One suspect, which the prior alone brings to the bar.
-        3 | 4 => Shape {
-            count: 1,
-            weight: 1_000,
-            ..shape
-        },
-        // Many suspects, several runs at once and a high bar.
-        5 => Shape {
-            count: 20,
-            rate: (1, 100),
-            bar: (99, 100),
-            width: 8,
-            reruns: 3,
-            ..shape
-        },
-        6 => Shape {
-            calm: 1_000,
-            ..shape
-        },
-        7 => Shape {
-            miss: (1, 20),
-            ..shape
-        },
-        8 => Shape { count: 0, ..shape },
-        9 => Shape {
-            count: 1_001,
-            ..shape
-        },
-        10 => Shape {
-            weight: 65_536,
-            ..shape
-        },
-        11 => Shape { calm: 0, ..shape },
-        12 => Shape {
-            base: shape.first,
-            ..shape
-        },
-        13 => Shape {
-            rate: (0, 10),
-            ..shape
-        },
-        14 => Shape {
-            miss: (19, 20),
-            ..shape
-        },
-        15 => Shape {
-            bar: (1, 2),
-            ..shape
-        },
-        16 => Shape { width: 9, ..shape },
-        _ => Shape { reruns: 0, ..shape },
+    let shape = KINDS.get(kind as usize).copied().unwrap_or(PLAIN);
+    let first = dice.below(5);
+    let count = dice.below(5).saturating_add(2);
+    let weight = dice.below(3).saturating_add(1);
+    let width = dice.below(3).saturating_add(1);
+    let reruns = dice.below(2).saturating_add(1);
+    Shape {
+        base: or(shape.base, first),
+        first,
+        count: or(shape.count, count),
+        weight: or(shape.weight, weight),
+        width: or(shape.width, width),
+        reruns: or(shape.reruns, reruns),
+        ..shape
     }
 }
 

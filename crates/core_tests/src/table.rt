@@ -3,7 +3,7 @@
 ghost use Rattle.std.specs.Prelude.{◌≡◌, Some, slice_get};
 
 use crate::moments::moment_or;
-use crate::tally::Tally;
+use crate::tally::{Kind, Tally};
 use farm_core::{AdmitFault, CoreFault, Farm, Prepared};
 use farm_entry::{Command, Decision, Entry, Reply, Settings};
 use farm_types::{Memory, Moment};
@@ -227,7 +227,7 @@ impl Table {
 
     /// Takes the last entries back and commits them again: the first alone, and then the rest.
     pub(crate) fn commit_again(&mut self, tally: &mut Tally, count: usize) -> bool {
-        tally.note("committed again");
+        tally.note(Kind::CommittedAgain);
         if !take_back_but_one(&mut self.farm, count) || !self.has_all_but(count.saturating_sub(1)) {
             return false;
         }
@@ -237,7 +237,7 @@ impl Table {
 
     /// Takes the last entries back and leaves them so: the next command forgets them.
     pub(crate) fn take_away(&mut self, tally: &mut Tally, count: usize) -> bool {
-        tally.note("taken away");
+        tally.note(Kind::TakenAway);
         take_back(&mut self.farm, count)
             && self.has_all_but(count)
             && take_back(&mut self.twin, count)
@@ -246,7 +246,7 @@ impl Table {
 
     /// Takes the last entries back and admits them again.
     pub(crate) fn admit_again(&mut self, tally: &mut Tally, count: usize) -> bool {
-        tally.note("admitted again");
+        tally.note(Kind::AdmittedAgain);
         take_back(&mut self.farm, count)
             && self.has_all_but(count)
             && admit_rest(&mut self.farm, &self.twin)

@@ -5,10 +5,66 @@ use farm_entry::{Fate, OpenFault, Refusal, Reply, SkipFate, Standing, What};
 use std::io;
 use suspect_range::RangeFault;
 
-/// How many kinds of things are counted.
+/// The kinds of things that are counted, in the order in which they are told, and all others.
+#[derive(Clone, Copy)]
+pub(crate) enum Kind {
+    Opened,
+    Leased,
+    Reported,
+    Skipped,
+    Cancelled,
+    Ordered,
+    SearchShown,
+    FarmShown,
+    OrdersShown,
+    RunsShown,
+    SearchesShown,
+    Repeated,
+    LeftUncommitted,
+    Counted,
+    Late,
+    Over,
+    SkipTaken,
+    SkipLate,
+    Searching,
+    Verifying,
+    Confirmed,
+    Vindicated,
+    NoCulprit,
+    Inconclusive,
+    StandsCancelled,
+    NoSuspects,
+    TooManySuspects,
+    WeightRange,
+    CalmRange,
+    RepeatedCommit,
+    Rate,
+    Miss,
+    Bar,
+    Width,
+    Reruns,
+    KeyClash,
+    Closed,
+    NoRun,
+    UnknownRun,
+    UnknownSearch,
+    SearchEnded,
+    NoRevert,
+    DailyLimit,
+    CommittedAgain,
+    TakenAway,
+    AdmittedAgain,
+    Admitted,
+    CarriedOver,
+    FarmClosed,
+    NotAdmitted,
+    Other,
+}
+
+/// How many kinds are told.
 const KINDS: usize = 50;
 
-/// The kinds, in the order in which they are told.
+/// Their names.
 const NAMES: [&str; KINDS] = [
     "opened",
     "leased",
@@ -75,21 +131,19 @@ impl Tally {
     }
 
     /// Notes that a kind came up.
-    pub(crate) fn note(&mut self, kind: &str) {
-        for (count, name) in self.counts.iter_mut().zip(NAMES.iter()) {
-            if *name == kind {
-                *count = count.saturating_add(1);
-            }
+    pub(crate) fn note(&mut self, kind: Kind) {
+        if let Some(count) = self.counts.get_mut(kind as usize) {
+            *count = count.saturating_add(1);
         }
     }
 
     /// Notes what a command came to, whose entry is committed or not.
     pub(crate) fn note_prepared(&mut self, prepared: &Result<Prepared, CoreFault>, commits: bool) {
         match prepared {
-            Ok(Prepared::Repeat(_)) => self.note("repeated"),
+            Ok(Prepared::Repeat(_)) => self.note(Kind::Repeated),
             Ok(Prepared::Shown(reply)) => self.note_reply(reply),
             Ok(Prepared::New(_, reply)) if commits => self.note_reply(reply),
-            Ok(Prepared::New(_, _)) => self.note("left uncommitted"),
+            Ok(Prepared::New(_, _)) => self.note(Kind::LeftUncommitted),
             Err(CoreFault::Refused(refusal)) => self.note(kind_of_refusal(*refusal)),
             Err(CoreFault::Memory) => {}
         }
@@ -98,10 +152,10 @@ impl Tally {
     /// Notes whether an entry was admitted.
     pub(crate) fn note_admitted(&mut self, what: &What, admitted: Result<(), AdmitFault>) {
         match (admitted, what) {
-            (Ok(()), What::Carried { .. }) => self.note("carried over"),
-            (Ok(()), What::Closed) => self.note("closed"),
-            (Ok(()), _) => self.note("admitted"),
-            (Err(_), _) => self.note("not admitted"),
+            (Ok(()), What::Carried { .. }) => self.note(Kind::CarriedOver),
+            (Ok(()), What::Closed) => self.note(Kind::FarmClosed),
+            (Ok(()), _) => self.note(Kind::Admitted),
+            (Err(_), _) => self.note(Kind::NotAdmitted),
         }
     }
 
@@ -124,77 +178,77 @@ impl Tally {
     }
 }
 
-fn kind_of_reply(reply: &Reply) -> &'static str {
+fn kind_of_reply(reply: &Reply) -> Kind {
     match reply {
-        Reply::Opened { .. } => "opened",
-        Reply::Leased { .. } => "leased",
-        Reply::Reported { .. } => "reported",
-        Reply::Skipped { .. } => "skipped",
-        Reply::Cancelled { .. } => "cancelled",
-        Reply::Ordered { .. } => "ordered",
-        Reply::Search(_) => "search shown",
-        Reply::Farm(_) => "farm shown",
-        Reply::Orders(_) => "orders shown",
-        Reply::Runs(_) => "runs shown",
-        Reply::Searches(_) => "searches shown",
+        Reply::Opened { .. } => Kind::Opened,
+        Reply::Leased { .. } => Kind::Leased,
+        Reply::Reported { .. } => Kind::Reported,
+        Reply::Skipped { .. } => Kind::Skipped,
+        Reply::Cancelled { .. } => Kind::Cancelled,
+        Reply::Ordered { .. } => Kind::Ordered,
+        Reply::Search(_) => Kind::SearchShown,
+        Reply::Farm(_) => Kind::FarmShown,
+        Reply::Orders(_) => Kind::OrdersShown,
+        Reply::Runs(_) => Kind::RunsShown,
+        Reply::Searches(_) => Kind::SearchesShown,
     }
 }
 
-fn kind_of_fate(fate: Fate) -> &'static str {
+fn kind_of_fate(fate: Fate) -> Kind {
     match fate {
-        Fate::Counted => "counted",
-        Fate::Late => "late",
-        Fate::Over => "over",
+        Fate::Counted => Kind::Counted,
+        Fate::Late => Kind::Late,
+        Fate::Over => Kind::Over,
     }
 }
 
-fn kind_of_skip(fate: SkipFate) -> &'static str {
+fn kind_of_skip(fate: SkipFate) -> Kind {
     match fate {
-        SkipFate::Taken => "skip taken",
-        SkipFate::Late => "skip late",
+        SkipFate::Taken => Kind::SkipTaken,
+        SkipFate::Late => Kind::SkipLate,
     }
 }
 
-fn kind_of_standing(standing: Standing) -> &'static str {
+fn kind_of_standing(standing: Standing) -> Kind {
     match standing {
-        Standing::Searching => "searching",
-        Standing::Verifying(_) => "verifying",
-        Standing::Confirmed(_) => "confirmed",
-        Standing::Vindicated(_) => "vindicated",
-        Standing::NoCulprit => "no culprit",
-        Standing::Inconclusive => "inconclusive",
-        Standing::Cancelled => "stands cancelled",
+        Standing::Searching => Kind::Searching,
+        Standing::Verifying(_) => Kind::Verifying,
+        Standing::Confirmed(_) => Kind::Confirmed,
+        Standing::Vindicated(_) => Kind::Vindicated,
+        Standing::NoCulprit => Kind::NoCulprit,
+        Standing::Inconclusive => Kind::Inconclusive,
+        Standing::Cancelled => Kind::StandsCancelled,
     }
 }
 
-fn kind_of_fault(fault: OpenFault) -> &'static str {
+fn kind_of_fault(fault: OpenFault) -> Kind {
     match fault {
-        OpenFault::Range(RangeFault::NoSuspects) => "NoSuspects",
-        OpenFault::Range(RangeFault::TooManySuspects(_)) => "TooManySuspects",
-        OpenFault::Range(RangeFault::WeightRange(_)) => "WeightRange",
-        OpenFault::Range(RangeFault::CalmRange(_)) => "CalmRange",
-        OpenFault::Range(RangeFault::RepeatedCommit(_)) => "RepeatedCommit",
-        OpenFault::Range(RangeFault::Memory) => "Memory",
-        OpenFault::Rate(_) => "Rate",
-        OpenFault::Miss(_) => "Miss",
-        OpenFault::Bar(_) => "Bar",
-        OpenFault::Width(_) => "Width",
-        OpenFault::Reruns(_) => "Reruns",
+        OpenFault::Range(RangeFault::NoSuspects) => Kind::NoSuspects,
+        OpenFault::Range(RangeFault::TooManySuspects(_)) => Kind::TooManySuspects,
+        OpenFault::Range(RangeFault::WeightRange(_)) => Kind::WeightRange,
+        OpenFault::Range(RangeFault::CalmRange(_)) => Kind::CalmRange,
+        OpenFault::Range(RangeFault::RepeatedCommit(_)) => Kind::RepeatedCommit,
+        OpenFault::Range(RangeFault::Memory) => Kind::Other,
+        OpenFault::Rate(_) => Kind::Rate,
+        OpenFault::Miss(_) => Kind::Miss,
+        OpenFault::Bar(_) => Kind::Bar,
+        OpenFault::Width(_) => Kind::Width,
+        OpenFault::Reruns(_) => Kind::Reruns,
     }
 }
 
-fn kind_of_refusal(refusal: Refusal) -> &'static str {
+fn kind_of_refusal(refusal: Refusal) -> Kind {
     match refusal {
         Refusal::BadOpen(fault) => kind_of_fault(fault),
-        Refusal::KeyClash(_) => "KeyClash",
-        Refusal::Full => "Full",
-        Refusal::Closed => "Closed",
-        Refusal::TooManySearches => "TooManySearches",
-        Refusal::NoRun => "NoRun",
-        Refusal::UnknownRun(_) => "UnknownRun",
-        Refusal::UnknownSearch(_) => "UnknownSearch",
-        Refusal::SearchEnded(_) => "SearchEnded",
-        Refusal::NoRevert => "NoRevert",
-        Refusal::DailyLimit { .. } => "DailyLimit",
+        Refusal::KeyClash(_) => Kind::KeyClash,
+        Refusal::Full => Kind::Other,
+        Refusal::Closed => Kind::Closed,
+        Refusal::TooManySearches => Kind::Other,
+        Refusal::NoRun => Kind::NoRun,
+        Refusal::UnknownRun(_) => Kind::UnknownRun,
+        Refusal::UnknownSearch(_) => Kind::UnknownSearch,
+        Refusal::SearchEnded(_) => Kind::SearchEnded,
+        Refusal::NoRevert => Kind::NoRevert,
+        Refusal::DailyLimit { .. } => Kind::DailyLimit,
     }
 }

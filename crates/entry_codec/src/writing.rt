@@ -25,6 +25,9 @@ use weight_exact::Verdict;
 /// The room that is taken at first: one entry that opens no search and has a short name fits into so many bytes.
 const SHORT_ENTRIES: usize = 64;
 
+// An entry has several numbers, and a call takes longer than a number's bytes.
+
+#[inline(always)]
 #[tactic(auto, unfolding(crate::specs::Spelling::number_bytes))]
 fn put_u8(out: &mut Vec<u8>, number: u8) -> Result<(), Memory>
     ensures bytes { OnOk result (out.new.items ≡ out.old.items ++ number_bytes 1 number) }
@@ -34,6 +37,7 @@ fn put_u8(out: &mut Vec<u8>, number: u8) -> Result<(), Memory>
     Ok(())
 }
 
+#[inline(always)]
 #[tactic(auto, unfolding(crate::specs::Spelling::number_bytes))]
 fn put_u16(out: &mut Vec<u8>, number: u16) -> Result<(), Memory>
     ensures bytes { OnOk result (out.new.items ≡ out.old.items ++ number_bytes 2 number) }
@@ -43,6 +47,7 @@ fn put_u16(out: &mut Vec<u8>, number: u16) -> Result<(), Memory>
     Ok(())
 }
 
+#[inline(always)]
 #[tactic(auto, unfolding(crate::specs::Spelling::number_bytes))]
 fn put_u32(out: &mut Vec<u8>, number: u32) -> Result<(), Memory>
     ensures bytes { OnOk result (out.new.items ≡ out.old.items ++ number_bytes 4 number) }
@@ -52,6 +57,7 @@ fn put_u32(out: &mut Vec<u8>, number: u32) -> Result<(), Memory>
     Ok(())
 }
 
+#[inline(always)]
 #[tactic(auto, unfolding(crate::specs::Spelling::number_bytes))]
 fn put_u64(out: &mut Vec<u8>, number: u64) -> Result<(), Memory>
     ensures bytes { OnOk result (out.new.items ≡ out.old.items ++ number_bytes 8 number) }
@@ -61,6 +67,7 @@ fn put_u64(out: &mut Vec<u8>, number: u64) -> Result<(), Memory>
     Ok(())
 }
 
+#[inline(always)]
 #[tactic(auto, unfolding(crate::specs::Spelling::number_bytes))]
 fn put_u128(out: &mut Vec<u8>, number: u128) -> Result<(), Memory>
     ensures bytes { OnOk result (out.new.items ≡ out.old.items ++ number_bytes 16 number) }

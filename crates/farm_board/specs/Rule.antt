@@ -1,6 +1,6 @@
 -- The rule of a board's row, which holds between any two steps of all threads together. One seat posts: it makes the
 -- version odd, writes the numbers, and makes the version even again.
-use Rattle.std.specs.Prelude.{◌≡◌, ◌<◌, ◌≤◌, ◌+◌, ◌%◌, ◌⊎◌, ℕ, List, [], length, slice_index, true, false}
+use Rattle.std.specs.Prelude.{◌≡◌, ◌<◌, ◌≤◌, ◌+◌, ◌%◌, ◌⊎◌, ℕ, List, [], length, slice_index, true, false, IfSome}
 use mathlib.Core.Option.{some}
 use lib.ListN.{get_elem?}
 use Rattle.atomic_table.specs.Table.{State}
@@ -20,6 +20,10 @@ At s seat v = get_elem? s.views seat ≡ some v
 -- a history is legal, or the one before the first post
 abbrev pub IsPosted : List Entry → Type 0
 IsPosted H = (H ≡ []) ⊎ IsLegal H
+
+-- what a seat has seen begins with what each of two seats had that it was made from, where it isn't told that yet
+abbrev pub IsJoined : View → Type 0
+IsJoined v = IfSome v.joined (λ two. IsPrefix two.0 v.seen × IsPrefix two.1 v.seen)
 
 module _ (number : List Entry → ℕ → ℕ) where
   -- numbers are those of a history's row, as far as they go
@@ -55,3 +59,4 @@ module _ (number : List Entry → ℕ → ℕ) where
         → (version_of s % 2 ≡ 1) ×
         ((k : ℕ) → k < length view.numbers → slice_index s.words (k + 1) ≡ slice_index view.numbers k)
     pub reading : (seat : ℕ) (v : View) → At s seat v → v.reads ≡ true → IsReading (version_of s) view.seen v
+    pub joined : (seat : ℕ) (v : View) → At s seat v → IsJoined v

@@ -3,8 +3,8 @@ use Rattle.std.specs.Prelude.{◌≡◌, ◌+◌, ◌-◌, ◌%◌, ◌++◌, �
 use Rattle.atomic_table.specs.Table.{Step, Me}
 use Rattle.farm_entry.specs.declared.entry.Entry.{Entry}
 use Rattle.list_prefix.specs.Prefix.{IsPrefix}
-use Rattle.farm_board.specs.Rule.{AreOf, IsPosted}
-use Rattle.farm_board.specs.Views.{idle, posting, reading, resting}
+use Rattle.farm_board.specs.Rule.{AreOf, IsJoined, IsPosted}
+use Rattle.farm_board.specs.Views.{idle, posting, reading, resting, told}
 use Rattle.farm_board.specs.declared.row.View.{View}
 
 -- where the version is even, a look begins at a history that begins with what the seat has seen
@@ -37,3 +37,7 @@ Puts step me found after =
 -- the totals of the history are posted
 abbrev pub Ends : List Entry → {S : Type 0} → Step S → Me S View → ℕ → Me S View → Type 0
 Ends H step me found after = after ≡ (resting (me.0.version + 1) H, me.1)
+
+-- what the seat has seen begins with what each of the two had that it was made from
+abbrev pub Tells : {S : Type 0} → Step S → Me S View → ℕ → Me S View → Type 0
+Tells step me found after = IsJoined me.0 × (after ≡ (told me.0, me.1))

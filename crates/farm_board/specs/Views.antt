@@ -1,10 +1,11 @@
 -- The shapes of a seat's view.
-use Rattle.std.specs.Prelude.{◌≡◌, ◌≤◌, ◌*◌, ℕ, Bool, true, false, List, [], length}
+use Rattle.std.specs.Prelude.{◌≡◌, ◌≤◌, ◌*◌, ℕ, Bool, true, false, List, [], length, Some, None}
 use Rattle.atomic_table.specs.Table.{Me}
 use Rattle.farm_entry.specs.Legal.{IsLegal}
 use Rattle.farm_entry.specs.Pages.{totals}
 use Rattle.farm_entry.specs.declared.entry.Entry.{Entry}
 use Rattle.farm_entry.specs.declared.reply.Totals.{Totals}
+use Rattle.list_prefix.specs.Prefix.{longer}
 use Rattle.farm_board.specs.declared.row.View.{View}
 
 -- a seat that is in the middle of nothing
@@ -17,6 +18,7 @@ still posts version seen = record {
   seen = seen;
   at = [];
   numbers = [];
+  joined = None;
 }
 
 -- the seat that posts, between two posts
@@ -33,6 +35,7 @@ posting version seen numbers = record {
   seen = seen;
   at = [];
   numbers = numbers;
+  joined = None;
 }
 
 -- a seat that reads, between two looks
@@ -50,7 +53,25 @@ reading version seen at numbers = record {
   seen = seen;
   at = at;
   numbers = numbers;
+  joined = None;
 }
+
+-- two seats that read as one. That the longer list begins with each of the two isn't told yet
+abbrev pub put_together : View → View → View
+put_together v w = record (idle (longer v.seen w.seen)) { joined = Some (v.seen, w.seen) }
+
+-- a seat that took in another one, and has seen no more than before. That this begins with what the other had seen
+-- isn't told yet
+abbrev pub met : View → View → View
+met v w = record v { joined = Some (v.seen, w.seen) }
+
+-- a seat when it is told how what it was joined from goes together
+abbrev pub told : View → View
+told v = record v { joined = None }
+
+-- what is left of a seat that was joined to another
+abbrev pub spent : View
+spent = idle []
 
 -- what a pass keeps: it is in the middle of nothing, the history that it has seen is legal, the totals that it read
 -- last are those of that history, and where it posts there were no more posts than entries

@@ -20,7 +20,7 @@ ghost use Rattle.std.specs.Prelude.{
 ghost use Rattle.farm_entry.specs.Legal.{IsLegal};
 ghost use Rattle.farm_entry.specs.Pages.{totals as totals_of};
 ghost use Rattle.farm_entry.specs.declared.entry.Entry.{Entry as HistoryEntry};
-ghost use Rattle.list_prefix.specs.Prefix.{IsPrefix};
+ghost use Rattle.list_prefix.specs.Prefix.{IsPrefix, longer};
 ghost use Rattle.farm_board.specs.Row.{number_of, numbers_of, totals_from};
 ghost use Rattle.farm_board.specs.Rule.{AreOf, IsPosted};
 ghost use Rattle.farm_board.specs.Views.{idle, posting, resting};
@@ -28,7 +28,8 @@ ghost use Rattle.farm_board.specs.declared.row.TheConstants.{NUMBERS};
 
 use crate::pass::BoardPass;
 use crate::row::{
-    Begin, Check, End, NUMBERS, Peek, Posted, Put, Reading, Row, Start, VERSION, View,
+    Begin, Check, End, Meet, NUMBERS, Peek, Posted, Put, PutTogether, Reading, Row, Start, Tell,
+    VERSION, View,
 };
 use atomic_table::{Seat, Shared, Table};
 use crossbeam_utils::{Backoff, CachePadded};
@@ -134,6 +135,45 @@ impl Board {
         }
     }
 
+    /// Has a pass that reads take in another one: the longer of the two histories, which begins with both. It takes no
+    /// memory.
+    pub fn join(&self, pass: &mut BoardPass, other: BoardPass)
+        requires own { pass.old.board ≡ self.now }
+        requires other { other.board ≡ self.now }
+        requires reads { (pass.old.posts ≡ false) × (other.posts ≡ false) }
+        ensures pass { pass.new ≡ record { board = self.now; posts = false; seen = longer pass.old.seen other.seen } }
+        ensures first { IsPrefix pass.old.seen pass.new.seen }
+        ensures second { IsPrefix other.seen pass.new.seen }
+    {
+        let BoardPass {
+            seat,
+            posts: _,
+            last,
+        } = other;
+        self.put_together(&mut pass.seat, seat);
+        if pass.last.entries <= last.entries {
+            pass.last = last;
+        }
+    }
+
+    /// Has the pass that posts take in one that reads: what that one has seen begins the history that was posted last.
+    /// It takes no memory.
+    pub fn meet(&self, posting: &mut BoardPass, other: BoardPass)
+        requires own { posting.old.board ≡ self.now }
+        requires other { other.board ≡ self.now }
+        requires posts { posting.old.posts ≡ true }
+        requires reads { other.posts ≡ false }
+        ensures same { posting.new ≡ posting.old }
+        ensures seen { IsPrefix other.seen posting.old.seen }
+    {
+        let BoardPass {
+            seat,
+            posts: _,
+            last: _,
+        } = other;
+        self.take_in(&mut posting.seat, seat);
+    }
+
     /// The words of the board.
     fn words(&self) -> &Shared<(), View, (), Row>
         ensures own { result.now.table_id ≡ self.now }
@@ -197,6 +237,37 @@ impl Board {
         } else {
             None
         }
+    }
+
+    /// Makes one seat of two that read.
+    fn put_together(&self, seat: &mut Seat<(), View>, other: Seat<(), View>)
+        requires own { seat.old.table_id ≡ self.now }
+        requires other { other.table_id ≡ self.now }
+        requires still { seat.old.me ≡ (idle seat.old.me.0.seen, []) }
+        requires still_too { other.me ≡ (idle other.me.0.seen, []) }
+        ensures own { (seat.new.table_id ≡ seat.old.table_id) × (seat.new.id ≡ seat.old.id) }
+        ensures me { seat.new.me ≡ (idle (longer seat.old.me.0.seen other.me.0.seen), []) }
+        ensures first { IsPrefix seat.old.me.0.seen (longer seat.old.me.0.seen other.me.0.seen) }
+        ensures second { IsPrefix other.me.0.seen (longer seat.old.me.0.seen other.me.0.seen) }
+    {
+        let shared = self.words();
+        shared.join_seat::<PutTogether>(seat, other);
+        shared.load::<Tell>(seat, VERSION);
+    }
+
+    /// Has the seat that posts take in one that reads.
+    fn take_in(&self, seat: &mut Seat<(), View>, other: Seat<(), View>)
+        requires own { seat.old.table_id ≡ self.now }
+        requires other { other.table_id ≡ self.now }
+        requires still { seat.old.me ≡ (resting seat.old.me.0.version seat.old.me.0.seen, []) }
+        requires still_too { other.me ≡ (idle other.me.0.seen, []) }
+        ensures own { (seat.new.table_id ≡ seat.old.table_id) × (seat.new.id ≡ seat.old.id) }
+        ensures me { seat.new.me ≡ seat.old.me }
+        ensures seen { IsPrefix other.me.0.seen seat.old.me.0.seen }
+    {
+        let shared = self.words();
+        shared.join_seat::<Meet>(seat, other);
+        shared.load::<Tell>(seat, VERSION);
     }
 
     /// Posts totals, where those of the history before were posted last. A number that stays isn't written again.

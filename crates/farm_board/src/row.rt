@@ -3,10 +3,10 @@ ghost use Rattle.std.specs.Prelude.{List, [], ℕ};
 ghost use Rattle.farm_entry.specs.declared.entry.Entry.{Entry};
 ghost use Rattle.farm_board.specs.Row.{number_of, row_of};
 ghost use Rattle.farm_board.specs.Rule.{IsKept};
-ghost use Rattle.farm_board.specs.Steps.{Begins, Checks, Ends, Peeks, Puts, Starts};
-ghost use Rattle.farm_board.specs.Views.{idle, resting};
+ghost use Rattle.farm_board.specs.Steps.{Begins, Checks, Ends, Peeks, Puts, Starts, Tells};
+ghost use Rattle.farm_board.specs.Views.{idle, met, put_together, resting, spent};
 
-use atomic_table::{Play, Split, TableRule};
+use atomic_table::{Join, Play, Split, TableRule};
 use farm_entry::Entry;
 use std::collections::LinkedList;
 use std::marker::{Brand, PhantomData};
@@ -34,6 +34,8 @@ pub struct View {
     pub at: LinkedList<Entry>,
     /// The numbers that it has read so far, or, in the middle of a post, those that stand in the row.
     pub numbers: LinkedList<u64>,
+    /// What two seats had seen that were joined to this one, until it is told how they go together.
+    pub joined: Option<(LinkedList<Entry>, LinkedList<Entry>)>,
 }
 
 /// The rule.
@@ -105,4 +107,29 @@ impl Split<View> for Reading {
     ghost left = { λ v. v };
 
     ghost right = { λ v. idle v.seen };
+}
+
+/// Two seats that read become one.
+pub struct PutTogether;
+
+impl Join<View> for PutTogether {
+    ghost both = { put_together };
+
+    ghost spent = { spent };
+}
+
+/// The seat that posts takes in one that reads.
+pub struct Meet;
+
+impl Join<View> for Meet {
+    ghost both = { met };
+
+    ghost spent = { spent };
+}
+
+/// The one seat that two became is told how what they had seen goes together.
+pub struct Tell;
+
+impl Play<(), View> for Tell {
+    ghost then = { Tells };
 }

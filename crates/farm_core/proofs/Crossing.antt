@@ -1,7 +1,7 @@
 -- A farm in memory may be handed to another thread.
 use denote.Param.Send.{IsSend, sendable}
 use Rattle.std.proofs.Crossing.{crosses}
-use Rattle.kept_decisions.proofs.Crossing.{kept_farm-send}
+use Rattle.kept_farm.proofs.Crossing.{kept_farm-send}
 use Rattle.farm_core.specs.contracts.farm.Farm as Farm
 
 pub farm-send : IsSend Farm.the_row

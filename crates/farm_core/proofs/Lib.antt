@@ -4,3 +4,9 @@ pub mod Fronts
 pub mod Handed
 pub mod Named
 pub mod Crossing
+pub mod Few
+pub mod Moments
+pub mod Next
+pub mod Refused
+pub mod Shown
+pub mod States

@@ -3,3 +3,4 @@ pub mod FarmFaults
 pub mod FarmInside
 pub mod FarmView
 pub mod Outcome
+pub mod Opens

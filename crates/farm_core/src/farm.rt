@@ -1,12 +1,15 @@
 //! The farm.
 
+use crate::decisions::decide;
+use crate::legal::is_next;
 use crate::prepared::{CoreFault, Prepared};
+use crate::search_page::standing_of;
 use crate::tail::{cut, handed_out, reply_of, run_at};
 use farm_entry::{
     Answer, Command, Decision, Entry, LeasedRun, Reply, Settings, Standing, Totals, What,
 };
 use farm_types::{Memory, Moment};
-use kept_decisions::{KeptFarm, decide, is_next, standing_of};
+use kept_farm::KeptFarm;
 use std::alloc::Global;
 use std::marker::Model;
 use thiserror::Error;

@@ -11,13 +11,24 @@
 //! made ready, its look-ups, its search and its totals are carried on with it, so that a commit moves one number. What
 //! was made ready and not committed is taken away again by the next `prepare`, `answer`, `enter`, `admit` or `retract`.
 //!
-//! It stands on `kept_farm` for what is kept, on `kept_decisions` for what a command comes to, on `farm_entry` for the
-//! types and the definitions of the farm, and on `farm_types` for moments and the out-of-memory error. The layer above
-//! may use every name below.
+//! What a command comes to is decided by look-ups (`decisions`): what was done before, what is due, where a search
+//! stands and what is counted is asked of the kept farm, and the answer is what the plain program promises over a list
+//! of entries.
+//!
+//! It stands on `kept_farm` for what is kept, on `search_state` for what the state of a search says of a history, on
+//! the laws of `farm_laws` for what these calls ask for, on `plain_history` for what the farm was founded with, on
+//! `farm_entry` for the types and the definitions of the farm, and on `farm_types` for moments and the out-of-memory
+//! error. The layer above may use every name below.
 #![tactic(auto)]
 
+mod decision_known;
+mod decision_new;
+mod decision_report;
+mod decisions;
 mod farm;
+mod legal;
 mod prepared;
+mod search_page;
 mod tail;
 
 pub use farm::{AdmitFault, Farm};

@@ -6,7 +6,7 @@ ghost use Rattle.farm_core.specs.Outcome.{IsOfCommand, IsRunAt, handed_out};
 
 use farm_entry::{LeasedRun, Reply};
 use farm_types::Memory;
-use kept_decisions::KeptFarm;
+use kept_farm::KeptFarm;
 
 /// Takes the last entries away, down to a count. It takes no memory.
 pub fn cut(kept: &mut KeptFarm, count: usize)

@@ -5,6 +5,7 @@ mod Reports
 mod Orders
 mod Out
 mod Growing
+mod Free
 mod Marks
 mod Counts
 mod Starts

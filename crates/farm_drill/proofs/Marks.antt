@@ -11,7 +11,7 @@ use Rattle.farm_entry.specs.Legal.{IsLegal}
 use Rattle.farm_entry.specs.declared.entry.Entry.{Entry}
 use Rattle.farm_entry.specs.declared.lease.LeasedRun.{LeasedRun}
 use Rattle.farm_entry.proofs.Growing.{all_leases-grow}
-use Rattle.search_laws.proofs.Free.{free-key}
+use Rattle.farm_drill.proofs.Free.{free-key}
 use Rattle.farm_drill.specs.Free.{AreFree, AreMarked, key_numbered}
 use Rattle.farm_drill.specs.Reported.{AreRunsMarked, is_marked, unmarked}
 use Rattle.farm_drill.specs.declared.keys.Keys.{Keys}

@@ -1,5 +1,5 @@
 //! The workers of a drill, each in a thread of its own.
-ghost use Rattle.std.specs.Prelude.{◌≡◌, ◌≤◌, ◌++◌, IfOk};
+ghost use Rattle.std.specs.Prelude.{◌≡◌, ◌<◌, ◌≤◌, ◌++◌, [], IfOk};
 ghost use Rattle.list_prefix.specs.Prefix.{IsPrefix};
 ghost use Rattle.shared_farm.specs.Rests.{IsByCommands};
 ghost use Rattle.turn_lock.specs.Known.{IsReady};
@@ -34,6 +34,7 @@ pub(crate) fn run_workers<R: Threads + Wait + Sync>(
     workers: u32,
 ) -> Result<Store<CalmDisk>, Memory>
     requires by_commands { IsByCommands (store.history ++ store.pending) }
+    requires decided { store.pending ≡ [] }
     ensures longer { IfOk result (λ left. IsPrefix store.history left.history) }
     ensures by_commands { IfOk result (λ left. IsByCommands (left.history ++ left.pending)) }
 {
@@ -56,7 +57,7 @@ fn run_all<R: Threads + Wait + Sync>(
     pass: Pass,
     workers: u32,
 ) -> (Pass, Ended)
-    requires { IsReady farm.now pass }
+    requires { IsReady farm.now pass × (workers < pass.stake.parts) }
     ensures ready { IsReady farm.entry.now result.0 }
     ensures longer { IsPrefix pass.seen result.0.seen }
 {
@@ -64,7 +65,7 @@ fn run_all<R: Threads + Wait + Sync>(
         thread::scope_env(),
         rt,
         |scope| -> (Pass, Ended)
-            requires { IsReady farm.now pass }
+            requires { IsReady farm.now pass × (workers < pass.stake.parts) }
             ensures { IsReady farm.entry.now result.0 × IsPrefix pass.seen result.0.seen }
         { start_all(scope, rt, alloc, farm, pass, workers) },
     )
@@ -80,7 +81,7 @@ fn start_all<'s, E, R: Threads + Wait + Sync>(
     pass: Pass,
     workers: u32,
 ) -> (Pass, Ended)
-    requires { IsReady farm.now pass }
+    requires { IsReady farm.now pass × (workers < pass.stake.parts) }
     ensures ready { IsReady farm.entry.now result.0 }
     ensures longer { IsPrefix pass.seen result.0.seen }
 {

@@ -8,10 +8,12 @@ use shared_farm::{Beginning, SharedFarm};
 pub struct CommandsAlone;
 
 impl Beginning for CommandsAlone {
-    ghost use Rattle.std.specs.Prelude.{Some};
+    ghost use Rattle.std.specs.Prelude.{None, Some};
     ghost use Rattle.shared_farm.specs.Rests.{commanded};
 
     ghost begun = { Some commanded };
+
+    ghost board = { None };
 }
 
 /// A farm on a disk in memory, to which commands alone add.

@@ -24,13 +24,16 @@ use Rattle.http_answers.specs.Pieces.{parts_joined}
 use Rattle.http_requests.specs.Items.{Item, Items, closed}
 use Rattle.http_requests.specs.declared.request.Request.{Request}
 use Rattle.list_prefix.specs.Prefix.{IsPrefix}
-use Rattle.list_prefix.proofs.Prefixes.{IsPrefix-refl}
+use Rattle.list_prefix.proofs.Prefixes.{IsPrefix-equal, IsPrefix-refl}
 use Rattle.shared_farm.specs.Turns.{IsTurn}
 use Rattle.turn_lock.specs.Known.{Known}
 use Rattle.farm_http.specs.Batches.{ArePutAs, BatchState, IsBatch, IsPutAs, all_answered}
 use Rattle.farm_http.specs.Bytes.{PutSays, farm_responses, request_bytes, requests_bytes}
-use Rattle.farm_http.specs.Callers.{IsAfter, mark_of}
-use Rattle.farm_http.specs.declared.caller.Caller.{Caller}
+use Rattle.connection_laws.specs.Owners.{holding_of}
+use Rattle.connection_laws.proofs.Owners.{HoldsMore-nothing}
+use Rattle.turn_lock.specs.Known.{left_by}
+use Rattle.turn_lock.specs.declared.view.Stake.{Stake}
+use Rattle.farm_http.specs.Callers.{CallerState, IsAfter, mark_of}
 use Rattle.farm_http.specs.Fronts.{AreAnswered, AreFront, FrontSays, Halves}
 use Rattle.farm_http.specs.Noting.{ArePreceded, TookNote}
 use Rattle.farm_http.specs.Turns.{IsBatchPut, TurnPut}
@@ -170,7 +173,7 @@ front-stands complete held items done f = front_by done.closes refl
 
 -- what was put for items at the front, by the steps that they came to
 pub front-says : (gives : Given → Type 0) (c : Progress) (complete : Bool) (held : List ℕ) (out : Bool)
-    (link : Halves) (old new : Caller) (done : Answered) (items : List Item) (steps : List Step)
+    (link : Halves) (old new : CallerState) (done : Answered) (items : List Item) (steps : List Step)
     (bytes : List ℕ)
     → 1 ≤ length items → AreFront complete held items done → done.requests ≡ length items → AreSteps gives c items steps
     → IsAfter c steps old new → interim_of out ++ bytes ≡ transcript items steps
@@ -226,6 +229,20 @@ asked-length gives (item ∷ items) (ask ∷ asks) q = ap (λ (n : ℕ). suc n) 
 
 -- ---- what is known after the batch
 
+-- a pass with the same places and the same stake holds the same
+pub same-holding : (old new : Known) → new.mine ≡ old.mine → new.stake ≡ old.stake → holding_of new ≡ holding_of old
+same-holding old new mine stake =
+    ap (λ (l : List ℕ). record {
+      parts = new.stake.parts;
+      lending = new.stake.lending;
+      owned = record { places = l; undecided = new.stake.undecided };
+    }) mine
+    ∙ ap (λ (s : Stake). record {
+      parts = s.parts;
+      lending = s.lending;
+      owned = record { places = old.mine; undecided = s.undecided };
+    }) stake
+
 failed-after : (gives : Given → Type 0) (c : Progress) (first last : ℕ) (old new : Known) (item : Item)
     (others : List Item) (asks : List Ask) → AreAsked gives (item ∷ others) asks → IsFailedTurn c first last old new
     → IsAfter c (failed_steps new.seen asks first last) (record { pass = old; reader = c.totals })
@@ -238,15 +255,24 @@ failed-after gives c first last old new item others (ask ∷ asks) q a =
     record {
       within = record {
         seen = subst (λ (H : List Entry). IsPrefix H new.seen) (sym carried.0) (IsPrefix-refl new.seen);
+        totals = IsPrefix-equal (progress_after c steps).totals c.totals carried.1;
         faults = omega arith;
       };
-      places =
-          a.unanswered.mine ∙ sym (append-nil old.mine)
-          ∙ ap (λ (l : List ℕ). old.mine ++ l) (sym (failed-places new.seen first last (ask ∷ asks)));
+      holds = record {
+        parts = ap (λ (s : Stake). s.parts) a.unanswered.stake;
+        lending = ap (λ (s : Stake). s.lending) a.unanswered.stake;
+        places =
+            a.unanswered.mine ∙ sym (append-nil old.mine)
+            ∙ ap (λ (l : List ℕ). old.mine ++ l) (sym (failed-places new.seen first last (ask ∷ asks)));
+        newer = left_by true new.seen a.unanswered.pending;
+        undecided = ap (λ (s : Stake). s.undecided) a.unanswered.stake;
+        left = (inl (refl, a.unanswered.fit), tt);
+      };
       counted = sym carried.1;
     }
 
-uncalled-after : (c : Progress) (old new : Known) (asks : List Ask) → IsUnansweredTurn c old new → c.faults ≤ new.faults
+uncalled-after : (c : Progress) (old new : Known) (asks : List Ask) → IsUnansweredTurn c false old new
+    → c.faults ≤ new.faults
     → IsAfter c (uncalled_steps new.seen asks) (record { pass = old; reader = c.totals })
     (record { pass = new; reader = c.totals })
 uncalled-after c old new asks a le =
@@ -254,9 +280,13 @@ uncalled-after c old new asks a le =
     let carried = uncalled-progress_after c new.seen asks a.begins in
     let count : (progress_after c steps).faults ≡ c.faults = carried.2 in
     record {
-      within = record { seen = carried.0; faults = omega arith };
-      places =
-          a.mine ∙ sym (append-nil old.mine) ∙ ap (λ (l : List ℕ). old.mine ++ l) (sym (uncalled-places new.seen asks));
+      within = record {
+        seen = carried.0;
+        totals = IsPrefix-equal (progress_after c steps).totals c.totals carried.1;
+        faults = omega arith;
+      };
+      holds = HoldsMore-nothing steps (holding_of old) (holding_of new) (uncalled-places new.seen asks)
+          (same-holding old new a.mine a.stake);
       counted = sym carried.1;
     }
 
@@ -269,9 +299,17 @@ answered-after c old new asks answers steps a by le =
     record {
       within = record {
         seen = subst (λ (H : List Entry). IsPrefix (progress_after c steps).seen H) (sym a.seen) carried.0;
+        totals = IsPrefix-equal (progress_after c steps).totals c.totals carried.1;
         faults = omega arith;
       };
-      places = a.places steps by;
+      holds = record {
+        parts = ap (λ (s : Stake). s.parts) a.stake;
+        lending = ap (λ (s : Stake). s.lending) a.stake;
+        places = a.places steps by;
+        newer = [];
+        undecided = ap (λ (s : Stake). s.undecided) a.stake;
+        left = tt;
+      };
       counted = sym carried.1;
     }
 
@@ -279,7 +317,7 @@ module _ {D : Type 0} (count : D → ℕ) (gives : Given → Type 0) (c : Progre
     (out : Bool) (link : Halves) (old new : Known) (b : BatchState)
     (counts : (disk : D) → gives (at_count (count disk)))
     (took : TookNote link.aside link.later link.before new) where
-  by_turn : (is : IsBatch gives complete held b) → out ≡ is.first.interim → IsWithin c (mark_of old)
+  by_turn : (is : IsBatch gives complete held b) → out ≡ is.first.interim → IsWithin c (mark_of old c.totals)
       → old.faults ≤ new.faults
       → (result : Result Answered ServeFault) → ((d : Answered) → result ≡ Ok d → d ≡ all_answered b)
       → (turn : Result (List Answer) CallFault) → IsTurn count b.asks turn old new
@@ -334,7 +372,7 @@ module _ {D : Type 0} (count : D → ℕ) (gives : Given → Type 0) (c : Progre
       (shown, inr took) result same put
 
   -- what answering a batch at one turn came to
-  pub batch-says : (is : IsBatch gives complete held b) → out ≡ is.first.interim → IsWithin c (mark_of old)
+  pub batch-says : (is : IsBatch gives complete held b) → out ≡ is.first.interim → IsWithin c (mark_of old c.totals)
       → old.faults ≤ new.faults → (result : Result Answered ServeFault)
       → ((d : Answered) → result ≡ Ok d → d ≡ all_answered b)
       → IsBatchPut count b.asks b.requests old new link.before link.now result

@@ -31,8 +31,9 @@ use Rattle.link_io.specs.declared.source.TheConstants.{INPUT_LIMIT}
 use Rattle.link_io.proofs.Told.{append_known-nil}
 use Rattle.list_prefix.specs.Prefix.{IsPrefix}
 use Rattle.list_prefix.proofs.Prefixes.{IsPrefix-trans, IsPrefix-length}
-use Rattle.farm_http.specs.Callers.{mark_of}
-use Rattle.farm_http.specs.declared.caller.Caller.{Caller}
+use Rattle.connection_laws.specs.Owners.{Holding, holding_of}
+use Rattle.connection_laws.proofs.Owners.{HoldsMore-nothing}
+use Rattle.farm_http.specs.Callers.{CallerState, mark_of}
 use Rattle.farm_http.specs.Connection.{GoesOn, HasStopped, IsLeftWaiting, IsServing, WasServed}
 use Rattle.farm_http.specs.Fronts.{AreAnswered, AreClosing, ArePartly, Halves}
 use Rattle.connection_laws.specs.Told.{AreSaid, Saying, if_put, noted_in}
@@ -58,9 +59,11 @@ one-front bytes item items end (p, inl x) = (p, inl (x.0, refl))
 one-front bytes item items end (p, inr x) = (p, inr (x.0, tt))
 
 -- an interim answer that may be out in part, or that is out, begins the answers to the item at the front
-cut-partly : (gives : Given → Type 0) (c : Progress) (held : List ℕ) (asks out : Bool) (put : List ℕ) (new : Caller)
+cut-partly : (gives : Given → Type 0) (c : Progress) (held : List ℕ) (asks out : Bool) (put : List ℕ)
+    (new : CallerState)
     (all : List Item) (end : End) → Items held all end → (asks ≡ true → AsksInterim held)
-    → IsPrefix (interim_of out ++ put) (interim_of asks) → IsWithin c (mark_of new.pass) → new.reader ≡ c.totals
+    → IsPrefix (interim_of out ++ put) (interim_of asks) → IsWithin c (mark_of new.pass new.reader) → new.reader ≡
+    c.totals
     → IsLegal c.totals
     → (link : Halves) → ArePartly gives c held out put link new new
 cut-partly gives c held false out put new all end whole asked begins within read legal link = record {
@@ -68,7 +71,11 @@ cut-partly gives c held false out put new all end whole asked begins within read
   steps = [];
   front = tt;
   are_steps = tt;
-  after = record { within = within; places = sym (append-nil new.pass.mine); counted = read };
+  after = record {
+    within = within;
+    holds = HoldsMore-nothing [] (holding_of new.pass) (holding_of new.pass) refl refl;
+    counted = read;
+  };
   begins = begins;
   noted = inr tt;
 }
@@ -84,11 +91,9 @@ cut-partly gives c held true out put new (item ∷ all) end whole asked begins w
       front = one-front held item all end whole;
       are_steps = (further-step gives c item (kind_of item) refl legal, tt);
       after = record {
-        within = further-within c (item ∷ []) (mark_of new.pass) within;
-        places =
-            sym
-            (ap (λ (l : List ℕ). new.pass.mine ++ (l ++ [])) (further-place c (kind_of item))
-            ∙ append-nil new.pass.mine);
+        within = further-within c (item ∷ []) (mark_of new.pass new.reader) within;
+        holds = HoldsMore-nothing (step ∷ []) (holding_of new.pass) (holding_of new.pass)
+            (ap (λ (l : List ℕ). l ++ []) (further-place c (kind_of item))) refl;
         counted = read ∙ sym kept.totals;
       };
       begins =
@@ -101,9 +106,10 @@ cut-partly gives c held true out put new (item ∷ all) end whole asked begins w
 
 -- ---- the loop
 
-module _ (start : Progress) (gives : Given → Type 0) (old : Caller) (before : LinkState) where
+module _ (start : Progress) (gives : Given → Type 0) (old : CallerState) (before : LinkState) where
   -- a fault stopped it on the way
-  pub serving-stops : (fault : ServeFault) (mid new : Caller) (now later : LinkState) (r : ReceivedState) (requests : ℕ)
+  pub serving-stops : (fault : ServeFault) (mid new : CallerState) (now later : LinkState) (r : ReceivedState)
+      (requests : ℕ)
       (put : List ℕ)
       (all : List Item) (end : End) (aside after_aside : Intake)
       (is : IsServing start gives old mid before now r requests) → IsLegal start.totals
@@ -142,9 +148,10 @@ module _ (start : Progress) (gives : Given → Type 0) (old : Caller) (before : 
       (opens-items is.taken is.items (a.items ++ left.0) end is.so_far.opens
       (subst (λ (l : List ℕ). Items l (a.items ++ left.0) end) is.held
       (subst (λ (l : List Item). Items r.held l end) left.1 whole))) in
-      further-stopped fault start (mark_of new.pass) gives said before later is.taken
+      further-stopped fault start (mark_of new.pass new.reader) gives said before later is.taken
       (is.put ++ (interim_of r.interim ++ put))
-      (is.items ++ a.items) left.0 (is.steps ++ a.steps) end old.pass.mine new.pass.mine new.reader
+      (is.items ++ a.items) left.0 (is.steps ++ a.steps) end
+      (holding_of old.pass) (holding_of new.pass) new.reader
       (record {
         takes = takes ∙ is.passed.takes;
         puts = put-joined before.put now.put later.put r.interim is.put put is.passed.puts puts;
@@ -157,10 +164,10 @@ module _ (start : Progress) (gives : Given → Type 0) (old : Caller) (before : 
             ∙ ap (λ (l : List ℕ). is.put ++ l) a.begins.1
             ∙ sym (append_assoc is.put (interim_of r.interim ++ put) a.begins.0),
       )
-      (record { places = after.places; counted = after.counted }) told waits
+      (record { holds = after.holds; counted = after.counted }) told waits
 
   -- it stopped before anything of the request at the front was answered, but for its interim answer
-  pub serving-cut : (fault : ServeFault) (new : Caller) (now later : LinkState) (r : ReceivedState) (requests : ℕ)
+  pub serving-cut : (fault : ServeFault) (new : CallerState) (now later : LinkState) (r : ReceivedState) (requests : ℕ)
       (put : List ℕ) (asks : Bool)
       (all : List Item) (end : End) → IsServing start gives old new before now r requests → IsLegal start.totals
       → (asks ≡ true → AsksInterim r.held) → IsPrefix (interim_of r.interim ++ put) (interim_of asks)
@@ -178,7 +185,7 @@ module _ (start : Progress) (gives : Given → Type 0) (old : Caller) (before : 
       refl refl notes (AreAmong-refl new.pass.rows) takes puts whole waits
 
   -- all that is whole was answered, and more is waited for
-  serving-waits : (new : Caller) (now later : LinkState) (r : ReceivedState) (requests : ℕ)
+  serving-waits : (new : CallerState) (now later : LinkState) (r : ReceivedState) (requests : ℕ)
       → IsServing start gives old new before now r requests → later.taken ≡ now.taken → later.put ≡ now.put
       → TakesNotes now.notes later.notes → AreWaiting r.held r.interim
       → IsLeftWaiting start gives old new before later
@@ -197,11 +204,12 @@ module _ (start : Progress) (gives : Given → Type 0) (old : Caller) (before : 
       notes = TakesNotes-trans before.notes now.notes later.notes is.passed.notes notes;
     };
     ends = is.after.within;
-    keeps = record { places = is.after.places; counted = is.after.counted };
+    keeps = record { holds = is.after.holds; counted = is.after.counted };
   }
 
   -- a take failed, or memory ran out for it
-  pub serving-untaken : (fault : ServeFault) (new : Caller) (now later : LinkState) (r : ReceivedState) (requests : ℕ)
+  pub serving-untaken : (fault : ServeFault) (new : CallerState) (now later : LinkState) (r : ReceivedState)
+      (requests : ℕ)
       (all : List Item) (end : End)
       → IsServing start gives old new before now r requests → IsLegal start.totals → later.taken ≡ now.taken
       → later.put ≡ now.put → TakesNotes now.notes later.notes
@@ -215,7 +223,8 @@ module _ (start : Progress) (gives : Given → Type 0) (old : Caller) (before : 
       (serving-waits new now later r requests is takes puts notes waits))
 
   -- the put of an interim answer failed
-  pub serving-unput : (fault : ServeFault) (new : Caller) (now later : LinkState) (r : ReceivedState) (requests : ℕ)
+  pub serving-unput : (fault : ServeFault) (new : CallerState) (now later : LinkState) (r : ReceivedState)
+      (requests : ℕ)
       (asked : Bool) (all : List Item)
       (end : End) → IsServing start gives old new before now r requests → IsLegal start.totals
       → (asked ≡ true → AsksInterim r.held)
@@ -239,7 +248,7 @@ module _ (start : Progress) (gives : Given → Type 0) (old : Caller) (before : 
       let a = asks refl in absurd (HasHead-busy held a.head a.has idle.blank)
 
   -- the input was read to its end or to its limit, and nothing is left to answer
-  pub serving-ends : (new : Caller) (now : LinkState) (r : ReceivedState) (served : Served)
+  pub serving-ends : (new : CallerState) (now : LinkState) (r : ReceivedState) (served : Served)
       (is : IsServing start gives old new before now r served.requests) → IsIdle r.held
       → IsReadOut is.taken is.items ended now.ended
       → served.why ≡ why_of ended is.taken
@@ -275,7 +284,7 @@ module _ (start : Progress) (gives : Given → Type 0) (old : Caller) (before : 
           };
           told = AreSaid-put (noted_in new.pass.rows before now) (length is.put) 0 is.items is.steps is.so_far.told;
         };
-        keeps = record { places = is.after.places; counted = is.after.counted };
+        keeps = record { holds = is.after.holds; counted = is.after.counted };
         requests = is.requests_are;
         why_is = why;
       }
@@ -288,14 +297,14 @@ module _ (start : Progress) (gives : Given → Type 0) (old : Caller) (before : 
   complete_by false taken is = inr (at_limit taken is)
 
   -- why it ended, where no item closes
-  pub serving-why : (new : Caller) (now : LinkState) (r : ReceivedState) (requests : ℕ) (why : Why)
+  pub serving-why : (new : CallerState) (now : LinkState) (r : ReceivedState) (requests : ℕ) (why : Why)
       (is : IsServing start gives old new before now r requests) → (r.taken ≡ INPUT_LIMIT → why ≡ whys.Limit)
       → (r.taken < INPUT_LIMIT → why ≡ whys.End) → why ≡ why_of ended is.taken
   serving-why new now r requests why is limit none =
       why_by r.taken (length is.taken) INPUT_LIMIT why is.size is.most limit none
 
   -- where no more is taken, the input has ended or as much was taken as is at most
-  pub serving-complete : (new : Caller) (now : LinkState) (r : ReceivedState) (requests : ℕ)
+  pub serving-complete : (new : CallerState) (now : LinkState) (r : ReceivedState) (requests : ℕ)
       (is : IsServing start gives old new before now r requests) → is_complete r ≡ true
       → (now.ended ≡ true) ⊎ (length is.taken ≡ INPUT_LIMIT)
   serving-complete new now r requests is complete =
@@ -305,7 +314,7 @@ module _ (start : Progress) (gives : Given → Type 0) (old : Caller) (before : 
       ]
 
   -- nothing is left to answer, and no more is taken
-  pub serving-idle : (new : Caller) (now : LinkState) (r : ReceivedState) (requests : ℕ) (why : Why)
+  pub serving-idle : (new : CallerState) (now : LinkState) (r : ReceivedState) (requests : ℕ) (why : Why)
       → IsServing start gives old new before now r requests → is_complete r ≡ true → IsIdle r.held
       → (r.taken ≡ INPUT_LIMIT → why ≡ whys.Limit) → (r.taken < INPUT_LIMIT → why ≡ whys.End)
       → WasServed (record { requests = requests; why = why }) start gives old new before now
@@ -336,7 +345,7 @@ module _ (start : Progress) (gives : Given → Type 0) (old : Caller) (before : 
       }))
 
   -- items at the front were answered, of which the last closes the connection
-  pub serving-closes : (mid new : Caller) (now later : LinkState) (r : ReceivedState) (requests : ℕ) (put : List ℕ)
+  pub serving-closes : (mid new : CallerState) (now later : LinkState) (r : ReceivedState) (requests : ℕ) (put : List ℕ)
       (complete : Bool) (done : Answered) (served : Served) (aside after_aside : Intake)
       (is : IsServing start gives old mid before now r requests)
       → AreAnswered gives (progress_after start is.steps) complete r.held r.interim put
@@ -389,7 +398,7 @@ module _ (start : Progress) (gives : Given → Type 0) (old : Caller) (before : 
               (front-told gives (progress_after start is.steps) before now later is.put r.interim new.pass a.items
               a.steps aside after_aside a.noted aside_is after_is is.passed.puts a.are_steps a.after.within.seen)));
         };
-        keeps = record { places = after.places; counted = after.counted };
+        keeps = record { holds = after.holds; counted = after.counted };
         requests =
             sum ∙ ap (λ (n : ℕ). n + done.requests) is.requests_are ∙ ap (λ (n : ℕ). length is.items + n) a.requests
             ∙ sym (length-append is.items a.items);
@@ -397,7 +406,8 @@ module _ (start : Progress) (gives : Given → Type 0) (old : Caller) (before : 
       }
 
   -- a fault stopped this turn of the loop
-  pub goes_on-stopped : (Q : ServeFault → Type 0) (work : ℕ) (result : Result (Option Why) ServeFault) (new : Caller)
+  pub goes_on-stopped : (Q : ServeFault → Type 0) (work : ℕ) (result : Result (Option Why) ServeFault)
+      (new : CallerState)
       (now : LinkState) (r : ReceivedState) (requests : ℕ) → IsErrAnd result Q
       → ((fault : ServeFault) → result ≡ Err fault → (items : List Item) → (end : End) → Items r.held items end
       → HasStopped fault start gives old new before now)
@@ -406,7 +416,7 @@ module _ (start : Progress) (gives : Given → Type 0) (old : Caller) (before : 
   goes_on-stopped Q work (Err fault) new now r requests failed stopped = stopped fault refl
 
   -- as much was left to do
-  pub goes_on-from : (work other : ℕ) (result : Result (Option Why) ServeFault) (new : Caller) (now : LinkState)
+  pub goes_on-from : (work other : ℕ) (result : Result (Option Why) ServeFault) (new : CallerState) (now : LinkState)
       (r : ReceivedState) (requests : ℕ) → work ≡ other → GoesOn start gives old before work result new now r requests
       → GoesOn start gives old before other result new now r requests
   goes_on-from work other result new now r requests same goes =
@@ -421,7 +431,7 @@ pub record IsFurther (start : Progress) (final : Mark) (read : List Entry) : Typ
 
 pub serves-further : (result : Result Served ServeFault) (start : Progress) (final : Mark) (gives : Given → Type 0)
     (said : Saying) (before now : LinkState)
-    (mine kept : List ℕ) (read : List Entry) → Serves result start final gives said before now mine kept read
+    (mine kept : Holding) (read : List Entry) → Serves result start final gives said before now mine kept read
     → IsFurther start final read
 serves-further (Ok served) start final gives said before now mine kept read s = record {
   within = held-follows start final gives said s.taken s.put now.ended true s.held;

@@ -1,5 +1,5 @@
 -- A request for a log page, answered by itself.
-use Rattle.std.proofs.Common.{ℕ, ◌≡◌, ◌≤◌, inl, inr, Bool, true, false, if◌then◌else◌, nat_lt, List, drop, length, Result, Ok, Err, refl, sym, ap, ◌∙◌, subst, arith, append-nil}
+use Rattle.std.proofs.Common.{ℕ, ◌≡◌, ◌≤◌, inl, inr, Bool, true, false, if◌then◌else◌, nat_lt, List, [], ◌∷◌, drop, length, Result, Ok, Err, refl, sym, ap, subst, arith}
 use Rattle.std.specs.Prelude.{⊤}
 use Rattle.connection_laws.specs.Answers.{response_of}
 use Rattle.connection_laws.specs.Kinds.{kind_by}
@@ -19,6 +19,8 @@ use Rattle.httparse.specs.Grammar.{RequestHead}
 use Rattle.list_prefix.specs.Prefix.{IsPrefix}
 use Rattle.list_prefix.proofs.Prefixes.{IsPrefix-refl, IsPrefix-trans}
 use Rattle.turn_lock.specs.Known.{Known}
+use Rattle.connection_laws.specs.Owners.{holding_of}
+use Rattle.connection_laws.proofs.Owners.{HoldsMore-nothing}
 use Rattle.farm_http.specs.Bytes.{PutSays, request_bytes}
 use Rattle.farm_http.specs.Callers.{mark_of}
 use Rattle.farm_http.specs.Fronts.{FrontSays, Halves}
@@ -73,8 +75,9 @@ log-from complete held request from next asks =
 
 pub copied-says : (gives : Given → Type 0) (c : Progress) (complete : Bool) (held : List ℕ) (out : Bool)
     (link : Halves) (old new : Known) (request : Request) (from : ℕ) (w : Bool)
-    → IsNextFor complete held request → out ≡ request.interim → IsWithin c (mark_of old)
-    → request.asks ≡ Ok (endpoint.Log from) → IsPrefix old.seen new.seen → new.mine ≡ old.mine → old.faults ≤ new.faults
+    → IsNextFor complete held request → out ≡ request.interim → IsWithin c (mark_of old c.totals)
+    → request.asks ≡ Ok (endpoint.Log from) → IsPrefix old.seen new.seen → holding_of new ≡ holding_of old
+    → old.faults ≤ new.faults
     → TookNote link.aside link.later link.before new
     → (result : Result Answered ServeFault) → ((d : Answered) → result ≡ Ok d → d ≡ one_answered request)
     → PutSays (request_bytes request (response_of (record { outcome = copied new.seen from; written = w })))
@@ -94,8 +97,12 @@ copied-says gives c complete held out link old new request from w next shown wit
       tt,
     )
     (record {
-      within = record { seen = IsPrefix-refl new.seen; faults = omega arith };
-      places = mine ∙ sym (append-nil old.mine);
+      within = record {
+        seen = IsPrefix-refl new.seen;
+        totals = IsPrefix-refl c.totals;
+        faults = omega arith;
+      };
+      holds = HoldsMore-nothing (step ∷ []) (holding_of old) (holding_of new) refl mine;
       counted = refl;
     })
     refl (inr took) result same put

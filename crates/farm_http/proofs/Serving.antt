@@ -3,10 +3,12 @@ use Rattle.std.proofs.Common.{ℕ, ◌≡◌, ◌+◌, ◌||◌, ◌&&◌, not, 
 use Rattle.std.specs.Io.KnownBytes.{append_known}
 use Rattle.connection_laws.specs.Answers.{interim_of, transcript}
 use Rattle.connection_laws.specs.Outcomes.{Step}
-use Rattle.connection_laws.specs.Progress.{Progress, IsWithin, progress_after, progress_from, recorded_places}
+use Rattle.connection_laws.specs.Owners.{holding_of}
+use Rattle.connection_laws.specs.Progress.{Progress, IsWithin, progress_after, progress_from}
 use Rattle.connection_laws.proofs.Further.{after-legal}
 use Rattle.connection_laws.proofs.Loop.{so_far-append, so_far-more, so_far-start}
-use Rattle.connection_laws.proofs.Progress.{progress_after-append, recorded_places-append}
+use Rattle.connection_laws.proofs.Owners.{HoldsMore-append, HoldsMore-nothing}
+use Rattle.connection_laws.proofs.Progress.{progress_after-append}
 use Rattle.farm_entry.specs.Legal.{IsLegal}
 use Rattle.farm_entry.specs.declared.entry.Entry.{Entry}
 use Rattle.connection_laws.specs.Moments.{Given}
@@ -16,8 +18,7 @@ use Rattle.link_io.specs.Links.{LinkState}
 use Rattle.link_io.proofs.Told.{append_known-nil, append_known-append}
 use Rattle.list_prefix.proofs.Prefixes.{IsPrefix-refl}
 use Rattle.turn_lock.specs.Known.{Known}
-use Rattle.farm_http.specs.Callers.{IsAfter, mark_of}
-use Rattle.farm_http.specs.declared.caller.Caller.{Caller}
+use Rattle.farm_http.specs.Callers.{CallerState, IsAfter, mark_of}
 use Rattle.farm_http.specs.Connection.{IsServing}
 use Rattle.farm_http.specs.Fronts.{AreAnswered, ArePartly, Halves}
 use Rattle.connection_laws.specs.Told.{noted_in}
@@ -37,16 +38,14 @@ at_link now later aside after = record { before = now.put; now = later.put; asid
 
 -- ---- what is known after more items
 
-pub after-append : (start : Progress) (steps rest : List Step) (old mid new : Caller) → IsAfter start steps old mid
+pub after-append : (start : Progress) (steps rest : List Step) (old mid new : CallerState) → IsAfter start steps old mid
     → IsAfter (progress_after start steps) rest mid new → IsAfter start (steps ++ rest) old new
 after-append start steps rest old mid new a b =
     let same = sym (progress_after-append start steps rest) in
     record {
-      within = subst (λ (c : Progress). IsWithin c (mark_of new.pass)) same b.within;
-      places =
-          b.places ∙ ap (λ (l : List ℕ). l ++ recorded_places rest) a.places
-          ∙ append_assoc old.pass.mine (recorded_places steps) (recorded_places rest)
-          ∙ ap (λ (l : List ℕ). old.pass.mine ++ l) (sym (recorded_places-append steps rest));
+      within = subst (λ (c : Progress). IsWithin c (mark_of new.pass new.reader)) same b.within;
+      holds = HoldsMore-append steps rest (holding_of old.pass) (holding_of mid.pass) (holding_of new.pass) a.holds
+          b.holds;
       counted = b.counted ∙ ap (λ (c : Progress). c.totals) same;
     }
 
@@ -74,9 +73,10 @@ asked_by false asked held one other is = other is
 
 -- ---- the loop
 
-module _ (start : Progress) (gives : Given → Type 0) (old : Caller) (before : LinkState) where
+module _ (start : Progress) (gives : Given → Type 0) (old : CallerState) (before : LinkState) where
   -- nothing was taken yet
-  pub serving-start : (r : ReceivedState) (requests : ℕ) → IsWithin start (mark_of old.pass) → old.reader ≡ start.totals
+  pub serving-start : (r : ReceivedState) (requests : ℕ) → IsWithin start (mark_of old.pass old.reader) → old.reader ≡
+      start.totals
       → r ≡ nothing_received → requests ≡ 0 → IsServing start gives old old before before r requests
   serving-start r requests within read none zero = subst
       (λ (x : ReceivedState). IsServing start gives old old before before x requests) (sym none) (record {
@@ -95,13 +95,17 @@ module _ (start : Progress) (gives : Given → Type 0) (old : Caller) (before : 
         most = omega arith;
         ends = λ is. let bad : ⊥ = cc in absurd bad;
         interim = λ is. let bad : ⊥ = cc in absurd bad;
-        after = record { within = within; places = sym (append-nil old.pass.mine); counted = read };
+        after = record {
+          within = within;
+          holds = HoldsMore-nothing [] (holding_of old.pass) (holding_of old.pass) refl refl;
+          counted = read;
+        };
         requests_are = zero;
         few = omega (arith, zero);
       })
 
   -- a piece more was taken, and is held
-  pub serving-takes : (new : Caller) (now later : LinkState) (r s : ReceivedState) (requests : ℕ)
+  pub serving-takes : (new : CallerState) (now later : LinkState) (r s : ReceivedState) (requests : ℕ)
       → IsServing start gives old new before now r requests → IsTaken r s now.taken later.taken later.ended
       → later.put ≡ now.put → TakesNotes now.notes later.notes
       → IsServing start gives old new before later s requests
@@ -139,7 +143,7 @@ module _ (start : Progress) (gives : Given → Type 0) (old : Caller) (before : 
       }
 
   -- the interim answer of the request at the front is out, where it is asked for
-  pub serving-interim : (new : Caller) (now later : LinkState) (r s : ReceivedState) (requests : ℕ) (asked : Bool)
+  pub serving-interim : (new : CallerState) (now later : LinkState) (r s : ReceivedState) (requests : ℕ) (asked : Bool)
       → IsServing start gives old new before now r requests → (asked ≡ true → AsksInterim r.held)
       → later.taken ≡ now.taken → later.ended ≡ now.ended
       → later.put ≡ append_known now.put (interim_of (asked && not r.interim)) → TakesNotes now.notes later.notes
@@ -171,7 +175,7 @@ module _ (start : Progress) (gives : Given → Type 0) (old : Caller) (before : 
       })
 
   -- items at the front were answered, none of which closes, and are passed over
-  pub serving-answers : (mid new : Caller) (now later : LinkState) (r s : ReceivedState) (requests total : ℕ)
+  pub serving-answers : (mid new : CallerState) (now later : LinkState) (r s : ReceivedState) (requests total : ℕ)
       (put : List ℕ) (complete : Bool) (done : Answered) (aside after : Intake)
       (is : IsServing start gives old mid before now r requests)
       → AreAnswered gives (progress_after start is.steps) complete r.held r.interim put (at_link now later aside after)
@@ -226,18 +230,22 @@ module _ (start : Progress) (gives : Given → Type 0) (old : Caller) (before : 
 
 -- what a pass and a reader know is where the serving may go on from
 pub front-start : (pass : Known) (read : List Entry) → IsWithin (progress_from pass.seen read pass.faults)
-    (mark_of pass)
-front-start pass read = record { seen = IsPrefix-refl pass.seen; faults = le_refl pass.faults }
+    (mark_of pass read)
+front-start pass read = record {
+  seen = IsPrefix-refl pass.seen;
+  totals = IsPrefix-refl read;
+  faults = le_refl pass.faults;
+}
 
 pub answered-legal : (gives : Given → Type 0) (c : Progress) (complete : Bool) (held : List ℕ) (out : Bool)
     (put : List ℕ) (link : Halves)
-    (old new : Caller) (done : Answered) → AreAnswered gives c complete held out put link old new done
+    (old new : CallerState) (done : Answered) → AreAnswered gives c complete held out put link old new done
     → IsLegal c.totals → IsLegal new.reader
 answered-legal gives c complete held out put link old new done a legal =
     subst (λ (H : List Entry). IsLegal H) (sym a.after.counted) (after-legal gives c a.items a.steps a.are_steps legal)
 
 pub partly-legal : (gives : Given → Type 0) (c : Progress) (held : List ℕ) (out : Bool) (put : List ℕ)
-    (link : Halves) (old new : Caller)
+    (link : Halves) (old new : CallerState)
     → ArePartly gives c held out put link old new → IsLegal c.totals → IsLegal new.reader
 partly-legal gives c held out put link old new a legal =
     subst (λ (H : List Entry). IsLegal H) (sym a.after.counted) (after-legal gives c a.items a.steps a.are_steps legal)

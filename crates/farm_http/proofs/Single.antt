@@ -23,11 +23,13 @@ use Rattle.http_words.specs.declared.endpoint.Endpoint.TheVariants as endpoint
 use Rattle.http_words.specs.declared.fault.Fault.{Fault}
 use Rattle.http_words.specs.declared.route.Route.{Route}
 use Rattle.list_prefix.specs.Prefix.{IsPrefix}
+use Rattle.list_prefix.proofs.Prefixes.{IsPrefix-equal, IsPrefix-refl}
 use Rattle.turn_lock.specs.Known.{Known}
 use Rattle.farm_http.specs.Batches.{BatchState, IsBatch, all_answered}
 use Rattle.farm_http.specs.Bytes.{PutSays, request_bytes}
-use Rattle.farm_http.specs.Callers.{IsAfter, mark_of}
-use Rattle.farm_http.specs.declared.caller.Caller.{Caller}
+use Rattle.connection_laws.specs.Owners.{holding_of}
+use Rattle.connection_laws.proofs.Owners.{HoldsMore-nothing}
+use Rattle.farm_http.specs.Callers.{CallerState, IsAfter, mark_of}
 use Rattle.farm_http.specs.Fronts.{FrontSays, Halves}
 use Rattle.farm_http.specs.Noting.{AreQuiet, TookNote}
 use Rattle.connection_laws.specs.Told.{told_history}
@@ -48,7 +50,7 @@ one_answered request = record { requests = 1; size = request.size; closes = requ
 
 -- The request came to a step, and its answer was put, or a part of it.
 pub front-single : (gives : Given → Type 0) (c : Progress) (complete : Bool) (held : List ℕ) (out : Bool)
-    (link : Halves) (old new : Caller) (request : Request) (step : Step) (r : Response)
+    (link : Halves) (old new : CallerState) (request : Request) (step : Step) (r : Response)
     → IsNextFor complete held request → out ≡ request.interim → IsStep gives c (item_in held request) step
     → IsAfter c (step ∷ []) old new → response_of step ≡ r
     → AreQuiet (step ∷ []) ⊎ TookNote link.aside link.later link.before new.pass → (result : Result Answered ServeFault)
@@ -68,6 +70,11 @@ front-single gives c complete held out link old new request step r n shown is_st
     ∙ ap (λ (l : List ℕ). interim_of request.interim ++ l) (sym (append-nil (request_bytes request r))) ∙ whole)
     (shown, noted) result same put
 
+-- what is carried is within what a reader has seen that has seen just the last totals
+pub within-own : (c : Progress) (pass : Known) (read : List Entry) → IsWithin c (mark_of pass read)
+    → IsWithin c (mark_of pass c.totals)
+within-own c pass read w = record { seen = w.seen; totals = IsPrefix-refl c.totals; faults = w.faults }
+
 -- a step that changes nothing of what the pass knows
 record IsStill (c : Progress) (o : Outcome) (read : List Entry) : Type 0 where
   seen : (progress_past c o).seen ≡ c.seen
@@ -76,17 +83,17 @@ record IsStill (c : Progress) (o : Outcome) (read : List Entry) : Type 0 where
   counts : read ≡ (progress_past c o).totals
 
 still-after : (c : Progress) (step : Step) (pass : Known) (was read : List Entry) → IsStill c step.outcome read
-    → IsWithin c (mark_of pass) → IsAfter c (step ∷ []) (record { pass = pass; reader = was })
+    → IsWithin c (mark_of pass was) → IsAfter c (step ∷ []) (record { pass = pass; reader = was })
     (record { pass = pass; reader = read })
 still-after c step pass was read s w =
     let low = w.faults in let same = s.faults in record {
       within = record {
         seen = subst (λ (H : List Entry). IsPrefix H pass.seen) (sym s.seen) w.seen;
+        totals = IsPrefix-equal (progress_past c step.outcome).totals read (sym s.counts);
         faults = subst (λ (n : ℕ). n ≤ pass.faults) (sym same) low;
       };
-      places =
-          sym (append-nil pass.mine)
-          ∙ ap (λ (l : List ℕ). pass.mine ++ l) (ap (λ (l : List ℕ). l ++ []) (sym s.none));
+      holds = HoldsMore-nothing (step ∷ []) (holding_of pass) (holding_of pass)
+          (ap (λ (l : List ℕ). l ++ []) s.none) refl;
       counted = s.counts;
     }
 
@@ -95,7 +102,7 @@ still-after c step pass was read s w =
 module _ (gives : Given → Type 0) (c : Progress) (complete : Bool) (held : List ℕ) (out : Bool)
     (link : Halves)
     (pass : Known) (request : Request) (next : IsNextFor complete held request) (shown : out ≡ request.interim)
-    (within : IsWithin c (mark_of pass)) where
+    (within : IsWithin c (mark_of pass c.totals)) where
   -- a step after which the pass is as before
   single-says : (read : List Entry) (step : Step) (r : Response) → IsStep gives c (item_in held request) step
       → IsStill c step.outcome read

@@ -1,5 +1,5 @@
 -- What one turn at the shared farm gives the items of a batch.
-use Rattle.std.proofs.Common.{ℕ, ◌≡◌, ◌≤◌, ◌+◌, ◌-◌, inl, inr, List, ◌++◌, length, Result, Ok, Err, sym, ap, ◌∙◌, subst, arith, append-nil}
+use Rattle.std.proofs.Common.{Bool, true, false, ℕ, ◌≡◌, ◌≤◌, ◌+◌, ◌-◌, inl, inr, List, ◌++◌, length, Result, Ok, Err, sym, ap, ◌∙◌, subst, arith, append-nil}
 use Rattle.farm_entry.specs.declared.entry.Entry.{Entry}
 use Rattle.farm_store.specs.Answering.{AreAnswers, history_after}
 use Rattle.farm_store.specs.State.{StoreState, IsRepaired}
@@ -9,10 +9,11 @@ use Rattle.farm_store.specs.declared.asking.CallFault.{CallFault}
 use Rattle.farm_store.specs.declared.asking.CallFault.TheVariants as fault
 use Rattle.list_prefix.specs.Prefix.{IsPrefix}
 use Rattle.list_prefix.proofs.Prefixes.{IsPrefix-refl, IsPrefix-trans, IsPrefix-append}
-use Rattle.shared_farm.specs.Turns.{IsTurn}
+use Rattle.shared_farm.specs.Answered.{FitRecord}
+use Rattle.shared_farm.specs.Turns.{IsTurn, failed_by}
 use Rattle.std.specs.List.{range_with_len}
 use Rattle.fault_types.specs.Counts.{Rose}
-use Rattle.turn_lock.specs.Known.{Known}
+use Rattle.turn_lock.specs.Known.{Known, stake_after}
 use Rattle.connection_laws.specs.Batches.{AreAnsweredBy}
 use Rattle.connection_laws.specs.Progress.{Progress, IsWithin, recorded_places}
 use Rattle.connection_laws.specs.Outcomes.{Step}
@@ -27,15 +28,19 @@ pub record IsAnsweredTurn (c : Progress) (asks : List Ask) (answers : List Answe
   pub answered : AreAnswers at asks answers
   pub seen : new.seen ≡ history_after at asks
   pub places : (steps : List Step) → AreAnsweredBy at asks answers steps → new.mine ≡ old.mine ++ recorded_places steps
+  pub stake : new.stake ≡ old.stake
 
--- a turn ended without an answer: the pass keeps no place of it
-pub record IsUnansweredTurn (c : Progress) (old new : Known) : Type 0 where
+-- a turn ended without an answer: the pass keeps no place of it, and holds what it left undecided, where it failed
+pub record IsUnansweredTurn (c : Progress) (failed : Bool) (old new : Known) : Type 0 where
   pub begins : IsPrefix c.seen new.seen
   pub mine : new.mine ≡ old.mine
+  pub pending : List Entry
+  pub stake : new.stake ≡ stake_after old.stake failed new.seen pending
+  pub fit : FitRecord pending
 
 -- a turn ended by a fault of the disk, from one count to another
 pub record IsFailedTurn (c : Progress) (before count : ℕ) (old new : Known) : Type 0 where
-  pub unanswered : IsUnansweredTurn c old new
+  pub unanswered : IsUnansweredTurn c true old new
   pub first : c.faults ≤ before
   pub rose : Rose before count
   pub last : new.faults ≡ count
@@ -64,7 +69,8 @@ module _ {D : Type 0} where
       subst (λ (l : List Entry). IsPrefix old.history l) (sym same) (IsPrefix-append old.history old.pending)
 
   pub turn-answered : (count : D → ℕ) (c : Progress) (asks : List Ask) (answers : List Answer) (old new : Known)
-      → IsWithin c (mark_of old) → IsTurn count asks (Ok answers) old new → IsAnsweredTurn c asks answers old new
+      → IsWithin c (mark_of old c.totals) → IsTurn count asks (Ok answers) old new → IsAnsweredTurn c asks answers old
+      new
   turn-answered count c asks answers old new w t =
       let says = t.says in
       record {
@@ -78,22 +84,28 @@ module _ {D : Type 0} where
         places = λ steps s.
             t.mine ∙ places_from says.repaired t.left.history t.left.recorded old.mine asks answers steps says.history
             says.recorded s;
+        stake = t.stake;
       }
 
   unanswered : (count : D → ℕ) (c : Progress) (asks : List Ask) (result : Result (List Answer) CallFault)
       (old new : Known)
-      → IsWithin c (mark_of old) → (t : IsTurn count asks result old new) → IsPrefix t.found.history t.left.history
-      → t.left.recorded ≡ 0 → IsUnansweredTurn c old new
+      → IsWithin c (mark_of old c.totals) → (t : IsTurn count asks result old new) → IsPrefix t.found.history
+      t.left.history
+      → t.left.recorded ≡ 0 → IsUnansweredTurn c (failed_by result) old new
   unanswered count c asks result old new w t longer none = record {
     begins =
         IsPrefix-trans c.seen old.seen new.seen w.seen
         (subst (λ (l : List Entry). IsPrefix old.seen l) (sym t.seen)
         (IsPrefix-trans old.seen t.found.history t.left.history t.begins longer));
     mine = t.mine ∙ none_kept t.left.history t.left.recorded old.mine none;
+    pending = t.left.pending;
+    stake = t.stake
+        ∙ ap (λ (H : List Entry). stake_after old.stake (failed_by result) H t.left.pending) (sym t.seen);
+    fit = t.fit;
   }
 
   pub turn-failed : (count : D → ℕ) (c : Progress) (asks : List Ask) (before after : ℕ) (old new : Known)
-      → IsWithin c (mark_of old) → IsTurn count asks (Err (fault.StoreFault before after)) old new
+      → IsWithin c (mark_of old c.totals) → IsTurn count asks (Err (fault.StoreFault before after)) old new
       → IsFailedTurn c before after old new
   turn-failed count c asks before after old new w t =
       let cause = t.cause in let low = w.faults in let met = t.faults in
@@ -116,7 +128,8 @@ module _ {D : Type 0} where
       }
 
   pub turn-uncalled : (count : D → ℕ) (c : Progress) (asks : List Ask) (old new : Known)
-      → IsWithin c (mark_of old) → IsTurn count asks (Err fault.Memory) old new → IsUnansweredTurn c old new
+      → IsWithin c (mark_of old c.totals) → IsTurn count asks (Err fault.Memory) old new
+      → IsUnansweredTurn c false old new
   turn-uncalled count c asks old new w t =
       unanswered count c asks (Err fault.Memory) old new w t (repaired-longer t.found t.left.history t.says.found)
       t.says.none

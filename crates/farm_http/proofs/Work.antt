@@ -8,7 +8,7 @@ use Rattle.connection_laws.specs.Moments.{Given}
 use Rattle.http_requests.specs.Items.{Item, Items, End, closed}
 use Rattle.http_requests.proofs.ItemLaws.{open-append, open-some}
 use Rattle.link_io.specs.declared.source.TheConstants.{INPUT_LIMIT}
-use Rattle.farm_http.specs.declared.caller.Caller.{Caller}
+use Rattle.farm_http.specs.Callers.{CallerState}
 use Rattle.farm_http.specs.Connection.{work_left}
 use Rattle.farm_http.specs.Fronts.{AreAnswered, AreClosing, AreOpen, Halves}
 use Rattle.farm_http.specs.Received.{IsTaken, ReceivedState, is_complete}
@@ -34,7 +34,7 @@ closes-count false complete held items size one other =
 
 -- what was answered at once is not more than what is held, but for one
 pub answered-count : (gives : Given → Type 0) (c : Progress) (complete : Bool) (held : List ℕ) (out : Bool)
-    (put : List ℕ) (link : Halves) (old new : Caller) (done : Answered)
+    (put : List ℕ) (link : Halves) (old new : CallerState) (done : Answered)
     → AreAnswered gives c complete held out put link old new done
     → done.requests ≤ length held + 1
 answered-count gives c complete held out put link old new done a =

@@ -5,6 +5,7 @@ use Rattle.http_requests.specs.Fronts.{behind}
 use Rattle.connection_laws.specs.Held.{IsSoFar}
 use Rattle.connection_laws.specs.Outcomes.{Step}
 use Rattle.connection_laws.specs.Told.{noted_in}
+use Rattle.connection_laws.specs.Owners.{holding_of}
 use Rattle.connection_laws.specs.Progress.{Progress}
 use Rattle.connection_laws.specs.Serving.{HasPassed, IsServed, IsStopped, IsWaiting}
 use Rattle.connection_laws.specs.declared.served.Served.{Served}
@@ -14,13 +15,12 @@ use Rattle.connection_laws.specs.Moments.{Given}
 use Rattle.http_requests.specs.Items.{Item, Items, End}
 use Rattle.link_io.specs.Links.{LinkState}
 use Rattle.link_io.specs.declared.source.TheConstants.{INPUT_LIMIT}
-use Rattle.farm_http.specs.Callers.{IsAfter, mark_of}
-use Rattle.farm_http.specs.declared.caller.Caller.{Caller}
+use Rattle.farm_http.specs.Callers.{CallerState, IsAfter, mark_of}
 use Rattle.farm_http.specs.Received.{ReceivedState, AsksInterim}
 
 -- Of what was taken, the items so far were answered whole, none of them closes, and what is behind them is held. An
 -- interim answer may be out for the one at the front.
-pub record IsServing (start : Progress) (gives : Given → Type 0) (old new : Caller) (before now : LinkState)
+pub record IsServing (start : Progress) (gives : Given → Type 0) (old new : CallerState) (before now : LinkState)
     (r : ReceivedState) (requests : ℕ) : Type 0 where
   pub taken : List ℕ
   pub put : List ℕ
@@ -39,25 +39,28 @@ pub record IsServing (start : Progress) (gives : Given → Type 0) (old new : Ca
 
 -- The serving came to this where all was answered, where a fault stopped it, and where more had to be taken: from the
 -- caller and the link at entry to those now.
-abbrev pub WasServed : Served → Progress → (Given → Type 0) → (old new : Caller) → (before now : LinkState) → Type 0
+abbrev pub WasServed : Served → Progress → (Given → Type 0) → (old new : CallerState) → (before now : LinkState) →
+    Type 0
 WasServed served start gives old new before now =
-    IsServed served start (mark_of new.pass) gives (noted_in new.pass.rows before now) before now old.pass.mine
-    new.pass.mine new.reader
+    IsServed served start (mark_of new.pass new.reader) gives (noted_in new.pass.rows before now) before now
+    (holding_of old.pass) (holding_of new.pass) new.reader
 
-abbrev pub HasStopped : ServeFault → Progress → (Given → Type 0) → (old new : Caller) → (before now : LinkState)
+abbrev pub HasStopped : ServeFault → Progress → (Given → Type 0) → (old new : CallerState) → (before now : LinkState)
     → Type 0
 HasStopped fault start gives old new before now =
-    IsStopped fault start (mark_of new.pass) gives (noted_in new.pass.rows before now) before now old.pass.mine
-    new.pass.mine new.reader
+    IsStopped fault start (mark_of new.pass new.reader) gives (noted_in new.pass.rows before now) before now
+    (holding_of old.pass) (holding_of new.pass) new.reader
 
-abbrev pub IsLeftWaiting : Progress → (Given → Type 0) → (old new : Caller) → (before now : LinkState) → Type 0
+abbrev pub IsLeftWaiting : Progress → (Given → Type 0) → (old new : CallerState) → (before now : LinkState) → Type 0
 IsLeftWaiting start gives old new before now =
-    IsWaiting start (mark_of new.pass) gives (noted_in new.pass.rows before now) before now old.pass.mine new.pass.mine
+    IsWaiting start (mark_of new.pass new.reader) gives (noted_in new.pass.rows before now) before now
+    (holding_of old.pass) (holding_of new.pass)
     new.reader
 
 -- What the serving came to, by its answer and by the bytes that are held in the end: after a fault it takes the list
 -- of the items of these.
-abbrev pub HasServed : Result Served ServeFault → (held : List ℕ) → Progress → (Given → Type 0) → (old new : Caller)
+abbrev pub HasServed : Result Served ServeFault → (held : List ℕ) → Progress → (Given → Type 0) →
+    (old new : CallerState)
     → (before now : LinkState) → Type 0
 HasServed (Ok served) held start gives old new before now = WasServed served start gives old new before now
 HasServed (Err fault) held start gives old new before now =
@@ -69,8 +72,8 @@ work_left r = 2 * (INPUT_LIMIT - r.taken) + length r.held + (if r.ended then 0 e
 
 -- What a turn of the loop came to: it goes on, and less is left to do than there was; or it has ended; or a fault
 -- stopped it.
-abbrev pub GoesOn : Progress → (Given → Type 0) → (old : Caller) → (before : LinkState) → (work : ℕ)
-    → Result (Option Why) ServeFault → (new : Caller) → (now : LinkState) → ReceivedState → (requests : ℕ) → Type 0
+abbrev pub GoesOn : Progress → (Given → Type 0) → (old : CallerState) → (before : LinkState) → (work : ℕ)
+    → Result (Option Why) ServeFault → (new : CallerState) → (now : LinkState) → ReceivedState → (requests : ℕ) → Type 0
 GoesOn start gives old before work (Ok None) new now r requests =
     IsServing start gives old new before now r requests × (work_left r < work)
 GoesOn start gives old before work (Ok (Some why)) new now r requests =

@@ -13,9 +13,8 @@ use Rattle.http_requests.specs.Next.{MayFollow}
 use Rattle.link_io.specs.Intake.{Intake}
 use Rattle.link_io.specs.declared.sink.Sink as sink
 use Rattle.list_prefix.specs.Prefix.{IsPrefix}
-use Rattle.farm_http.specs.Callers.{IsAfter}
+use Rattle.farm_http.specs.Callers.{CallerState, IsAfter}
 use Rattle.farm_http.specs.Noting.{ArePreceded, IsUnbegun}
-use Rattle.farm_http.specs.declared.caller.Caller.{Caller}
 use Rattle.farm_http.specs.declared.front.Answered.{Answered}
 
 -- These items stand at the front of the bytes, and none of them closes: they take so many bytes, at least one each.
@@ -48,7 +47,7 @@ halves K old new =
 
 -- Items at the front were answered whole.
 pub record AreAnswered (gives : Given → Type 0) (c : Progress) (complete : Bool) (held : List ℕ) (out : Bool)
-    (put : List ℕ) (link : Halves) (old new : Caller) (done : Answered) : Type 0 where
+    (put : List ℕ) (link : Halves) (old new : CallerState) (done : Answered) : Type 0 where
   pub items : List Item
   pub steps : List Step
   pub some : 1 ≤ length items
@@ -61,7 +60,7 @@ pub record AreAnswered (gives : Given → Type 0) (c : Progress) (complete : Boo
 
 -- A part of the answers to items at the front was put.
 pub record ArePartly (gives : Given → Type 0) (c : Progress) (held : List ℕ) (out : Bool) (put : List ℕ) (link : Halves)
-    (old new : Caller) : Type 0 where
+    (old new : CallerState) : Type 0 where
   pub items : List Item
   pub steps : List Step
   pub front : Fronts held items
@@ -72,7 +71,7 @@ pub record ArePartly (gives : Given → Type 0) (c : Progress) (held : List ℕ)
       ⊎ IsUnbegun (interim_of out ++ put) items
 
 abbrev pub FrontBy : (Given → Type 0) → Progress → (complete : Bool) → List ℕ → (out : Bool) → List ℕ
-    → Halves → (old new : Caller)
+    → Halves → (old new : CallerState)
     → Result Answered ServeFault → Type 0
 FrontBy gives c complete held out put link old new (Ok done) =
     AreAnswered gives c complete held out put link old new done
@@ -81,7 +80,7 @@ FrontBy gives c complete held out put link old new (Err fault) = ArePartly gives
 -- What answering the items at the front came to, from what is carried to them: the bytes that were put, and the steps
 -- that the items came to.
 pub record FrontSays (gives : Given → Type 0) (c : Progress) (complete : Bool) (held : List ℕ) (out : Bool)
-    (link : Halves) (old new : Caller) (result : Result Answered ServeFault) : Type 0 where
+    (link : Halves) (old new : CallerState) (result : Result Answered ServeFault) : Type 0 where
   pub put : List ℕ
   pub puts : link.now ≡ append_known link.before put
   pub says : FrontBy gives c complete held out put link old new result

@@ -27,11 +27,10 @@ use farm_disk::DatedDisk;
 use farm_entry::Answer;
 use farm_store::{Answers, Ask, CallFault};
 use farm_wire::{WireFault, answer_text_in, command_of, fault_text};
-use gathered_sink::Gathered;
 use http_answers::{answer_status, store_fault_text};
 use http_requests::Request;
 use http_words::{Endpoint, Route, StatusCode};
-use link_io::{Clock, Link, Sink};
+use link_io::{Clock, Gathered, Link, Sink};
 use shared_farm::{Beginning, Pass};
 use std::alloc::Global;
 use std::mem;
@@ -58,7 +57,7 @@ impl Kept {
         requires empty { self.old.out ≡ [] }
         ensures ready { IsReady service.now.farm.now pass.new }
         ensures empty { OnOk result (self.new.out ≡ []) }
-        ensures says { (c : Progress) → IsWithin c (mark_of pass.old)
+        ensures says { (c : Progress) → IsWithin c (mark_of pass.old c.totals)
             → FrontSays (GivenBy C.Clock service.now.clock.now D.count) c (is_complete received.now) received.now.held
             received.now.interim (halves L.Sink link.old link.new)
             (record { pass = pass.old; reader = c.totals }) (record { pass = pass.new; reader = c.totals }) result }

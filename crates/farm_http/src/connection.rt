@@ -8,10 +8,10 @@ ghost use Rattle.link_io.specs.declared.source.TheConstants.{INPUT_LIMIT};
 ghost use Rattle.turn_lock.specs.Known.{IsReady};
 ghost use Rattle.connection_laws.specs.Moments.{GivenBy};
 ghost use Rattle.connection_laws.specs.Progress.{Progress};
+ghost use Rattle.farm_http.specs.Callers.{CallerState, state_of};
 ghost use Rattle.farm_http.specs.Connection.{GoesOn, IsServing, work_left};
 ghost use Rattle.farm_http.specs.Faults.{OnLinkFault};
 ghost use Rattle.farm_http.specs.Received.{AsksInterim, is_complete, nothing_received};
-ghost use Rattle.farm_http.specs.declared.caller.Caller.{Caller};
 
 use crate::caller::Caller;
 use crate::kept::Kept;
@@ -53,7 +53,7 @@ impl Connection {
     pub fn serve_next<R: Wait, L: Link<Over = D::Over>, D: DatedDisk, B: Beginning, C: Clock>(
         &mut self,
         service: &Service<R, D, B, C>,
-        caller: &mut Caller,
+        caller: &mut Caller<B>,
         link: &mut L,
     ) -> Result<Option<Why>, ServeFault>
         requires ready { IsReady service.now.farm.now caller.old.pass }
@@ -64,13 +64,13 @@ impl Connection {
         ensures ready { IsReady service.now.farm.now caller.new.pass }
         ensures legal { IsLegal caller.new.reader }
         ensures empty { OnOk result (self.new.kept.out ≡ []) }
-        ensures goes_on { (start : Progress) (old : Caller) (before : LinkState)
-            → IsServing start (GivenBy C.Clock service.now.clock.now D.count) old caller.old before
+        ensures goes_on { (start : Progress) (old : CallerState) (before : LinkState)
+            → IsServing start (GivenBy C.Clock service.now.clock.now D.count) old (state_of caller.old) before
             (link_state L.Source L.Sink link.old) self.old.received self.old.requests
             → IsLegal start.totals
             → GoesOn start (GivenBy C.Clock service.now.clock.now D.count) old before (work_left self.old.received)
             result
-            caller.new (link_state L.Source L.Sink link.new) self.new.received self.new.requests }
+            (state_of caller.new) (link_state L.Source L.Sink link.new) self.new.received self.new.requests }
         ensures cause { OnLinkFault result (Rose (L.Source.count link.old) (L.Source.count link.new)) }
         ensures never_falls { L.Source.count link.old ≤ L.Source.count link.new }
     {
@@ -97,7 +97,7 @@ impl Connection {
     fn answer_next<R: Wait, L: Link<Over = D::Over>, D: DatedDisk, B: Beginning, C: Clock>(
         &mut self,
         service: &Service<R, D, B, C>,
-        caller: &mut Caller,
+        caller: &mut Caller<B>,
         link: &mut L,
         first: &Request,
     ) -> Result<Option<Why>, ServeFault>
@@ -110,13 +110,13 @@ impl Connection {
         ensures ready { IsReady service.now.farm.now caller.new.pass }
         ensures legal { IsLegal caller.new.reader }
         ensures empty { OnOk result (self.new.kept.out ≡ []) }
-        ensures goes_on { (start : Progress) (old : Caller) (before : LinkState)
-            → IsServing start (GivenBy C.Clock service.now.clock.now D.count) old caller.old before
+        ensures goes_on { (start : Progress) (old : CallerState) (before : LinkState)
+            → IsServing start (GivenBy C.Clock service.now.clock.now D.count) old (state_of caller.old) before
             (link_state L.Source L.Sink link.old) self.old.received self.old.requests
             → IsLegal start.totals
             → GoesOn start (GivenBy C.Clock service.now.clock.now D.count) old before (work_left self.old.received)
             result
-            caller.new (link_state L.Source L.Sink link.new) self.new.received self.new.requests }
+            (state_of caller.new) (link_state L.Source L.Sink link.new) self.new.received self.new.requests }
         ensures cause { OnLinkFault result (Rose (L.Source.count link.old) (L.Source.count link.new)) }
         ensures never_falls { L.Source.count link.old ≤ L.Source.count link.new }
     {

@@ -11,7 +11,7 @@ ghost use Rattle.past_moments.specs.Rows.{AreAmong};
 ghost use Rattle.connection_laws.specs.Answers.{response_of, response_to};
 ghost use Rattle.connection_laws.specs.Outcomes.{counted, faulted};
 ghost use Rattle.farm_http.specs.Bytes.{PutSays, request_bytes};
-ghost use Rattle.farm_http.specs.Callers.{mark_of};
+ghost use Rattle.farm_http.specs.Callers.{mark_of, state_of};
 ghost use Rattle.farm_http.specs.Faults.{OnPutFault};
 ghost use Rattle.farm_http.specs.Fronts.{FrontSays, halves};
 ghost use Rattle.farm_http.specs.Noting.{MayNote};
@@ -26,11 +26,10 @@ use crate::service::Service;
 use crate::told::tell;
 use connection_laws::ServeFault;
 use farm_disk::DatedDisk;
-use gathered_sink::Gathered;
 use http_answers::{fault_allow, fault_status, fault_text};
 use http_requests::Request;
 use http_words::{Endpoint, Fault};
-use link_io::{Clock, Link, Sink};
+use link_io::{Clock, Gathered, Link, Sink};
 use shared_farm::{Beginning, TotalsReader};
 use std::alloc::Global;
 use std::sync::Wait;
@@ -66,7 +65,7 @@ impl Kept {
     pub fn answer_front<R: Wait, L: Link<Over = D::Over>, D: DatedDisk, B: Beginning, C: Clock>(
         &mut self,
         service: &Service<R, D, B, C>,
-        caller: &mut Caller,
+        caller: &mut Caller<B>,
         link: &mut L,
         received: &Received,
         first: &Request,
@@ -77,9 +76,10 @@ impl Kept {
         requires interim { received.now.interim ≡ first.now.interim }
         ensures ready { IsReady service.now.farm.now caller.new.pass }
         ensures empty { OnOk result (self.new.out ≡ []) }
-        ensures says { (c : Progress) → IsWithin c (mark_of caller.old.pass) → caller.old.reader ≡ c.totals
+        ensures says { (c : Progress) → IsWithin c (mark_of caller.old.pass caller.old.reader)
+            → caller.old.reader ≡ c.totals
             → FrontSays (GivenBy C.Clock service.now.clock.now D.count) c (is_complete received.now) received.now.held
-            received.now.interim (halves L.Sink link.old link.new) caller.old caller.new result }
+            received.now.interim (halves L.Sink link.old link.new) (state_of caller.old) (state_of caller.new) result }
         ensures aside { MayNote (L.Sink.aside link.old) (L.Sink.aside link.new) (L.Sink.written link.old)
             caller.new.pass }
         ensures rows { AreAmong caller.old.pass.rows caller.new.pass.rows }
@@ -106,10 +106,10 @@ impl Kept {
     }
 
     /// Answers a request for the totals that were posted last.
-    fn answer_totals<K: Sink>(
+    fn answer_totals<K: Sink, B: Beginning>(
         &mut self,
         alloc: Global,
-        reader: &mut TotalsReader,
+        reader: &mut TotalsReader<B>,
         link: &mut K,
         request: &Request,
     ) -> Result<(), ServeFault>

@@ -3,8 +3,8 @@ ghost use Rattle.std.specs.Prelude.{◌≡◌, []};
 
 use crate::batch::Batch;
 use crate::told::ToldTotals;
-use gathered_sink::Gathered;
 use http_requests::LastHead;
+use link_io::Gathered;
 use std::alloc::Global;
 
 /// What is kept: the head that was read last, room for a batch, for the text of an answer and for the answers that go

@@ -12,6 +12,7 @@ ghost use Rattle.http_words.specs.declared.status_code.StatusCode.TheVariants as
 ghost use Rattle.past_moments.specs.Rows.{AreAmong};
 ghost use Rattle.shared_farm.specs.Logs.{IsOver};
 ghost use Rattle.turn_lock.specs.Known.{IsReady};
+ghost use Rattle.connection_laws.specs.Owners.{holding_of};
 ghost use Rattle.farm_http.specs.Bytes.{PutSays, request_bytes};
 ghost use Rattle.farm_http.specs.Faults.{OnPutFault};
 ghost use Rattle.farm_http.specs.Noting.{TookNote};
@@ -22,10 +23,9 @@ use connection_laws::ServeFault;
 use farm_disk::DatedDisk;
 use farm_wire::log_text;
 use fault_types::Memory;
-use gathered_sink::Gathered;
 use http_requests::Request;
 use http_words::StatusCode;
-use link_io::{Clock, Link, Sink};
+use link_io::{Clock, Gathered, Link, Sink};
 use past_moments::Past;
 use shared_farm::{Beginning, Pass};
 use std::alloc::Global;
@@ -47,7 +47,7 @@ pub(crate) fn answer_log<R: Wait, D: DatedDisk, B: Beginning, C: Clock, L: Link<
     ensures ready { IsReady service.now.farm.now pass.new }
     ensures empty { OnOk result (out.new ≡ []) }
     ensures longer { IsPrefix pass.old.seen pass.new.seen }
-    ensures mine { pass.new.mine ≡ pass.old.mine }
+    ensures holds { holding_of pass.new ≡ holding_of pass.old }
     ensures faults { pass.old.faults ≤ pass.new.faults }
     ensures says { (written : Bool) × PutSays
         (request_bytes request.now (response_of (record { outcome = copied pass.new.seen from; written = written })))
@@ -97,7 +97,7 @@ fn page_text<R: Wait, D: DatedDisk, B: Beginning, C: Clock>(
     requires from { 1 ≤ from }
     ensures ready { IsReady service.now.farm.now pass.new }
     ensures longer { IsPrefix pass.old.seen pass.new.seen }
-    ensures mine { pass.new.mine ≡ pass.old.mine }
+    ensures holds { holding_of pass.new ≡ holding_of pass.old }
     ensures faults { pass.old.faults ≤ pass.new.faults }
     ensures rows { AreAmong pass.old.rows pass.new.rows }
     ensures over { IsOver (D.Over.at result.1) pass.new }

@@ -8,11 +8,10 @@ ghost use Rattle.farm_http.specs.Faults.{OnPutFault};
 
 use crate::fault_answers::unput;
 use connection_laws::ServeFault;
-use gathered_sink::Gathered;
 use http_answers::{Answer, memory_text, put_answer};
 use http_requests::Request;
 use http_words::{Allow, StatusCode};
-use link_io::{PutFault, Sink, put_all};
+use link_io::{Gathered, PutFault, Sink, put_all};
 
 /// What an answer says, apart from how it is put.
 #[derive(Clone, Copy)]

@@ -7,6 +7,7 @@ ghost use Rattle.list_prefix.specs.Prefix.{IsPrefix};
 ghost use Rattle.turn_lock.specs.Known.{IsReady};
 ghost use Rattle.connection_laws.specs.Marks.{Follows};
 ghost use Rattle.connection_laws.specs.Moments.{GivenBy};
+ghost use Rattle.connection_laws.specs.Owners.{holding_of};
 ghost use Rattle.connection_laws.specs.Progress.{progress_from};
 ghost use Rattle.connection_laws.specs.Serving.{Serves};
 ghost use Rattle.connection_laws.specs.Told.{noted_in};
@@ -37,18 +38,20 @@ use std::sync::Wait;
 /// answers, and what was recorded stays.
 pub fn serve_link<R: Wait, L: Link<Over = D::Over>, D: DatedDisk, B: Beginning, C: Clock>(
     service: &Service<R, D, B, C>,
-    caller: &mut Caller,
+    caller: &mut Caller<B>,
     link: &mut L,
 ) -> Result<Served, ServeFault>
     requires ready { IsReady service.now.farm.now caller.old.pass }
     requires legal { IsLegal caller.old.reader }
     ensures ready { IsReady service.now.farm.now caller.new.pass }
     ensures serves { Serves result (progress_from caller.old.pass.seen caller.old.reader caller.old.pass.faults)
-        (mark_of caller.new.pass) (GivenBy C.Clock service.now.clock.now D.count)
+        (mark_of caller.new.pass caller.new.reader) (GivenBy C.Clock service.now.clock.now D.count)
         (noted_in caller.new.pass.rows (link_state L.Source L.Sink link.old) (link_state L.Source L.Sink link.new))
         (link_state L.Source L.Sink link.old)
-        (link_state L.Source L.Sink link.new) caller.old.pass.mine caller.new.pass.mine caller.new.reader }
-    ensures follows { Follows (mark_of caller.old.pass) (mark_of caller.new.pass) }
+        (link_state L.Source L.Sink link.new) (holding_of caller.old.pass) (holding_of caller.new.pass)
+        caller.new.reader }
+    ensures follows { Follows (mark_of caller.old.pass caller.old.reader)
+        (mark_of caller.new.pass caller.new.reader) }
     ensures read { IsPrefix caller.old.reader caller.new.reader }
     ensures legal { IsLegal caller.new.reader }
     ensures cause { OnLinkFault result (Rose (L.Source.count link.old) (L.Source.count link.new)) }

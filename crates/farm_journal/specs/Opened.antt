@@ -33,3 +33,10 @@ OpeningCause Unborn first last = ⊤
 OpeningCause (Damaged o) first last = ⊤
 OpeningCause (StoreFault before after) first last = (before ≡ first) × (after ≡ last) × Rose first last
 OpeningCause Memory first last = ⊤
+
+-- what holds where all bytes were read, though they are no journal
+abbrev pub OnRead : OpeningFault → Type 0 → Type 0
+OnRead Unborn P = P
+OnRead (Damaged o) P = P
+OnRead (StoreFault before after) P = ⊤
+OnRead Memory P = ⊤

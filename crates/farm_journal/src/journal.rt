@@ -25,7 +25,7 @@ ghost use Rattle.std.specs.Prelude.{
   length,
   slice_index,
 };
-ghost use Rattle.farm_disk.specs.Images.{EachImage, LeavesOnly, LeavesSinceSync, moment};
+ghost use Rattle.farm_disk.specs.Images.{EachImage, IsSettled, LeavesOnly, LeavesSinceSync, moment};
 ghost use Rattle.farm_journal.specs.Created.{
   disk_created,
   Creates,
@@ -36,7 +36,7 @@ ghost use Rattle.farm_journal.specs.Created.{
 };
 ghost use Rattle.farm_journal.specs.Faults.{OnStoreFault, OnMemory, HasCause};
 ghost use Rattle.farm_journal.specs.Layout.{IsPayload, IsVersion, gate_of, holds, is_unborn, opens, version_of};
-ghost use Rattle.farm_journal.specs.Opened.{disk_after, Answers, OpeningCause};
+ghost use Rattle.farm_journal.specs.Opened.{disk_after, Answers, OnRead, OpeningCause};
 ghost use Rattle.farm_journal.specs.ReadsOnly.{ReadsOnly};
 ghost use Rattle.farm_journal.specs.Mended.{Reads, payloads_after, version_after};
 ghost use Rattle.farm_journal.specs.State.{IsBeforeOrAfter, IsHeld, IsPending};
@@ -166,6 +166,9 @@ impl<D: Disk> Journal<D> {
         ensures one_or_two { IfOk result (λ opened. IsVersion opened.0.version) }
         ensures held { IfOk result (λ opened. D.tells disk ≡ true → IsHeld opened.1 (D.told opened.0.disk)) }
         ensures only { D.tells disk ≡ true → ReadsOnly (D.told disk) (D.told (disk_after result)) }
+        // Where the bytes were read and are no journal, each crash from then on leaves just them.
+        ensures settled { IfErr result (λ missed. OnRead missed.1 (D.tells disk ≡ true
+            → IsSettled (D.told missed.0))) }
         ensures three_calls { IfOk result (λ opened. D.tells disk ≡ true
             → moment (D.told opened.0.disk) ≡ moment (D.told disk) + 3) }
         ensures cause { IfErr result (λ missed. OpeningCause missed.1 (D.count disk) (D.count missed.0)) }

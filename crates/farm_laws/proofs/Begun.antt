@@ -6,10 +6,10 @@ use Rattle.farm_types.specs.Moment.{moment_ms}
 use Rattle.farm_types.specs.declared.moment.Moment.{Moment}
 use Rattle.farm_entry.specs.Closing.{begins_at, is_beginning}
 use Rattle.farm_entry.specs.Decision.{last_moment, later, moment_used}
-use Rattle.farm_entry.specs.History.{is_closed, is_closing, opening_in, openings, order_in, order_lines}
+use Rattle.farm_entry.specs.History.{is_closed, is_closing, order_in, order_lines}
 use Rattle.farm_entry.specs.declared.entry.Entry.{Entry}
 use Rattle.farm_entry.specs.declared.entry.What.{What}
-use Rattle.farm_entry.specs.declared.entry.What.TheVariants.{Opened, Ordered, Closed}
+use Rattle.farm_entry.specs.declared.entry.What.TheVariants.{Ordered, Closed}
 
 -- of two moments of which the first isn't after the second, the later one is the second
 pub later-second : (a b : Moment) → moment_ms a ≤ moment_ms b → later a b ≡ b
@@ -52,17 +52,9 @@ parts-begun part none (e ∷ H) m begun =
     ap (λ (o : Option _). cons_option o (filter_map (λ (x : Entry). part x.what) H)) nothing
     ∙ parts-begun part none H m parts.1
 
-no-opening : (w : What) → is_beginning w ≡ true → opening_in w ≡ None
-no-opening (Opened o) h = absurd (true≢false (sym h))
-no-opening w h = refl
-
 no-order : (w : What) → is_beginning w ≡ true → order_in w ≡ None
 no-order (Ordered key agent order commit search day) h = absurd (true≢false (sym h))
 no-order w h = refl
-
--- so there is no search yet, and no order that the farm gave
-pub openings-begun : (H : List Entry) (m : Moment) → list_all (begins_at m) H ≡ true → openings H ≡ []
-openings-begun = parts-begun opening_in no-opening
 
 pub order_lines-begun : (H : List Entry) (m : Moment) → list_all (begins_at m) H ≡ true → order_lines H ≡ []
 order_lines-begun = parts-begun order_in no-order

@@ -8,7 +8,7 @@ use Rattle.farm_rules.specs.Orders as rules
 use Rattle.farm_rules.proofs.Drafts.{next_draft-ok}
 use Rattle.farm_types.specs.Moment.{moment_ms}
 use Rattle.farm_types.specs.declared.moment.Moment.{Moment}
-use Rattle.farm_entry.specs.History.{cancelled_in, carried_in, daily_limit, is_closing, lease_in, opening_in, order_in, order_lines, ordered_in, report_in, skip_in, told_in}
+use Rattle.farm_entry.specs.History.{cancelled_in, daily_limit, is_closing, lease_in, opening_in, order_in, order_lines, ordered_in, report_in, skip_in, told_in}
 use Rattle.farm_entry.specs.Legal.{IsFounding, IsLegal}
 use Rattle.farm_entry.specs.Orders.{confirmed_searches, day_in, orders}
 use Rattle.farm_entry.specs.declared.entry.Entry.{Entry}
@@ -21,7 +21,7 @@ use Rattle.farm_entry.specs.declared.opening.Opening.{Opening}
 use Rattle.farm_entry.specs.declared.order_page.OrderLine.{OrderLine}
 use Rattle.farm_entry.proofs.Growing.{parts-grow}
 use Rattle.farm_laws.proofs.Induct.{each_legal}
-use Rattle.farm_laws.proofs.Stepped.{CancelledNext, CarriedNext, ClosedNext, LeasedNext, OpenedNext, OrderedNext, ReportedNext, SkippedNext, Stepped, ToldNext}
+use Rattle.farm_laws.proofs.Stepped.{CancelledNext, ClosedNext, LeasedNext, OpenedNext, OrderedNext, ReportedNext, SkippedNext, Stepped, ToldNext}
 
 -- the facts of an entry that holds an opening, a lease, a report with a verdict or not, a cancellation, an order
 
@@ -178,21 +178,6 @@ ordered-facts H m (Carried c t) x h s = absurd (none-some x h)
 ordered-facts H m Closed x h s = absurd (none-some x h)
 
 -- a carried order, and a closing
-
-pub carried-facts : (H : List Entry) (m : Moment) (w : What) (x : rules.Ordered) → carried_in w ≡ Some x →
-    Stepped H m w → CarriedNext H m x.commit x.day
-carried-facts H m (Carried c t) x h s =
-    let made : rules.Ordered = record { commit = c; day = t } in
-    let same : made ≡ x = cc in
-    subst (λ (y : rules.Ordered). CarriedNext H m y.commit y.day) same s.facts
-carried-facts H m (Founded y) x h s = absurd (none-some x h)
-carried-facts H m (Opened y) x h s = absurd (none-some x h)
-carried-facts H m (Leased k w n q t p d) x h s = absurd (none-some x h)
-carried-facts H m (Reported n v _) x h s = absurd (none-some x h)
-carried-facts H m (Skipped n _) x h s = absurd (none-some x h)
-carried-facts H m (Cancelled k q) x h s = absurd (none-some x h)
-carried-facts H m (Ordered k a n c q d) x h s = absurd (none-some x h)
-carried-facts H m Closed x h s = absurd (none-some x h)
 
 pub closing-is : (w : What) → is_closing w ≡ true → w ≡ Closed
 closing-is Closed h = refl

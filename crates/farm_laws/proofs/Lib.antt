@@ -1,10 +1,11 @@
 pub mod Again
 pub mod Begun
+pub mod Beliefs
 pub mod Bounds
 pub mod CarriedOver
 pub mod Closings
+pub mod Counting
 pub mod Counts
-pub mod Culprits
 pub mod DueRooms
 pub mod Ends
 pub mod EntryParts
@@ -19,7 +20,7 @@ pub mod Loads
 pub mod Made
 pub mod Moments
 pub mod Numbered
-pub mod OnceEach
+pub mod OneMore
 pub mod OpenLeases
 pub mod OpenLimits
 pub mod OpenPlans

@@ -11,17 +11,16 @@ use Rattle.farm_types.specs.Moment.{moment_ms}
 use Rattle.farm_types.specs.declared.moment.Moment.{Moment}
 use Rattle.farm_types.specs.declared.moment.TheConstants.{LAST_DAY, MOMENT_MAX_MS}
 use Rattle.farm_types.specs.declared.zone.TheConstants.{ZONE_MAX_MINUTES}
-use Rattle.farm_entry.specs.History.{carried_in, order_in, order_lines, ordered_in, settings_of, zone_minutes}
+use Rattle.farm_entry.specs.History.{order_in, order_lines, ordered_in, settings_of, zone_minutes}
 use Rattle.farm_entry.specs.Legal.{IsFounding, IsLegal}
-use Rattle.farm_entry.specs.Orders.{carried, orders}
+use Rattle.farm_entry.specs.Orders.{orders}
 use Rattle.farm_entry.specs.Settings.{settings_zone_minutes}
 use Rattle.farm_entry.specs.declared.entry.Entry.{Entry}
 use Rattle.farm_entry.specs.declared.entry.What.{What}
 use Rattle.farm_entry.specs.declared.entry.What.TheVariants.{Founded, Opened, Leased, Reported, Skipped, Cancelled, Ordered, Carried, Closed}
 use Rattle.farm_entry.specs.declared.order_page.OrderLine.{OrderLine}
 use Rattle.farm_entry.specs.declared.settings.Settings.{Settings}
-use Rattle.farm_laws.proofs.CarriedOver.{no_carried}
-use Rattle.farm_laws.proofs.EntryParts.{carried-facts, each_part, ordered-facts}
+use Rattle.farm_laws.proofs.EntryParts.{each_part, ordered-facts}
 use Rattle.farm_laws.proofs.Numbered.{no_order}
 use Rattle.farm_laws.proofs.Stepped.{Stepped}
 
@@ -91,8 +90,3 @@ pub all-days : (H : List Entry) → IsLegal H → All (λ (x : rules.Ordered). x
 all-days =
     each_part ordered_in (λ (H : List Entry) (x : rules.Ordered). x.day ≤ LAST_DAY) no_ordered
     (λ H e x legal s before. before) (λ H e x legal s is. ordered-dated H e.at e.what x is s)
-
-pub carried-days : (H : List Entry) → IsLegal H → All (λ (x : rules.Ordered). x.day ≤ LAST_DAY) (carried H)
-carried-days =
-    each_part carried_in (λ (H : List Entry) (x : rules.Ordered). x.day ≤ LAST_DAY) no_carried
-    (λ H e x legal s before. before) (λ H e x legal s is. (carried-facts H e.at e.what x is s).dated)

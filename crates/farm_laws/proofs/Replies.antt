@@ -7,7 +7,7 @@ use Rattle.std.proofs.lemmas.List.Elements.{All-contains}
 use Rattle.std.proofs.lemmas.Option.{none-some, slice_get_within}
 use Rattle.farm_types.specs.Moment.{moment_ms}
 use Rattle.farm_types.specs.declared.moment.Moment.{Moment}
-use Rattle.farm_entry.specs.History.{all_leases, lease_of, opening_numbered, settings_in, settings_of}
+use Rattle.farm_entry.specs.History.{all_leases, lease_of, opening_numbered}
 use Rattle.farm_entry.specs.Legal.{IsFounding, IsLegal, command_of}
 use Rattle.farm_entry.specs.Reply.{reply_at, reply_to, reply_to_report, reply_to_skip}
 use Rattle.farm_entry.specs.Standing.{standing}
@@ -19,7 +19,6 @@ use Rattle.farm_entry.specs.declared.lease.LeasedRun.{LeasedRun}
 use Rattle.farm_entry.specs.declared.opening.Opening.{Opening}
 use Rattle.farm_entry.specs.declared.reply.Reply.{Reply}
 use Rattle.farm_entry.specs.declared.reply.Reply.TheVariants as reply
-use Rattle.farm_entry.specs.declared.settings.Settings.{Settings}
 use Rattle.farm_laws.specs.Openings.{HasOpening}
 use Rattle.farm_laws.proofs.Filters.{lease_of-stays, opening_numbered-stays}
 use Rattle.farm_laws.proofs.Induct.{each_legal}
@@ -141,19 +140,3 @@ reply-there H place e q legal there named =
     H legal place e q there named
 
 -- Settings.
-
-founded-with : (what : What) → IsFounding what → (s : Settings) × (settings_in what ≡ Some s)
-founded-with (Founded settings) founding = (settings, refl)
-founded-with (Opened o) founding = absurd founding
-founded-with (Leased key worker run search stage position deadline) founding = absurd founding
-founded-with (Reported run verdict _) founding = absurd founding
-founded-with (Skipped run _) founding = absurd founding
-founded-with (Cancelled key search) founding = absurd founding
-founded-with (Ordered key agent order commit search day) founding = absurd founding
-founded-with (Carried c t) founding = absurd founding
-founded-with Closed founding = absurd founding
-
--- what a farm was founded with is there, and stays
-pub settings-there : (H K : List Entry) → IsLegal H → (s : Settings) × (settings_of (H ++ K) ≡ Some s) × (settings_of H ≡ Some s)
-settings-there [] K legal = absurd legal
-settings-there (f ∷ H) K legal = let with = founded-with f.what legal.0 in (with.0, with.1, with.1)

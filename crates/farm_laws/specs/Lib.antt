@@ -2,3 +2,4 @@ pub mod Days
 pub mod Laws
 pub mod Loads
 pub mod Openings
+pub mod Steps

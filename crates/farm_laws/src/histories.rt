@@ -1,37 +1,20 @@
 //! Laws of every legal history: what stands in it once, in which order, and how much.
 
-ghost use Rattle.std.specs.Prelude.{◌≡◌, ◌≢◌, ◌↔◌, ℕ, ◌+◌, ◌<◌, ◌≤◌, false, List, [], ◌∷◌, ◌++◌, length, map, All, AllPairs, Some};
+ghost use Rattle.std.specs.Prelude.{◌≡◌, ◌≢◌, ◌↔◌, ℕ, ◌+◌, ◌<◌, ◌≤◌, false, List, [], ◌∷◌, ◌++◌, length, map, AllPairs};
 ghost use Rattle.std.specs.List.{range_with_len};
 ghost use Rattle.farm_rules.specs.Orders.{Ordered, orders_of};
 ghost use Rattle.farm_types.specs.Moment.{moment_ms};
-ghost use Rattle.farm_entry.specs.History.{all_leases, daily_limit, is_closed, lease_of, openings, order_lines, reports, told_runs};
-ghost use Rattle.farm_laws.specs.Laws.{keys};
+ghost use Rattle.farm_entry.specs.History.{all_leases, daily_limit, is_closed, openings, order_lines};
 ghost use Rattle.farm_entry.specs.Legal.{IsLegal, IsNext};
 ghost use Rattle.farm_entry.specs.Orders.{given, orders};
 ghost use Rattle.farm_entry.specs.declared.limits.TheConstants.{MAX_ENTRIES, MAX_SEARCHES};
 
-use farm_entry::{Entry, LeasedRun, Opening, OrderLine, ReportedRun};
+use farm_entry::{Entry, LeasedRun, Opening, OrderLine};
 
 /// A legal history grows by entries that may come next, one after the other, and each beginning of it is legal.
 pub fn legal_histories_grow_by_entries()
     ensures one_more { (H : List Entry) (e : Entry) → IsLegal H → IsLegal (H ++ e ∷ []) ↔ IsNext H e }
     ensures beginning { (H K : List Entry) → H ≢ [] → IsLegal (H ++ K) → IsLegal H }
-{}
-
-/// No two entries hold the same key.
-pub fn each_key_stands_once()
-    ensures { (H : List Entry) → IsLegal H → AllPairs (λ a b. a ≢ b) (keys H) }
-{}
-
-/// Each run has at most one report, with a verdict or as one whose tree can't be tested, and each reported run was
-/// handed out.
-pub fn each_run_is_reported_once()
-    ensures once { (H : List Entry) → IsLegal H → AllPairs (λ (a b : ReportedRun). a.run ≢ b.run) (reports H) }
-    ensures handed_out { (H : List Entry) → IsLegal H
-        → All (λ (r : ReportedRun). (l : LeasedRun) × (lease_of H r.run ≡ Some l)) (reports H) }
-    ensures told_once { (H : List Entry) → IsLegal H → AllPairs (λ (a b : ℕ). a ≢ b) (told_runs H) }
-    ensures told_of_handed_out { (H : List Entry) → IsLegal H
-        → All (λ (run : ℕ). (l : LeasedRun) × (lease_of H run ≡ Some l)) (told_runs H) }
 {}
 
 /// Moments never fall from entry to entry.
@@ -71,9 +54,4 @@ pub fn no_day_is_over_its_limit()
     ensures given { (H : List Entry) (day : ℕ) → IsLegal H → orders_of day (given H) ≤ daily_limit H }
     ensures carried { (H : List Entry) (day : ℕ) → IsLegal H → 0 < orders_of day (given H)
         → orders_of day (orders H) ≤ daily_limit H }
-{}
-
-/// A closing is the last entry of its history.
-pub fn a_closing_is_the_last_entry()
-    ensures { (H : List Entry) (e : Entry) → IsLegal (H ++ e ∷ []) → H ≢ [] → is_closed H ≡ false }
 {}

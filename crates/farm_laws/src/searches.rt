@@ -1,37 +1,21 @@
 //! Laws of the searches of every legal history: what their runs are, how they end, and how many runs are out.
 
-ghost use Rattle.std.specs.Prelude.{◌≡◌, ◌≢◌, ℕ, ◌*◌, ◌+◌, ◌<◌, ◌≤◌, ◌⊎◌, ◌↔◌, false, List, ◌++◌, length, Contains, Some};
-ghost use Rattle.flake_rate.specs.Miss.{FitsRate};
+ghost use Rattle.std.specs.Prelude.{◌≡◌, ◌≢◌, ℕ, ◌*◌, ◌+◌, ◌<◌, ◌≤◌, ◌↔◌, false, List, ◌++◌, length, Contains, Some};
 ghost use Rattle.farm_types.specs.declared.stage.Stage.TheVariants.{Search, Verify};
-ghost use Rattle.suspect_range.specs.Range.{IsSuspectRange};
 ghost use Rattle.weight_exact.specs.Load.{floor, load};
 ghost use Rattle.weight_exact.specs.Share.{IsReached};
-ghost use Rattle.weight_exact.specs.Weights.{AreInRange, suspects};
+ghost use Rattle.weight_exact.specs.Weights.{suspects};
 ghost use Rattle.farm_entry.specs.Due.{open_leases, outstanding};
-ghost use Rattle.farm_entry.specs.History.{all_leases, leases, opening_numbered, openings, reruns, runs, skipped};
+ghost use Rattle.farm_entry.specs.History.{openings, reruns, runs, skipped};
 ghost use Rattle.farm_laws.specs.Laws.{IsNotBefore, culprit_of};
 ghost use Rattle.farm_laws.specs.Loads.{LoadsFit};
 ghost use Rattle.farm_entry.specs.Legal.{IsLegal};
 ghost use Rattle.farm_entry.specs.Setup.{budget_of_search, setup_of};
 ghost use Rattle.farm_entry.specs.Standing.{is_active, at_bar, standing};
 ghost use Rattle.farm_entry.specs.declared.limits.TheConstants.{MAX_RERUNS};
-ghost use Rattle.weight_exact.specs.declared.limits.TheConstants.{MAX_WIDTH};
-ghost use Rattle.farm_entry.specs.declared.standing.Standing.TheVariants.{Searching, Verifying, Confirmed, NoCulprit};
+ghost use Rattle.farm_entry.specs.declared.standing.Standing.TheVariants.{Searching, Confirmed, NoCulprit};
 
-use farm_entry::{Entry, LeasedRun, Opening};
-
-/// Each search was opened within the limits, and is found by its number.
-pub fn openings_are_within_limits()
-    ensures range { (H : List Entry) (o : Opening) → IsLegal H → Contains (openings H) o
-        → IsSuspectRange o.range.base o.range.suspects o.range.calm }
-    ensures miss { (H : List Entry) (o : Opening) → IsLegal H → Contains (openings H) o → FitsRate o.miss o.rate }
-    ensures width { (H : List Entry) (o : Opening) → IsLegal H → Contains (openings H) o
-        → (1 ≤ o.width) × (o.width ≤ MAX_WIDTH) }
-    ensures reruns { (H : List Entry) (o : Opening) → IsLegal H → Contains (openings H) o
-        → (1 ≤ o.reruns) × (o.reruns ≤ MAX_RERUNS) }
-    ensures numbered { (H : List Entry) (o : Opening) → IsLegal H → Contains (openings H) o
-        → opening_numbered H o.search ≡ Some o }
-{}
+use farm_entry::{Entry, Opening};
 
 /// A hypothesis is at the bar exactly where it reaches it, at most one does, and a standing that names a suspect names
 /// that one.
@@ -42,22 +26,6 @@ pub fn at_bar_exactly_where_reached()
         → IsReached (setup_of o) (runs H o.search) i → IsReached (setup_of o) (runs H o.search) j → i ≡ j }
     ensures culprit { (H : List Entry) (o : Opening) (culprit : ℕ) → culprit_of (standing H o) ≡ Some culprit
         → (at_bar H o ≡ Some culprit) × (1 ≤ culprit) × (culprit ≤ suspects (setup_of o)) }
-{}
-
-/// A run that is to find the culprit is at a suspect's position, and one that verifies a culprit is at the culprit or
-/// just below it. Each run that was handed out is of a search.
-pub fn runs_are_in_range()
-    ensures runs { (H : List Entry) (o : Opening) → IsLegal H → Contains (openings H) o
-        → AreInRange (setup_of o) (runs H o.search) }
-    ensures searching { (H : List Entry) (o : Opening) (l : LeasedRun) → IsLegal H → Contains (openings H) o
-        → Contains (leases H o.search) l → l.stage ≡ Search
-        → (1 ≤ l.position) × (l.position ≤ suspects (setup_of o)) }
-    ensures verifying { (H : List Entry) (o : Opening) (l : LeasedRun) → IsLegal H → Contains (openings H) o
-        → Contains (leases H o.search) l → l.stage ≡ Verify
-        → (culprit : ℕ) × (at_bar H o ≡ Some culprit) × (1 ≤ culprit) × (culprit ≤ suspects (setup_of o))
-        × ((l.position ≡ culprit) ⊎ (l.position + 1 ≡ culprit)) }
-    ensures of_a_search { (H : List Entry) (l : LeasedRun) → IsLegal H → Contains (all_leases H) l
-        → (o : Opening) × (opening_numbered H l.search ≡ Some o) }
 {}
 
 /// Once a search isn't searching, the runs by which its belief is made stay as they are, and so does what they brought

@@ -28,11 +28,11 @@ use Rattle.farm_laws.proofs.EntryParts.{told-facts}
 use Rattle.farm_laws.proofs.Filters.{lease_of-stays, opening_numbered-stays}
 use Rattle.farm_laws.proofs.Numbered.{number-at, opening-found, opening-there, openings-numbered}
 use Rattle.farm_laws.proofs.Stepped.{Stepped}
-use Rattle.search_laws.specs.Steps.{IsAbout}
-use Rattle.search_laws.proofs.OneMore.{standing-same}
+use Rattle.farm_laws.specs.Steps.{IsAbout}
+use Rattle.farm_laws.proofs.OneMore.{standing-same}
 use Rattle.search_state.specs.SearchView.{SearchView, standing_in}
-use Rattle.state_laws.specs.Seen.{seen}
-use Rattle.state_laws.proofs.Changes.{cancelled-seen}
+use Rattle.search_state.specs.Seen.{seen}
+use Rattle.search_state.proofs.Changes.{cancelled-seen}
 use Rattle.farm_ledger.specs.Waiting.{IsLowest, IsServed, low_after, low_at, low_leased, unordered, waiting, waiting_numbered}
 use Rattle.farm_ledger.proofs.Counts.{IsUnopened, opened-number}
 use Rattle.farm_ledger.proofs.Earliest.{candidates-each, first-earliest, none-earliest}

@@ -3,3 +3,6 @@ pub mod Reruns
 pub mod Orders
 pub mod NextOrder
 pub mod Day
+pub mod Verification
+pub mod StandsFor
+pub mod Answer

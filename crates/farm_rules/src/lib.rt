@@ -1,12 +1,26 @@
 //! The rules of the farm that several crates are proved against: which run is due, what reruns come to, which search
-//! gets the next revert order, and the day that an order counts on.
+//! gets the next revert order, and the day that an order counts on; and the calls that compute the first two.
 //!
-//! The rules are definitions, in specs/: nothing here runs. They compute by recursion on lists, so that the worked
-//! numbers in [`laws`] are found by evaluating them; the other laws there say what characterises them. The types that a
-//! rule is asked with and answers, where it has some of its own, stand here too, so that every layer above means the
-//! same by a candidate, a draft and a refusal. The crate stands on `farm_types` for ids, moments and days, on
-//! `weight_exact` for runs, and on `thiserror` for the texts of refusals. The layers above may cite the lemmas of
-//! `proofs/Striking` (what is left of a plan), `proofs/Earliest` and `proofs/Drafts` (the next order).
+//! The rules are definitions, in specs/. They compute by recursion on lists, so that the worked numbers in [`laws`] are
+//! found by evaluating them; the other laws there say what characterises them. The types that a rule is asked with and
+//! answers, where it has some of its own, stand here too, so that every layer above means the same by a candidate, a
+//! draft and a refusal.
+//!
+//! A search that runs several tests at once keeps the positions of the runs that are out. [`due_search`] says what
+//! comes next of the plan of a searching search, and [`due_verify`] what comes next of the reruns of a verifying one.
+//! [`is_left`] tells it entry by entry, for a caller that makes no more of its plan than it needs. The layer above
+//! passes the plan and the positions that are out, each as often as it runs.
+//!
+//! That a named suspect is rerun, at it and at its parent, before anything is reverted is how LUCI's bisection verifies
+//! a culprit. [`Verify`] takes the reruns one by one, in the order in which they end. Its contracts say what it stands
+//! for (`specs/StandsFor.antt`): the plain list of the reruns that counted. It keeps counts and not reruns. After any
+//! list of reruns a verification has ended exactly as the rules say of those that counted, and a late rerun changes
+//! nothing ([`verifications`]). `Verify::counts` tells how many counted at the culprit and at its parent.
+//!
+//! No call takes memory. The crate stands on `farm_types` for ids, moments and days, on `weight_exact` for runs, and on
+//! `thiserror` for the texts of refusals. The layers above may cite `StandsFor`, `answer`, the fields of a
+//! `Verification`, and the lemmas of `proofs/Striking` (what is left of a plan), `proofs/Earliest` and `proofs/Drafts`
+//! (the next order).
 //!
 //! The laws: what is due doesn't depend on the order of the outstanding runs (`outstanding_runs_in_any_order`); the
 //! search that gets an order is the first with the least number among the confirmed ones whose commit has none
@@ -15,8 +29,15 @@
 #![tactic(auto)]
 
 mod day;
+mod due;
 pub mod laws;
 mod orders;
+mod outcome;
+pub mod verifications;
+mod verify;
 
 pub use day::{MS_PER_DAY, MS_PER_MINUTE};
+pub use due::{due_search, due_verify, is_left};
 pub use orders::{Candidate, Draft, NoOrder, OrderedCommit};
+pub use outcome::Outcome;
+pub use verify::Verify;

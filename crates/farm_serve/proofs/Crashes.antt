@@ -1,7 +1,7 @@
 -- What a crash leaves as a store goes on by turns.
 use Rattle.std.proofs.Common.{◌≡◌, ◌⊎◌, ◌≤◌, ◌++◌, ◌∷◌, [], ℕ, List, refl, sym, subst, inl, inr, ⊎_elim}
 use Rattle.std.proofs.lemmas.List.{append-nil}
-use Rattle.connection_laws.specs.Marks.{Follows, Mark}
+use Rattle.connection_laws.specs.Marks.{Follows, Mark, mark_with}
 use Rattle.farm_disk.proofs.Moments.{leaves-append, leaves-weaker, leaves_only-start, leaves_only-trans, leaves_only-weaker}
 use Rattle.farm_disk.specs.Images.{LeavesOnly, LeavesSince, Step, moment}
 use Rattle.farm_disk.specs.declared.disk.Disk as disk
@@ -24,7 +24,7 @@ came-first meant store = record { same = refl; turns = []; turned = λ tell. ref
 
 -- how a rest is seen
 abbrev pub mark_of_rest : Rest → Mark
-mark_of_rest rest = record { seen = rest.history; faults = rest.faults }
+mark_of_rest rest = mark_with rest.history rest.faults
 
 -- what stands within two marks does so where the last one is a later one
 within-later : (first mid last : Mark) (c : List ℕ) → Follows mid last → StandsWithin first mid c
@@ -42,8 +42,8 @@ within-later first mid last c follows w = record {
 
 -- and where the first one has a lower count
 pub within-from : (seen : List Entry) (low high : ℕ) (last : Mark) (c : List ℕ) → low ≤ high
-    → StandsWithin (record { seen = seen; faults = high }) last c
-    → StandsWithin (record { seen = seen; faults = low }) last c
+    → StandsWithin (mark_with seen high) last c
+    → StandsWithin (mark_with seen low) last c
 within-from seen low high last c le w = record {
   history = w.history;
   undecided = w.undecided;
@@ -111,7 +111,7 @@ reached-on first mid last r turn =
     let f : Mark = mark_of_rest first in
     let m : Mark = mark_of_rest mid in
     let l : Mark = mark_of_rest last in
-    let on : Follows m l = record { longer = turn.longer; more = turn.never_falls } in
+    let on : Follows m l = record { longer = turn.longer; counted = turn.longer; more = turn.never_falls } in
     let all : Follows f l = Follows-trans f m l r.follows on in
     let decided : (last.pending ≡ []) ⊎ Rose first.faults last.faults = ⊎_elim
     (λ (none : last.pending ≡ []). inl none)

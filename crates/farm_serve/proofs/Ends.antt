@@ -2,7 +2,7 @@
 use Rattle.std.proofs.Common.{◌≡◌, ◌⊎◌, ⊎_elim, inl, inr, [], ℕ, List, length, Option, Result, Ok, Err, Bool, true, false, if◌then◌else◌, sym, refl, subst, ap, ◌∙◌}
 use Rattle.std.proofs.Math.Seq.{take-length}
 use Rattle.std.specs.Io.KnownBytes.{append_known}
-use Rattle.connection_laws.specs.Marks.{Mark}
+use Rattle.connection_laws.specs.Marks.{Mark, mark_with}
 use Rattle.farm_disk.proofs.Moments.{leaves_only-weaker}
 use Rattle.farm_disk.specs.Images.{IsSettled, LeavesOnly, LeavesSinceSync}
 use Rattle.farm_disk.specs.declared.disk.Disk as disk
@@ -101,7 +101,11 @@ links_served start final clock said links s line before now h = record {
   accepts = λ fine. h.accepts (short_of s.short s.failed line fine);
   asked = h.asked;
   back = h.back;
-  held = AreHeldBack-longer start final final clock clock said said s.short (is_memory (ending_of s line)) h.gained
+  owned = h.owned;
+  places = h.places;
+  whose = h.whose;
+  held = AreHeldBack-longer start final final clock clock said said s.short (is_memory (ending_of s line)) h.owned
+      [] h.gained
       (Follows-refl final) (λ at m. m) (IsSaidBy-refl final said) (memory_of s.short s.failed line) h.held;
   fault = tells_failure s.short s.failed (has_failed h.gained) line h.faults;
 }
@@ -197,7 +201,7 @@ pub opened-ends : {D : Type 0} (meant : disk.Ghosts D) (clock : Moment → Type 
     (store given : StoreState D) (s : Standing) (ending : Ending) (net net_after : NetworkSeen)
     (out out_after : OutputSeen)
     → before ≡ meant.count old → WasOpened meant store old
-    → ComesTo (record { seen = store.history; faults = before }) (store_mark meant.count given) clock
+    → ComesTo (mark_with store.history before) (store_mark meant.count given) clock
     (acknowledged_by (meant.tells given.disk) (meant.told given.disk)) links s net net_after
     → CameBy meant (begun_of meant store) given → EndSays s (farm_line given.history) ending out out_after
     → IsLegal given.history → back ≡ given.disk
@@ -213,10 +217,10 @@ opened-ends {D} meant clock links old back before store given s ending net net_a
     (λ tell. subst (λ (d : D). IsStored given.history given.pending (meant.told d)) is_back
     (stored (came.same ∙ (opened.same ∙ tell))))
     (crashes meant old store given opened came)
-    (subst (λ (t : Bool). ComesTo (record { seen = store.history; faults = meant.count old })
+    (subst (λ (t : Bool). ComesTo (mark_with store.history (meant.count old))
     (store_mark meant.count given) clock (acknowledged_by t (meant.told given.disk)) links s net net_after)
     (came.same ∙ opened.same)
-    (subst (λ (n : ℕ). ComesTo (record { seen = store.history; faults = n }) (store_mark meant.count given) clock
+    (subst (λ (n : ℕ). ComesTo (mark_with store.history n) (store_mark meant.count given) clock
     (acknowledged_by (meant.tells given.disk) (meant.told given.disk)) links s net net_after) counted comes))
     says)
 

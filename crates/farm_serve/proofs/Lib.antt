@@ -4,6 +4,7 @@ pub mod Crashes
 pub mod Ends
 pub mod Links
 pub mod Marks
+pub mod Owners
 pub mod Openings
 pub mod Served
 pub mod Steps

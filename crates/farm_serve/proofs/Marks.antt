@@ -5,6 +5,7 @@ use Rattle.connection_laws.proofs.Loop.{held-longer, held-said}
 use Rattle.connection_laws.proofs.Moments.{held-more}
 use Rattle.connection_laws.specs.Marks.{Mark, Follows}
 use Rattle.connection_laws.specs.Moments.{Given, at_moment, at_count, given_by, with_counts}
+use Rattle.connection_laws.specs.Owners.{Owned}
 use Rattle.connection_laws.specs.Progress.{progress_at}
 use Rattle.connection_laws.specs.Serving.{IsHeldOf}
 use Rattle.connection_laws.specs.Told.{Saying}
@@ -17,11 +18,12 @@ use Rattle.list_prefix.proofs.Prefixes.{IsPrefix-refl, IsPrefix-trans}
 use Rattle.farm_serve.specs.Links.{IsHeldBack}
 
 pub Follows-refl : (m : Mark) → Follows m m
-Follows-refl m = record { longer = IsPrefix-refl m.seen; more = omega arith }
+Follows-refl m = record { longer = IsPrefix-refl m.seen; counted = IsPrefix-refl m.totals; more = omega arith }
 
 pub Follows-trans : (a b c : Mark) → Follows a b → Follows b c → Follows a c
 Follows-trans a b c h k = record {
   longer = IsPrefix-trans a.seen b.seen c.seen h.longer k.longer;
+  counted = IsPrefix-trans a.totals b.totals c.totals h.counted k.counted;
   more = (let p = h.more in let q = k.more in omega arith);
 }
 
@@ -35,10 +37,11 @@ IsSaidBy-refl later said notes place H begins holds = holds
 
 -- what is held for a mark is held for each that follows, with more that may be given
 pub IsHeldOf-more : (start final later : Mark) (one other : Given → Type 0) (said in_words : List Note → Saying)
-    (link : LinkState) (whole : Bool) → Follows final later → ((given : Given) → one given → other given)
-    → IsSaidBy later said in_words → IsHeldOf start final one said link whole
-    → IsHeldOf start later other in_words link whole
-IsHeldOf-more start final later one other said in_words link whole follows more by h = record {
+    (owned : Owned) (link : LinkState) (whole : Bool) → Follows final later
+    → ((given : Given) → one given → other given) → IsSaidBy later said in_words
+    → IsHeldOf start final one said owned link whole → IsHeldOf start later other in_words owned link whole
+unfolding held-longer held-more held-said
+IsHeldOf-more start final later one other said in_words owned link whole follows more by h = record {
   taken = h.taken;
   put = h.put;
   takes = h.takes;
@@ -50,6 +53,7 @@ IsHeldOf-more start final later one other said in_words link whole follows more 
       (by h.notes)
       (held-more one other more (progress_at start) later (said h.notes) h.taken h.put link.ended whole
       (held-longer (progress_at start) final later one (said h.notes) h.taken h.put link.ended whole follows h.held));
+  owns = h.owns;
 }
 
 -- any counts, by a clock that may give more
@@ -60,25 +64,26 @@ any_counts clock other counts more (at_count faults) gives = tt
 
 -- the same for each clock that may give more
 pub IsHeldOf-longer : (start final later : Mark) (clock other : Moment → Type 0) (said in_words : List Note → Saying)
-    (link : LinkState) (whole : Bool)
+    (owned : Owned) (link : LinkState) (whole : Bool)
     → Follows final later → ((at : Moment) → clock at → other at) → IsSaidBy later said in_words
-    → IsHeldOf start final (with_counts clock) said link whole
-    → IsHeldOf start later (with_counts other) in_words link whole
-IsHeldOf-longer start final later clock other said in_words link whole follows more by h =
-    IsHeldOf-more start final later (with_counts clock) (with_counts other) said in_words link whole follows
+    → IsHeldOf start final (with_counts clock) said owned link whole
+    → IsHeldOf start later (with_counts other) in_words owned link whole
+IsHeldOf-longer start final later clock other said in_words owned link whole follows more by h =
+    IsHeldOf-more start final later (with_counts clock) (with_counts other) said in_words owned link whole follows
     (any_counts clock other (λ _. ⊤) more) by h
 
 -- and what is held of a link taken back, where memory ran out since then, too
 pub IsHeldBack-longer : (start final later : Mark) (clock other : Moment → Type 0) (said in_words : List Note → Saying)
-    (short still : Bool) (link : LinkState)
+    (short still : Bool) (owned : Owned) (link : LinkState)
     → Follows final later → ((at : Moment) → clock at → other at) → IsSaidBy later said in_words
     → (short ≡ true → still ≡ true)
-    → IsHeldBack start final clock said short link → IsHeldBack start later other in_words still link
-IsHeldBack-longer start final later clock other said in_words short still link follows more by stays (inl whole) =
-    inl (IsHeldOf-longer start final later clock other said in_words link true follows more by whole)
-IsHeldBack-longer start final later clock other said in_words short still link follows more by stays
+    → IsHeldBack start final clock said short owned link → IsHeldBack start later other in_words still owned link
+IsHeldBack-longer start final later clock other said in_words short still owned link follows more by stays (inl whole) =
+    inl (IsHeldOf-longer start final later clock other said in_words owned link true follows more by whole)
+IsHeldBack-longer start final later clock other said in_words short still owned link follows more by stays
     (inr (part, inl want)) =
-    inr (IsHeldOf-longer start final later clock other said in_words link _ follows more by part, inl (stays want))
-IsHeldBack-longer start final later clock other said in_words short still link follows more by stays
+    inr
+    (IsHeldOf-longer start final later clock other said in_words owned link _ follows more by part, inl (stays want))
+IsHeldBack-longer start final later clock other said in_words short still owned link follows more by stays
     (inr (part, inr fault)) =
-    inr (IsHeldOf-longer start final later clock other said in_words link _ follows more by part, inr fault)
+    inr (IsHeldOf-longer start final later clock other said in_words owned link _ follows more by part, inr fault)

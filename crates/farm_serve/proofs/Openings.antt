@@ -1,10 +1,11 @@
 -- What a crash leaves as a disk is opened and then goes on.
 use Rattle.std.proofs.Common.{◌≡◌, ◌++◌, ◌+◌, ◌<◌, ◌≤◌, ℕ, true, List, [], ◌∷◌, length, sym, subst, ⊎_elim, length-append, arith}
 use Rattle.std.proofs.lemmas.Bool.{cases_lt}
-use Rattle.farm_disk.proofs.Moments.{leaves-append, leaves-later, leaves-weaker, leaves_only-trans, leaves_only-weaker}
+use Rattle.farm_disk.proofs.Moments.{leaves-append, leaves-later, leaves-weaker, leaves_only-trans}
 use Rattle.farm_disk.specs.Images.{DiskState, IsSettled, IsSyncedAt, LeavesOnly, LeavesSince, LeavesSinceSync, Step, cut, moment, still, sync, write}
 use Rattle.farm_disk.specs.declared.disk.Disk as disk
 use Rattle.farm_entry.specs.Legal.{IsLegal}
+use Rattle.farm_journal.proofs.OpeningSteps.{reads-leaves}
 use Rattle.farm_journal.specs.ReadsOnly.{ReadsOnly}
 use Rattle.farm_store.specs.Bytes.{StandsFor}
 use Rattle.farm_store.specs.State.{IsStored, StoreState}
@@ -43,8 +44,7 @@ pub any_moment-opened : (old mid new : DiskState) (P : List ℕ → Type 0) → 
     → LeavesOnly mid new P → IsSettled old → LeavesOnly old new P
 any_moment-opened old mid new P holds only leaves settled =
     leaves_only-trans old mid new P
-    (leaves_only-weaker old mid (λ (c : List ℕ). c ≡ old.bytes) P (λ c is. subst P (sym is) holds)
-    (only.any_moment settled))
+    (reads-leaves old mid only P (λ c image. subst P (sym (settled c image)) holds) holds)
     leaves
 
 -- what is known of a store that was opened on a disk

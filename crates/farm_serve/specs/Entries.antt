@@ -1,14 +1,16 @@
 -- What serving began with.
 use Rattle.std.specs.Prelude.{ℕ, List, [], Option, None}
 use Rattle.atomic_table.specs.Seated.{TableId}
-use Rattle.connection_laws.specs.Marks.{Mark}
+use Rattle.connection_laws.specs.Marks.{Mark, mark_with}
+use Rattle.farm_entry.specs.declared.entry.Entry.{Entry}
 use Rattle.net_io.specs.Events.{NetworkEvent}
 
 -- the farm's lock, its history and its disk's count at entry, what the network had told and its count at entry, and how
 -- many accepts are to be made
 pub record AtEntry : Type 0 where
   pub lock : TableId
-  pub start : Mark
+  pub first : List Entry
+  pub faults : ℕ
   pub told : Option (List NetworkEvent)
   pub count : ℕ
   pub links : ℕ
@@ -24,8 +26,9 @@ no_table = record {
   slot_names = [];
 }
 
-abbrev pub no_mark : Mark
-no_mark = record { seen = []; faults = 0 }
-
 abbrev pub at_no_entry : AtEntry
-at_no_entry = record { lock = no_table; start = no_mark; told = None; count = 0; links = 0 }
+at_no_entry = record { lock = no_table; first = []; faults = 0; told = None; count = 0; links = 0 }
+
+-- what was seen of the farm at entry
+abbrev pub start_of : AtEntry → Mark
+start_of a = mark_with a.first a.faults

@@ -1,11 +1,14 @@
 -- What is said of the events that a network gained, the newest first.
 use Rattle.std.specs.Prelude.{◌≡◌, ◌+◌, ℕ, List, [], ◌∷◌, Bool, true, false, ⊤}
-use Rattle.connection_laws.specs.Marks.{Mark}
+use Rattle.connection_laws.specs.Marks.{Follows, Mark}
+use Rattle.connection_laws.specs.Owners.{Owned, both_owned, none_owned}
 use Rattle.connection_laws.specs.Told.{Saying}
 use Rattle.farm_types.specs.declared.moment.Moment.{Moment}
 use Rattle.link_io.specs.Notes.{Note}
 use Rattle.net_io.specs.Events.{NetworkEvent, accepted, accept_ended, accept_failed, connected, connect_failed, returned}
-use Rattle.farm_serve.specs.Links.{IsHeldBack}
+use Rattle.turn_lock.specs.Loans.{AreSame}
+use Rattle.turn_lock.specs.declared.view.Loan.{Loan}
+use Rattle.farm_serve.specs.Links.{IsHeldBack, loan_of, mark_lent}
 
 -- how many accepts were made
 abbrev pub accepts_of : List NetworkEvent → ℕ
@@ -68,14 +71,28 @@ AreAccepts (connected ∷ events) = ⊥
 AreAccepts (connect_failed ∷ events) = ⊥
 AreAccepts (returned link ∷ events) = AreAccepts events
 
--- what is held of each link that was taken back
-abbrev pub AreHeldBack : Mark → Mark → (Moment → Type 0) → (List Note → Saying) → (short : Bool)
-    → List NetworkEvent → Type 0
-AreHeldBack start final clock said short [] = ⊤
-AreHeldBack start final clock said short (accepted ∷ events) = AreHeldBack start final clock said short events
-AreHeldBack start final clock said short (accept_ended ∷ events) = AreHeldBack start final clock said short events
-AreHeldBack start final clock said short (accept_failed ∷ events) = AreHeldBack start final clock said short events
-AreHeldBack start final clock said short (connected ∷ events) = AreHeldBack start final clock said short events
-AreHeldBack start final clock said short (connect_failed ∷ events) = AreHeldBack start final clock said short events
-AreHeldBack start final clock said short (returned link ∷ events) =
-    IsHeldBack start final clock said short link × AreHeldBack start final clock said short events
+-- What is held of each link that was taken back, up to what was seen then; what entries are theirs together; and which
+-- of them came before which.
+--
+-- At each accept that gave a link, what was seen then was lent to a link, and all that is held of the links that were
+-- taken back by then is held up to it. Each link begins with what was lent at an accept before it was taken back, and
+-- no two begin with the same one's: `out` are the loans of the links that are still out, each as often as it was lent.
+abbrev pub AreHeldBack : Mark → Mark → (Moment → Type 0) → (List Note → Saying) → (short : Bool) → Owned
+    → (out : List Loan) → List NetworkEvent → Type 0
+AreHeldBack start final clock said short owned out [] =
+    (owned ≡ none_owned) × Follows start final × AreSame out []
+AreHeldBack start final clock said short owned out (accepted ∷ events) =
+    (mark : Mark) × (others : List Loan) × Follows mark final × AreSame out (loan_of mark ∷ others)
+    × AreHeldBack start mark clock said short owned others events
+AreHeldBack start final clock said short owned out (accept_ended ∷ events) =
+    AreHeldBack start final clock said short owned out events
+AreHeldBack start final clock said short owned out (accept_failed ∷ events) =
+    AreHeldBack start final clock said short owned out events
+AreHeldBack start final clock said short owned out (connected ∷ events) =
+    AreHeldBack start final clock said short owned out events
+AreHeldBack start final clock said short owned out (connect_failed ∷ events) =
+    AreHeldBack start final clock said short owned out events
+AreHeldBack start final clock said short owned out (returned link ∷ events) =
+    (others own : Owned) × (loan : Loan) × (mark : Mark) × (owned ≡ both_owned others own)
+    × IsHeldBack (mark_lent start loan) final clock said short own link × Follows mark final
+    × AreHeldBack start mark clock said short others (loan ∷ out) events

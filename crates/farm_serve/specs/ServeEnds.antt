@@ -1,6 +1,6 @@
 -- What a service promises.
-use Rattle.std.specs.Prelude.{◌≡◌, ◌⊎◌, ◌<◌, ◌++◌, ℕ, List, [], true, false, Option, Some, IfSome}
-use Rattle.connection_laws.specs.Marks.{Mark, Follows}
+use Rattle.std.specs.Prelude.{◌≡◌, ◌⊎◌, ◌<◌, ◌++◌, ℕ, List, [], length, true, false, Option, Some, IfSome}
+use Rattle.connection_laws.specs.Marks.{Mark, Follows, mark_with}
 use Rattle.farm_disk.specs.Images.{IsSettled, LeavesOnly, LeavesSinceSync}
 use Rattle.farm_entry.specs.Legal.{IsLegal}
 use Rattle.farm_entry.specs.declared.entry.Entry.{Entry}
@@ -14,7 +14,9 @@ use Rattle.farm_store.specs.State.{IsStored}
 use Rattle.farm_types.specs.declared.moment.Moment.{Moment}
 use Rattle.fault_types.specs.Counts.{Rose}
 use Rattle.net_io.specs.Events.{NetworkEvent}
+use Rattle.connection_laws.specs.Owners.{AreAllOwned, Owned}
 use Rattle.connection_laws.specs.Told.{Saying}
+use Rattle.turn_lock.specs.Places.{ArePlaces}
 use Rattle.link_io.specs.Notes.{Note}
 use Rattle.farm_serve.specs.Acknowledged.{acknowledged_by}
 use Rattle.farm_serve.specs.Crashes.{StandsWithin, WentByTurns}
@@ -25,15 +27,25 @@ use Rattle.farm_serve.specs.Outside.{DiskSeen, Outside}
 use Rattle.farm_serve.specs.declared.ending.Ending.{Ending}
 use Rattle.farm_serve.specs.declared.ending.Ending.TheVariants as end
 
--- what is seen of a farm: a history, and how often its disk has failed
+-- what is seen of a farm: a history, with its totals, and how often its disk has failed
 abbrev pub mark_at : List Entry → DiskSeen → Mark
-mark_at history disk = record { seen = history; faults = disk.faults }
+mark_at history disk = mark_with history disk.faults
 
 -- Of the events that the network gained, the newest first. Unless memory ran out they hold so many accepts, or fewer of
 -- which the last one answered that no more will come; no connect was made, and no accept behind such an answer. As
 -- many links were taken back as were given. Each of them was read and answered whole; or a part is held of what was put
--- to it, and then it failed, or memory ran out: from the mark at entry to the one at exit, with the moments that the
--- clock may give. And whether an accept failed is as the ending says.
+-- to it, and then it failed, or memory ran out: from what was lent to it to what was seen when it was taken back, with
+-- the moments that the clock may give, and with this said of its answers by the notes that it took. And whether an
+-- accept failed is as the ending says.
+--
+-- Each link begins at histories that begin with all that the links were told which had been taken back before its
+-- accept, but for totals: of those it begins at what there was at entry. The network doesn't say which of the links
+-- that are out came from which accept: the beginnings of those are what was seen at their accepts, one for each
+-- (`AreHeldBack`).
+--
+-- Each entry behind the history of the first mark is a connection's own. One command of one connection recorded it, at
+-- its place in the history; or it was pending in a turn whose command got 503, behind the history of that turn, and all
+-- that was pending then is in the last history, and no more than fits one record.
 pub record LinksServed (start final : Mark) (clock : Moment → Type 0)
     (said : List Note → Saying) (links : ℕ) (ending : Ending)
     (before : List NetworkEvent) (now : Option (List NetworkEvent)) : Type 0 where
@@ -43,7 +55,10 @@ pub record LinksServed (start final : Mark) (clock : Moment → Type 0)
       → (accepts_of gained ≡ links) ⊎ ((accepts_of gained < links) × (last_ended gained ≡ true))
   pub asked : AreAccepts gained
   pub back : links_of gained ≡ returns_of gained
-  pub held : AreHeldBack start final clock said (is_memory ending) gained
+  pub owned : Owned
+  pub held : AreHeldBack start final clock said (is_memory ending) owned [] gained
+  pub places : ArePlaces 0 (length final.seen) owned.places
+  pub whose : AreAllOwned owned (length start.seen) final.seen
   pub fault : TellsFailure ending (has_failed gained)
 
 -- The journal was not opened: no accept was made, nothing was put, and the disk was only read. Why is what its bytes
@@ -63,7 +78,8 @@ pub record JournalMissed (fault : OpeningFault) (old new : Outside) : Type 0 whe
 -- failed in this call. And so since the call's start, where the one image was then what a read gave. What stood before
 -- a turn each crash leaves from then on. And what was acknowledged stands: before the first byte of the answer to a
 -- command, or of a log page, its link took a note of a moment of this disk since which each image holds the history
--- that the answer tells of, with the entry that the command recorded.
+-- that the answer tells of, with the entry that the command recorded. All totals that were answered are of prefixes of
+-- the last history.
 pub record FarmServed (links : ℕ) (clock : Moment → Type 0) (ending : Ending) (old new : Outside) : Type 0 where
   pub first : List Entry
   pub last : List Entry

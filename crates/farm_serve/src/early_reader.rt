@@ -2,18 +2,18 @@
 ghost use Rattle.farm_serve.specs.Nexts.{IsReaderOf};
 
 use crate::naming::Naming;
-use shared_farm::TotalsReader;
+use shared_farm::{Beginning, TotalsReader};
 use std::marker::{Model, PhantomData};
 
 /// A reader of totals that was made for a handler before the first accept, of which it is known what it has seen.
 /// Contracts see it as that history.
 #[derive(Drop)]
-pub struct EarlyReader<J: Naming> {
-    reader: TotalsReader,
+pub struct EarlyReader<B: Beginning, J: Naming> {
+    reader: TotalsReader<B>,
     of: PhantomData<J>,
 }
 
-impl<J: Naming> Model for EarlyReader<J> {
+impl<B: Beginning, J: Naming> Model for EarlyReader<B, J> {
     ghost use Rattle.std.specs.Prelude.{List};
     ghost use Rattle.farm_entry.specs.declared.entry.Entry.{Entry};
     ghost use Rattle.farm_serve.specs.Nexts.{IsReaderOf};
@@ -25,9 +25,9 @@ impl<J: Naming> Model for EarlyReader<J> {
     ghost invariant = { λ e. IsReaderOf J.entry e.reader };
 }
 
-impl<J: Naming> EarlyReader<J> {
+impl<B: Beginning, J: Naming> EarlyReader<B, J> {
     /// One for this reader.
-    pub fn new(reader: TotalsReader) -> EarlyReader<J>
+    pub fn new(reader: TotalsReader<B>) -> EarlyReader<B, J>
         requires reader { IsReaderOf J.entry reader }
     {
         EarlyReader {
@@ -37,7 +37,7 @@ impl<J: Naming> EarlyReader<J> {
     }
 
     /// The reader.
-    pub fn into_reader(self) -> TotalsReader
+    pub fn into_reader(self) -> TotalsReader<B>
         ensures reader { IsReaderOf J.entry result }
     {
         let EarlyReader { reader, .. } = self;

@@ -40,7 +40,7 @@ pub fn run_all<
 >(
     rt: &R,
     alloc: Global,
-    gate: &Mutex<Gate<N, J>>,
+    gate: &Mutex<Gate<N, B, J>>,
     farm: &SharedFarm<D, B>,
     clock: &C,
     all: Share<J>,
@@ -82,7 +82,7 @@ fn start_all<
     scope: &Scope<'s, E>,
     rt: &'s R,
     alloc: Global,
-    gate: &'s Mutex<Gate<N, J>>,
+    gate: &'s Mutex<Gate<N, B, J>>,
     farm: &'s SharedFarm<D, B>,
     clock: &'s C,
     all: Share<J>,
@@ -137,7 +137,7 @@ fn handle<
 >(
     rt: &'s R,
     alloc: Global,
-    gate: &'s Mutex<Gate<N, J>>,
+    gate: &'s Mutex<Gate<N, B, J>>,
     farm: &'s SharedFarm<D, B>,
     clock: &'s C,
     share: Share<J>,
@@ -175,7 +175,8 @@ fn handle<
                 let served = serve_one::<D, B, N, C, J, R>(&service, &mut caller, &mut link);
                 let Caller { pass, reader: back } = caller;
                 reader = back;
-                gate.lock(rt).back(farm, link, pass, served, &mut share);
+                gate.lock(rt)
+                    .back(farm, link, pass, &mut reader, served, &mut share);
             }
         }
     }

@@ -1,11 +1,10 @@
 //! One link, from its accept on.
-ghost use Rattle.std.specs.Prelude.{◌≡◌, IfSome};
+ghost use Rattle.std.specs.Prelude.{◌≡◌};
 ghost use Rattle.connection_laws.specs.Moments.{MayGive};
-ghost use Rattle.farm_http.specs.Callers.{mark_of, noted_by};
 ghost use Rattle.farm_types.specs.declared.moment.Moment.{Moment};
 ghost use Rattle.link_io.specs.Links.{link_state};
-ghost use Rattle.farm_serve.specs.Links.{IsServedLink};
-ghost use Rattle.farm_serve.specs.Nexts.{IsFresh, IsPassOf, IsReaderOf};
+ghost use Rattle.farm_serve.specs.Links.{IsServedBy};
+ghost use Rattle.farm_serve.specs.Nexts.{IsFresh, IsNew, IsPassOf, IsReaderOf};
 
 use crate::naming::Naming;
 use farm_disk::DatedDisk;
@@ -25,19 +24,20 @@ pub fn serve_one<
     R: Wait,
 >(
     service: &Service<R, D, B, C>,
-    caller: &mut Caller,
+    caller: &mut Caller<B>,
     link: &mut N::End,
 ) -> Result<Served, ServeFault>
     requires farm { service.now.farm.now ≡ J.entry.lock }
     requires gives { (at : Moment) → MayGive C.Clock service.now.clock.now at → J.gives at }
     requires pass { IsPassOf J.entry caller.old.pass }
+    requires new { IsNew caller.old.pass }
     requires reader { IsReaderOf J.entry caller.old.reader }
     requires fresh { IsFresh J.entry (link_state N.End.Source N.End.Sink link.old) }
     ensures pass { IsPassOf J.entry caller.new.pass }
+    ensures parts { caller.new.pass.stake.parts ≡ 1 }
     ensures reader { IsReaderOf J.entry caller.new.reader }
-    ensures served { IfSome J.entry.told (λ _. IsServedLink J.entry.start (mark_of caller.new.pass) J.gives
-        (noted_by caller.new.pass)
-        (link_state N.End.Source N.End.Sink link.new) result) }
+    ensures served { IsServedBy J.entry J.gives caller.new.pass caller.new.reader
+        (link_state N.End.Source N.End.Sink link.new) result }
 {
     let served = serve_link(service, caller, link);
     N::finish(link);

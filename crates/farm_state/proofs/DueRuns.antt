@@ -21,7 +21,7 @@ use Rattle.farm_laws.proofs.Numbered.{opening-there}
 use Rattle.farm_laws.proofs.OpenLimits.{open_within}
 use Rattle.farm_laws.proofs.OutBounds.{search_leases-few, verify_leases-few}
 use Rattle.search_state.specs.SearchView.{SearchView, due_in, due_standing, standing_in}
-use Rattle.state_laws.specs.Seen.{seen}
+use Rattle.search_state.specs.Seen.{seen}
 
 -- the search whose state it is
 record IsStateOf (H : List Entry) (n : ℕ) (s : SearchView) : Type 0 where

@@ -19,11 +19,11 @@ use Rattle.farm_laws.proofs.Known.{leases-known}
 use Rattle.farm_laws.proofs.Numbered.{lease-there, opening-found, opening-there}
 use Rattle.farm_laws.proofs.Stepped.{stepped}
 use Rattle.farm_books.proofs.Entries.{IsLast, last-of}
-use Rattle.search_laws.specs.Steps.{IsAbout}
+use Rattle.farm_laws.specs.Steps.{IsAbout}
 use Rattle.search_state.specs.SearchView.{SearchView}
-use Rattle.state_laws.specs.Seen.{all_seen, seen}
-use Rattle.state_laws.proofs.AllStates.{set-seen}
-use Rattle.state_laws.proofs.Changes.{cancelled-not_opened}
+use Rattle.search_state.specs.Seen.{all_seen, seen}
+use Rattle.search_state.proofs.AllStates.{set-seen}
+use Rattle.search_state.proofs.Changes.{cancelled-not_opened}
 use Rattle.farm_state.specs.Telling.{IsEnd, IsEndOf}
 use Rattle.farm_state.proofs.Searches.{IsSearchOf, search-of_opening, search-state}
 

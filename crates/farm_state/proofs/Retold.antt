@@ -18,11 +18,11 @@ use Rattle.farm_laws.proofs.Filters.{lease_of-stays, opening_numbered-stays}
 use Rattle.farm_laws.proofs.Induct.{IsLegal-first, IsLegal-pushed}
 use Rattle.farm_laws.proofs.Numbered.{lease-there, opening-found}
 use Rattle.farm_laws.proofs.Stepped.{Stepped, stepped}
-use Rattle.search_laws.specs.Steps.{IsAbout}
+use Rattle.farm_laws.specs.Steps.{IsAbout}
 use Rattle.search_state.specs.SearchView.{SearchView, after_report, after_skip, cancelled}
-use Rattle.state_laws.specs.Seen.{seen}
-use Rattle.state_laws.proofs.Asking.{report-ruled, reports-few, run-placed, skip-placed, skip-ruled}
-use Rattle.state_laws.proofs.Changes.{cancelled-seen, other-seen, reported-seen, skipped-seen}
+use Rattle.search_state.specs.Seen.{seen}
+use Rattle.search_state.proofs.Asking.{report-ruled, reports-few, run-placed, skip-placed, skip-ruled}
+use Rattle.search_state.proofs.Changes.{cancelled-seen, other-seen, reported-seen, skipped-seen}
 use Rattle.farm_state.specs.Telling.{MaySkip, MayTake, told, told_run, told_skip}
 use Rattle.farm_state.proofs.Searches.{search-of_lease}
 

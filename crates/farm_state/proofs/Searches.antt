@@ -20,7 +20,7 @@ use Rattle.farm_laws.proofs.Known.{leases-known}
 use Rattle.farm_laws.proofs.Numbered.{lease-there, number-at, opening-found, opening-there, openings-numbered}
 use Rattle.farm_laws.proofs.OpenLimits.{open_within}
 use Rattle.search_state.specs.SearchView.{SearchView}
-use Rattle.state_laws.specs.Seen.{all_seen, seen}
+use Rattle.search_state.specs.Seen.{all_seen, seen}
 
 -- the search of a number
 pub record IsSearchOf (H : List Entry) (search : ℕ) : Type 0 where

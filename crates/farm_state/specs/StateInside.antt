@@ -1,7 +1,7 @@
 -- How a farm is kept: its history with the books, and the state of each search.
 use Rattle.std.specs.Prelude.{◌≡◌}
 use Rattle.farm_entry.specs.Legal.{IsLegal}
-use Rattle.state_laws.specs.Seen.{all_seen}
+use Rattle.search_state.specs.Seen.{all_seen}
 use Rattle.farm_state.specs.declared.state.FarmState.TheInside.{Inside}
 
 -- the history is legal, and the states are what it holds of its searches

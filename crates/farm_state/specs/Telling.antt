@@ -9,7 +9,7 @@ use Rattle.farm_entry.specs.declared.lease.ReportedRun.{ReportedRun}
 use Rattle.farm_entry.specs.declared.lease.SkippedRun.{SkippedRun}
 use Rattle.farm_entry.specs.declared.limits.TheConstants.{MAX_ENTRIES}
 use Rattle.farm_laws.specs.Openings.{HasOpening}
-use Rattle.search_laws.specs.Steps.{IsAbout}
+use Rattle.farm_laws.specs.Steps.{IsAbout}
 use Rattle.search_state.specs.SearchView.{IsPlaced, IsPlacedAt, SearchView, after_report, after_skip, cancelled, fate_in, skip_fate_in}
 
 -- an entry is the last of a history

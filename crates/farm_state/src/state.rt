@@ -8,7 +8,7 @@ ghost use Rattle.farm_entry.specs.History.{cancelled_in, opening_in, opening_num
 ghost use Rattle.farm_entry.specs.Legal.{IsLegal};
 ghost use Rattle.farm_laws.specs.Laws.{IsNotBefore};
 ghost use Rattle.search_state.specs.SearchView.{due_in};
-ghost use Rattle.state_laws.specs.Seen.{seen};
+ghost use Rattle.search_state.specs.Seen.{seen};
 ghost use Rattle.farm_state.specs.Telling.{IsEnd, IsEndOf};
 
 use crate::telling::retell;

@@ -2,7 +2,7 @@
 
 ghost use Rattle.std.specs.Prelude.{◌≡◌, Contains, Some};
 ghost use Rattle.farm_entry.specs.History.{lease_of, openings, report_in, skip_in};
-ghost use Rattle.state_laws.specs.Seen.{seen};
+ghost use Rattle.search_state.specs.Seen.{seen};
 ghost use Rattle.farm_state.specs.Telling.{MaySkip, MayTake, told, told_run, told_skip};
 
 use farm_books::Books;

@@ -1,32 +1,32 @@
--- When a farm is closed, and what that comes to.
-use Rattle.std.proofs.Common.{◌≡◌, ◌≢◌, ◌⊎◌, inl, inr, ⊎_elim, ℕ, ◌+◌, ◌-◌, ◌≤◌, nat_le, not, ◌&&◌, Bool, true, false, true≢false, if◌then◌else◌, List, [], ◌∷◌, ◌++◌, length, take, drop, Option, Some, None, refl, sym, ◌∙◌, ap, subst, arith}
-use Rattle.std.proofs.lemmas.Bool.{and_parts, cases_Bool, le-leb, leb-false}
-use Rattle.std.specs.Prelude.{Result, Ok, Err, OnOk}
-use Rattle.std.proofs.lemmas.List.{append-nil, drop_all, drop_at, length-append}
-use Rattle.std.proofs.lemmas.List.Sums.{sum_by-append}
+-- When a farm may be closed, and what closing it comes to.
+use Rattle.std.proofs.Common.{◌≡◌, ⊎_elim, ℕ, ◌+◌, ◌≤◌, nat_le, not, ◌&&◌, Bool, true, false, true≢false, if◌then◌else◌, List, [], ◌∷◌, ◌++◌, length, get_or, Some, None, ◌-◌, refl, sym, ◌∙◌, ap, subst, arith}
+use Rattle.std.specs.Prelude.{Err, OnOk, slice_get}
+use Rattle.std.proofs.lemmas.Bool.{and_parts, cases_Bool, le-leb}
+use Rattle.std.proofs.lemmas.List.{append-nil, length-append}
+use Rattle.std.proofs.lemmas.Option.{get_or_from_slice_get, none-some, slice_get-get_or}
+use Rattle.entry_codec.specs.Spelling.{entry_bytes, spelling}
+use Rattle.entry_codec.proofs.Sizes.{entry-short}
+use Rattle.farm_disk.specs.declared.disk.Disk as disk
 use Rattle.farm_types.specs.Moment.{moment_ms}
 use Rattle.farm_types.specs.declared.moment.Moment.{Moment}
-use Rattle.farm_entry.specs.Closing.{is_busy, may_close}
+use Rattle.farm_entry.specs.Closing.{is_busy}
 use Rattle.farm_entry.specs.Decision.{last_moment, later, moment_used}
-use Rattle.farm_entry.specs.History.{is_closed}
+use Rattle.farm_entry.specs.History.{is_closed, is_closing}
 use Rattle.farm_entry.specs.Legal.{IsLegal, IsNext}
 use Rattle.farm_entry.specs.declared.entry.Entry.{Entry}
+use Rattle.farm_entry.specs.declared.entry.What.{What}
+use Rattle.farm_entry.specs.declared.entry.What.TheVariants.{Founded, Opened, Leased, Reported, Skipped, Cancelled, Ordered, Carried, Closed}
+use Rattle.farm_laws.proofs.Closings.{is_closed-at}
 use Rattle.farm_laws.proofs.Induct.{IsLegal-push, IsLegal-pushed}
-use Rattle.farm_store.specs.Closed.{Closes, HasCloseCause, IsAsBefore, IsBusyNow, IsClosedNow, IsUnclosed, IsUndecidedNow, OnClosedOrBusy, after_closing, as_close, closing_at}
-use Rattle.farm_core.specs.FarmView.{FarmView}
-use Rattle.farm_disk.specs.Images.{DiskState}
-use Rattle.farm_journal.specs.Faults.{OnMemory, OnStoreFault}
-use Rattle.farm_journal.specs.State.{JournalState}
+use Rattle.farm_journal.specs.Faults.{HasCause}
 use Rattle.farm_journal.specs.declared.fault.JournalFault.{JournalFault}
 use Rattle.farm_journal.specs.declared.fault.JournalFault.TheVariants as journal_fault
-use Rattle.farm_store.specs.Sizes.{entries_size, what_size}
-use Rattle.farm_store.specs.State.{StoreState}
-use Rattle.farm_store.specs.StoreInside.{IsStore, store_view}
-use Rattle.farm_store.specs.declared.asking.TheConstants.{MAX_RECORD_BYTES, MAX_SHORT_ENTRY_BYTES}
-use Rattle.farm_store.specs.declared.closing.CloseFault.{CloseFault}
-use Rattle.farm_store.specs.declared.closing.CloseFault.TheVariants as fault
-use Rattle.farm_store.proofs.Calls.{Grows, more-none, undecided-none, undecided-some}
-use Rattle.farm_store.proofs.Decided.{front-at, idle}
+use Rattle.farm_store.specs.Admitted.{Admits, IsAdmitted, IsStuckAt}
+use Rattle.farm_store.specs.Closed.{Closes, HasCloseCause, IsBusyNow, IsClosedNow, OnClosedOrBusy, after_closing, as_close, closing_at}
+use Rattle.farm_store.specs.Keeping.{KeepsStore}
+use Rattle.farm_store.specs.State.{IsAsBefore, StoreState}
+use Rattle.farm_store.specs.declared.asking.TheConstants.{MAX_RECORD_BYTES}
+use Rattle.farm_store.proofs.Ahead.{legal-some}
 
 -- a chain of three tests
 all-true : (a b c : Bool) → a ≡ true → b ≡ true → c ≡ true → (a && b && c) ≡ true
@@ -94,148 +94,126 @@ module _ (H : List Entry) (m : Moment) where
   pub after-closed : is_closed H ≡ true → after_closing H m ≡ H
   after-closed closed = ap (λ (b : Bool). if b then H else H ++ closing_at H m ∷ []) closed
 
-  pub closing-grows : Grows H (after_closing H m) 1
-  closing-grows = ⊎_elim
-      (λ (closed : is_closed H ≡ true).
-      subst (λ (K : List Entry). Grows H K 1) (sym (after-closed closed))
-      (record { more = []; longer = sym (append-nil H); few = omega arith }))
-      (λ (unclosed : is_closed H ≡ false).
-      subst (λ (K : List Entry). Grows H K 1) (sym (after-unclosed unclosed))
-      (record { more = closing_at H m ∷ []; longer = refl; few = omega arith }))
-      (cases_Bool (is_closed H))
+-- a closing fits a record
+pub closing-fits : (H : List Entry) (m : Moment) → length (spelling (closing_at H m ∷ [])) ≤ MAX_RECORD_BYTES
+closing-fits H m =
+    omega (arith, length-append (entry_bytes (closing_at H m)) [], entry-short (closing_at H m) tt)
 
-  -- a closing fits a record
-  pub closing-fits : entries_size (after_closing H m) ≤ entries_size H + MAX_RECORD_BYTES
-  closing-fits = ⊎_elim
-      (λ (closed : is_closed H ≡ true).
-      subst (λ (K : List Entry). entries_size K ≤ entries_size H + MAX_RECORD_BYTES) (sym (after-closed closed))
-      (omega arith))
-      (λ (unclosed : is_closed H ≡ false).
-      subst (λ (K : List Entry). entries_size K ≤ entries_size H + MAX_RECORD_BYTES) (sym (after-unclosed unclosed))
-      (omega (arith, sum_by-append (λ (x : Entry). what_size x.what) H (closing_at H m ∷ []))))
-      (cases_Bool (is_closed H))
+-- one entry, taken apart
+only-first : (x e : Entry) (before behind : List Entry) → x ∷ [] ≡ before ++ e ∷ behind → (before ≡ []) × (e ≡ x)
+only-first x e [] behind split = (refl, same-head e x behind [] (sym split))
+  where
+    same-head : (a b : Entry) (l m : List Entry) → a ∷ l ≡ b ∷ m → a ≡ b
+    same-head a b l m same = cc
+only-first x e (y ∷ before) behind split =
+    absurd (omega (arith, ap length split, length-append before (e ∷ behind)))
 
--- What closing a store came to, from what storing the closing came to.
-module _ {D : Type 0} (tells : D → Bool) (told : D → DiskState) (farm : FarmView) (journal : JournalState D)
-    (store : IsStore tells told farm journal) (count : ℕ) (s : StoreState D)
-    (view : store_view farm journal count ≡ s) (decided : s.pending ≡ []) (m : Moment) where
-  the-same : farm.history ≡ s.history
-  the-same = ap (λ (x : StoreState D). x.history) view
+-- The last entry tells whether a farm is closed.
 
-  -- it was stored, or stood there
-  pub closes-stored : (farm' farm'' : FarmView) (journal'' : JournalState D) (start : ℕ)
-      → start ≡ length farm.history → farm'.history ≡ after_closing farm.history m
-      → (is_closed farm.history ≡ false → is_busy farm.history ≡ false)
-      → farm''.history ≡ farm'.history → journal''.pending ≡ None
-      → IsClosedNow m s (store_view farm'' journal'' (length farm''.history - start))
-  closes-stored farm' farm'' journal'' start is after idle same none =
-      let grows = closing-grows farm.history m in
-      let whole : farm''.history ≡ farm.history ++ grows.more = same ∙ after ∙ grows.longer in
+pub last-not_none : (H : List Entry) → IsLegal H → None ≡ slice_get H (length H - 1) → ⊥
+last-not_none [] legal is = legal
+last-not_none (e ∷ more) legal is =
+    none-some (get_or (e ∷ more) (length (e ∷ more) - 1) e)
+    (is ∙ slice_get-get_or (e ∷ more) (length (e ∷ more) - 1) e (omega arith))
+
+pub last-closes : (H : List Entry) (e : Entry) → IsLegal H → Some e ≡ slice_get H (length H - 1)
+    → is_closed H ≡ is_closing e.what
+last-closes H e legal is =
+    let some = legal-some H legal in
+    is_closed-at H (length H - 1) e legal (omega (arith, some))
+    ∙ ap (λ (x : Entry). is_closing x.what) (get_or_from_slice_get H (length H - 1) e e (sym is))
+
+pub not-closing : (w : What) → (w ≡ Closed → ⊥) → is_closing w ≡ false
+not-closing (Founded settings) other = refl
+not-closing (Opened o) other = refl
+not-closing (Leased key worker run search stage position deadline) other = refl
+not-closing (Reported run verdict _) other = refl
+not-closing (Skipped run _) other = refl
+not-closing (Cancelled key search) other = refl
+not-closing (Ordered key agent order commit search day) other = refl
+not-closing (Carried commit day) other = refl
+not-closing Closed other = absurd (other refl)
+
+-- What closing a store came to, from what admitting its closing came to.
+module _ {D : Type 0} (m : Moment) (old new : StoreState D) (entries : List Entry)
+    (is : entries ≡ closing_at old.history m ∷ []) (legal : IsLegal old.history) where
+  longer-legal : (H pending : List Entry) → H ++ pending ≡ old.history ++ entries → IsLegal (H ++ pending)
+      → IsLegal (old.history ++ closing_at old.history m ∷ [])
+  longer-legal H pending whole legal' =
+      subst IsLegal (whole ∙ ap (λ (l : List Entry). old.history ++ l) is) legal'
+
+  -- it was stored
+  pub closes-stored : IsLegal (new.history ++ new.pending) → IsAdmitted entries old new → IsClosedNow m old new
+  closes-stored legal' says =
+      let whole : new.history ++ new.pending ≡ old.history ++ entries =
+      ap (λ (l : List Entry). new.history ++ l) says.decided ∙ append-nil new.history ∙ says.history in
+      let next = longer-legal new.history new.pending whole legal' in
+      let counted = says.recorded in
       record {
-        idle = subst (λ (l : List Entry). is_closed l ≡ false → is_busy l ≡ false) the-same idle;
-        history = same ∙ after ∙ ap (λ (l : List Entry). after_closing l m) the-same;
-        recorded = omega (
-          arith,
-          is,
-          ap length whole,
-          ap length the-same,
-          length-append farm.history grows.more,
-        );
-        decided = undecided-none journal''.pending farm''.ready none;
+        idle = λ unclosed. closing-idle old.history m legal next;
+        history = says.history ∙ ap (λ (l : List Entry). old.history ++ l) is
+            ∙ sym (after-unclosed old.history m (closing-unclosed old.history m legal next));
+        recorded = omega (arith, counted, ap length says.history, length-append old.history entries);
+        decided = says.decided;
       }
 
-  -- the farm is busy, or there was no memory to find out
-  pub closes-kept : (f : CloseFault) (farm' : FarmView) → farm'.history ≡ farm.history → IsUnclosed farm.history f
-      → Closes m (Err f) s (store_view farm' journal 0)
-  closes-kept fault.Busy farm' same why = record {
-    unclosed = ap is_closed (sym the-same) ∙ why.0;
-    busy = ap is_busy (sym the-same) ∙ why.1;
-    history = same ∙ the-same;
-    decided = undecided-none journal.pending farm'.ready (idle tells told farm journal store count s view decided);
-    none = refl;
-    disk = ap (λ (x : StoreState D). x.disk) view;
-  }
-  closes-kept (fault.StoreFault before after) farm' same why = absurd why
-  closes-kept fault.Memory farm' same why = record {
-    history = same ∙ the-same;
-    decided = undecided-none journal.pending farm'.ready (idle tells told farm journal store count s view decided);
-    none = refl;
-  }
+  -- the farm was closed before
+  pub closes-closed : IsAsBefore old new → is_closed new.history ≡ true → IsClosedNow m old new
+  closes-closed says closed =
+      let before : is_closed old.history ≡ true = ap is_closed (sym says.history) ∙ closed in
+      let none = says.none in
+      record {
+        idle = λ unclosed. absurd (true≢false (sym before ∙ unclosed));
+        history = says.history ∙ sym (after-closed old.history m before);
+        recorded = omega (arith, none, ap length says.history);
+        decided = says.decided;
+      }
 
-  -- the disk failed as the closing was stored, or memory ran out
-  module _ (farm' : FarmView) (start : ℕ) (is : start ≡ length farm.history)
-      (after : farm'.history ≡ after_closing farm.history m)
-      (free : is_closed farm.history ≡ false → is_busy farm.history ≡ false) (farm'' : FarmView)
-      (journal'' : JournalState D) (back : farm''.history ≡ take start farm'.history)
-      (kept : IsStore tells told farm'' journal'') where
-    grown : Grows farm.history farm'.history 1
-    grown = subst (λ (K : List Entry). Grows farm.history K 1) (sym after) (closing-grows farm.history m)
+  -- it is busy
+  pub closes-busy : (i : ℕ) → IsStuckAt old.history entries i → IsAsBefore old new → is_closed new.history ≡ false
+      → new.disk ≡ old.disk → IsBusyNow old new
+  closes-busy i stuck says open_still disk =
+      let unclosed : is_closed old.history ≡ false = ap is_closed (sym says.history) ∙ open_still in
+      let one = only-first (closing_at old.history m) stuck.entry stuck.before stuck.behind (sym is ∙ stuck.split) in
+      let misfit : IsLegal (old.history ++ closing_at old.history m ∷ []) → ⊥ =
+      λ next. stuck.misfit (subst (λ (e : Entry). IsLegal (old.history ++ stuck.before ++ e ∷ [])) (sym one.1)
+      (subst (λ (l : List Entry). IsLegal (l ++ closing_at old.history m ∷ []))
+      (sym (ap (λ (l : List Entry). old.history ++ l) one.0 ∙ append-nil old.history)) next)) in
+      record {
+        unclosed = unclosed;
+        busy = closing-busy old.history m legal misfit unclosed;
+        history = says.history;
+        decided = says.decided;
+        none = says.none;
+        disk = disk;
+      }
 
-    front : farm''.history ≡ farm.history
-    front = back ∙ front-at tells told farm journal store count s view decided farm' 1 grown start is
+  -- the disk failed, or memory ran out
+  pub closes-missed : (f : JournalFault) → IsLegal (new.history ++ new.pending) → Admits entries (Err f) old new
+      → Closes m (Err (as_close f)) old new
+  closes-missed (journal_fault.StoreFault before after) legal' says =
+      let whole : new.history ++ new.pending ≡ old.history ++ entries =
+      ap (λ (l : List Entry). l ++ new.pending) says.history
+      ∙ ap (λ (l : List Entry). old.history ++ l) says.pending in
+      let next = longer-legal new.history new.pending whole legal' in
+      record {
+        unclosed = closing-unclosed old.history m legal next;
+        idle = closing-idle old.history m legal next;
+        history = says.history;
+        pending = says.pending ∙ is;
+        none = says.none;
+      }
+  closes-missed journal_fault.Memory legal' says = says
 
-    -- something is pending
-    some-by : (o : Option (List ℕ)) → journal''.pending ≡ o → journal''.pending ≢ None → farm''.ready ≢ []
-    some-by None none some = absurd (some none)
-    some-by (Some p) waits some = (kept.undecided p waits).some
+-- its counts
+pub cause-close : (T : Type 0) (f : JournalFault) (first last : ℕ) → HasCause {T = T} (Err f) first last
+    → HasCloseCause (Err (as_close f)) first last
+cause-close T (journal_fault.StoreFault before after) first last cause = cause
+cause-close T journal_fault.Memory first last cause = tt
 
-    -- so the closing is
-    undecided-now : farm''.ready ≡ drop start farm'.history → journal''.pending ≢ None
-        → (b : Bool) → is_closed farm.history ≡ b → IsUndecidedNow m s (store_view farm'' journal'' 0)
-    undecided-now ready pending true closed =
-        let same : farm'.history ≡ farm.history = after ∙ after-closed farm.history m closed in
-        absurd (some-by journal''.pending refl pending
-        (ready ∙ ap (λ (l : List Entry). drop start l) same ∙ drop_all start farm.history (omega (arith, is))))
-    undecided-now ready pending false unclosed =
-        let same : farm'.history ≡ farm.history ++ closing_at farm.history m ∷ [] =
-        after ∙ after-unclosed farm.history m unclosed in
-        record {
-          unclosed = ap is_closed (sym the-same) ∙ unclosed;
-          idle = ap is_busy (sym the-same) ∙ free unclosed;
-          history = front ∙ the-same;
-          pending = undecided-some journal''.pending farm''.ready pending
-              ∙ ready
-              ∙ ap (λ (l : List Entry). drop start l) same
-              ∙ drop_at farm.history (closing_at farm.history m ∷ []) start (sym is)
-              ∙ ap (λ (l : List Entry). closing_at l m ∷ []) the-same;
-          none = refl;
-        }
-
-    pub closes-missed : (f : JournalFault)
-        → OnStoreFault {T = Unit {0}} (Err f) (farm''.ready ≡ drop start farm'.history)
-        → OnStoreFault {T = Unit {0}} (Err f) (journal''.pending ≢ None)
-        → OnMemory {T = Unit {0}} (Err f) (journal''.pending ≡ None)
-        → Closes m (Err (as_close f)) s (store_view farm'' journal'' 0)
-    closes-missed (journal_fault.StoreFault before after') ready pending memory =
-        undecided-now ready pending (is_closed farm.history) refl
-    closes-missed journal_fault.Memory ready pending memory = record {
-      history = front ∙ the-same;
-      decided = undecided-none journal''.pending farm''.ready memory;
-      none = refl;
-    }
-
--- What a call keeps in which a farm was to be closed.
-module _ {D : Type 0} (m : Moment) (old new : StoreState D) where
-  -- the history never gets shorter
-  pub closes-longer : (result : Result (Unit {0}) CloseFault) → Closes m result old new
-      → (more : List Entry) × (new.history ≡ old.history ++ more)
-  closes-longer (Ok _) says =
-      let grows = closing-grows old.history m in (grows.more, says.history ∙ grows.longer)
-  closes-longer (Err fault.Busy) says = ([], says.history ∙ sym (append-nil old.history))
-  closes-longer (Err (fault.StoreFault before after)) says = ([], says.history ∙ sym (append-nil old.history))
-  closes-longer (Err fault.Memory) says = ([], says.history ∙ sym (append-nil old.history))
-
-  -- one that recorded nothing leaves the disk as it was
-  pub closes-only : (result : Result (Unit {0}) CloseFault) → Closes m result old new
-      → (new.history ≡ old.history → OnClosedOrBusy result (new.disk ≡ old.disk))
-      → (P : D → Type 0) → P old.disk → new.recorded ≡ 0 → OnClosedOrBusy result (P new.disk)
-  closes-only (Ok _) says untouched P held zero =
-      let grows = closing-grows old.history m in
-      let whole : new.history ≡ old.history ++ grows.more = says.history ∙ grows.longer in
-      let counted = says.recorded in
-      let few : length (old.history ++ grows.more) ≤ length old.history =
-      omega (arith, ap length (sym whole), counted, zero) in
-      subst P (sym (untouched (whole ∙ more-none old.history grows.more few))) held
-  closes-only (Err fault.Busy) says untouched P held zero = subst P (sym says.disk) held
-  closes-only (Err (fault.StoreFault before after)) says untouched P held zero = tt
-  closes-only (Err fault.Memory) says untouched P held zero = tt
+-- what such a call keeps
+pub keeps-close : {D : Type 0} (T : Type 0) (meant : disk.Ghosts D) (f : JournalFault) (old new : StoreState D)
+    → KeepsStore meant (λ (P : Type 0). OnOk {T = T} {E = JournalFault} (Err f) P) old new
+    → KeepsStore meant (λ (P : Type 0). OnClosedOrBusy (Err (as_close f)) P) old new
+keeps-close T meant (journal_fault.StoreFault before after) old new keeps = keeps
+keeps-close T meant journal_fault.Memory old new keeps = keeps

@@ -60,7 +60,7 @@ history_after-grows H (ask ∷ asks) =
     record { more = both.more; longer = both.longer; few = omega (arith, few) }
 
 -- a repair that had nothing to do
-repaired-idle : {D : Type 0} (mid : StoreState D) (H : List Entry) → mid.pending ≡ [] → IsRepaired mid H
+pub repaired-idle : {D : Type 0} (mid : StoreState D) (H : List Entry) → mid.pending ≡ [] → IsRepaired mid H
     → H ≡ mid.history
 repaired-idle mid H none found = ⊎_elim (λ (same : H ≡ mid.history). same)
     (λ (more : H ≡ mid.history ++ mid.pending).
@@ -68,7 +68,7 @@ repaired-idle mid H none found = ⊎_elim (λ (same : H ≡ mid.history). same)
     found
 
 -- the history never gets shorter
-longer-repaired : {D : Type 0} (old : StoreState D) (H : List Entry) → IsRepaired old H
+pub longer-repaired : {D : Type 0} (old : StoreState D) (H : List Entry) → IsRepaired old H
     → (more : List Entry) × (H ≡ old.history ++ more)
 longer-repaired old H found = ⊎_elim
     (λ (same : H ≡ old.history). ([], same ∙ sym (append-nil old.history)))
@@ -95,6 +95,10 @@ says-longer asks Given (Err fault.Memory) old new says = longer-repaired old new
 on_ok-weaker : {T E : Type 0} (r : Result T E) (P Q : Type 0) → (P → Q) → OnOk r P → OnOk r Q
 on_ok-weaker (Ok x) P Q weaker held = weaker held
 on_ok-weaker (Err e) P Q weaker held = tt
+
+pub on_ok-always : {T E : Type 0} (r : Result T E) (P : Type 0) → P → OnOk r P
+on_ok-always (Ok x) P held = held
+on_ok-always (Err e) P held = tt
 
 -- nothing was added
 pub more-none : (H more : List Entry) → length (H ++ more) ≤ length H → H ++ more ≡ H
@@ -201,11 +205,19 @@ module _ {D : Type 0} (old mid new : StoreState D) (none : mid.pending ≡ [])
       (λ (now : StandsFor (new.history ++ new.pending) c). inr now)
       left
 
+  left-first : (c : List ℕ) → IsLeft old mid c → IsLeft old new c
+  left-first c left = ⊎_elim
+      (λ (before : IsWithOrWithout old.history old.pending c). inl before)
+      (λ (now : StandsFor (mid.history ++ mid.pending) c). left-repaired c
+      (subst (λ (l : List Entry). StandsFor l c)
+      (ap (λ (l : List Entry). mid.history ++ l) none ∙ append-nil mid.history) now))
+      left
+
   -- what a crash may leave in the repair and then
-  pub leaves-on : (a b d : DiskState) → LeavesOnly a b (IsWithOrWithout old.history old.pending)
-      → LeavesOnly b d (IsLeft mid new) → LeavesOnly a d (IsLeft old new)
+  pub leaves-on : (a b d : DiskState) → LeavesOnly a b (IsLeft old mid) → LeavesOnly b d (IsLeft mid new)
+      → LeavesOnly a d (IsLeft old new)
   leaves-on a b d one two = leaves_only-trans a b d (IsLeft old new)
-      (leaves_only-weaker a b (IsWithOrWithout old.history old.pending) (IsLeft old new) (λ c before. inl before) one)
+      (leaves_only-weaker a b (IsLeft old mid) (IsLeft old new) left-first one)
       (leaves_only-weaker b d (IsLeft mid new) (IsLeft old new) left-on two)
 
 -- the view of a store, by whether something is pending

@@ -22,10 +22,10 @@ use Rattle.farm_entry.specs.declared.entry.Entry.{Entry}
 use Rattle.farm_entry.specs.declared.entry.What.TheVariants.{Founded}
 use Rattle.farm_entry.specs.declared.limits.TheConstants.{MAX_CARRIED, MAX_ENTRIES}
 use Rattle.farm_entry.specs.declared.settings.Settings.{Settings}
-use Rattle.farm_journal.specs.Layout.{IsPayload}
 use Rattle.farm_laws.proofs.Induct.{IsLegal-push}
 use Rattle.farm_store.specs.Founded.{founding}
 use Rattle.farm_store.specs.Inherited.{carried_at, inheriting}
+use Rattle.farm_store.specs.declared.asking.TheConstants.{MAX_RECORD_BYTES}
 
 -- a chain of four tests
 all-true : (a b c d : Bool) → a ≡ true → b ≡ true → c ≡ true → d ≡ true → (a && b && c && d) ≡ true
@@ -155,11 +155,8 @@ module _ (settings : Settings) (at : Moment) (all : List Ordered) where
       )
 
   -- so all of them fit a record
-  pub inheriting-fits : (p : List ℕ) → CanBeCarried all → p ≡ spelling (inheriting settings at all) → IsPayload p
-  inheriting-fits p can is =
+  pub inheriting-fits : CanBeCarried all → length (spelling (inheriting settings at all)) ≤ MAX_RECORD_BYTES
+  inheriting-fits can =
       let few : length all ≤ MAX_CARRIED = can.few in
-      let long : length p ≡ 17 + 33 * length all = ap length is ∙ length-inherited in
-      record { some = omega (arith, long); most = omega (arith, long, few) }
-
-  pub inheriting-some : inheriting settings at all ≢ []
-  inheriting-some none = cc
+      let long = length-inherited in
+      omega (arith, long, few)

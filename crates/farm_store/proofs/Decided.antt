@@ -6,6 +6,8 @@ use Rattle.std.proofs.lemmas.Option.{none-some}
 use Rattle.farm_disk.specs.Images.{DiskState, LeavesOnly}
 use Rattle.farm_disk.proofs.Moments.{leaves_only-weaker}
 use Rattle.farm_types.specs.declared.moment.Moment.{Moment}
+use Rattle.entry_codec.specs.Grammar.{AreSpelled}
+use Rattle.entry_codec.specs.Spelling.{spelling}
 use Rattle.farm_core.specs.FarmView.{FarmView}
 use Rattle.farm_entry.specs.Decision.{decide}
 use Rattle.farm_entry.specs.Legal.{IsLegal}
@@ -31,7 +33,7 @@ use Rattle.farm_store.specs.Sizes.{entries_size}
 use Rattle.farm_store.specs.declared.asking.TheConstants.{MAX_RECORD_BYTES}
 use Rattle.farm_store.proofs.Calls.{Grows, history_after-grows, undecided-none, undecided-some}
 use Rattle.farm_store.proofs.Repairs.{leaves-idle-view}
-use Rattle.farm_store.proofs.Sizes.{rest-fits}
+use Rattle.farm_store.proofs.Sizes.{rest-short}
 
 -- a decision keeps a history legal
 pub after-legal : (H : List Entry) (q : Command) (m : Moment) (d : Decision) → decide H q m ≡ d → IsLegal H
@@ -94,19 +96,25 @@ module _ {D : Type 0} (tells : D → Bool) (told : D → DiskState) (farm : Farm
     long = ap length grows.longer ∙ length-append farm.history grows.more
 
     -- the farm is ahead of its journal by what was added
-    pub ahead : (start : ℕ) → start ≡ length farm.history
-        → entries_size farm'.history ≤ entries_size farm.history + MAX_RECORD_BYTES
+    pub ahead-by : (start : ℕ) → start ≡ length farm.history
+        → (AreSpelled grows.more → length (spelling grows.more) ≤ MAX_RECORD_BYTES)
         → IsLegal farm'.history → IsAhead tells told start farm' journal
-    ahead start is most legal =
-        let fits = rest-fits farm.history grows.more farm'.history MAX_RECORD_BYTES grows.longer most in
+    ahead-by start is fits legal =
         subst (λ (k : ℕ). IsAhead tells told k farm' journal) (sym is) (record {
           keeps = subst (λ (l : List Entry). Keeps journal.payloads l) (sym front) store.keeps;
           legal = legal;
           within = omega (arith, long);
-          fits = subst (λ (l : List Entry). entries_size l ≤ MAX_RECORD_BYTES) (sym rest) fits;
+          fits = subst (λ (l : List Entry). AreSpelled l → length (spelling l) ≤ MAX_RECORD_BYTES) (sym rest) fits;
           idle = idle;
           rests = store.rests idle;
         })
+
+    -- what was added fits by its kinds
+    pub ahead : (start : ℕ) → start ≡ length farm.history
+        → entries_size farm'.history ≤ entries_size farm.history + MAX_RECORD_BYTES
+        → IsLegal farm'.history → IsAhead tells told start farm' journal
+    ahead start is most legal = ahead-by start is
+        (rest-short farm.history grows.more farm'.history MAX_RECORD_BYTES grows.longer most) legal
 
     pub front-at : (start : ℕ) → start ≡ length farm.history → take start farm'.history ≡ farm.history
     front-at start is = ap (λ (k : ℕ). take k farm'.history) is ∙ front

@@ -1,44 +1,43 @@
--- What founding a store leaves, with a history of one record, from what creating its journal leaves.
-use Rattle.std.proofs.Common.{◌≡◌, ◌≢◌, ◌⊎◌, inl, inr, ⊎_elim, ℕ, Bool, true, None, ◌≤◌, List, [], ◌∷◌, length, sym, ◌∙◌, subst, arith}
+-- What creating a store leaves, with a history of one record, from what creating its journal leaves.
+use Rattle.std.proofs.Common.{◌≡◌, inl, inr, ⊎_elim, ℕ, Bool, true, None, ◌≤◌, List, [], ◌∷◌, length, refl, sym, ◌∙◌, subst, arith}
+use Rattle.std.proofs.lemmas.List.{length-append}
 use Rattle.std.proofs.lemmas.Option.{none-some}
 use Rattle.farm_disk.specs.Images.{DiskState, EachImage, LeavesOnly, LeavesSinceSync}
 use Rattle.farm_disk.proofs.Moments.{leaves-weaker, leaves_only-start, leaves_only-weaker, synced-le}
 use Rattle.farm_types.specs.declared.moment.Moment.{Moment}
 use Rattle.entry_codec.specs.Grammar.{AreSpelled}
-use Rattle.entry_codec.specs.Spelling.{spelling}
+use Rattle.entry_codec.specs.Spelling.{entry_bytes, spelling}
+use Rattle.entry_codec.proofs.Sizes.{founded-length}
 use Rattle.farm_entry.specs.Legal.{IsLegal}
 use Rattle.farm_entry.specs.declared.settings.Settings.{Settings}
+use Rattle.farm_entry.specs.declared.entry.What.TheVariants.{Founded}
 use Rattle.farm_journal.specs.Created.{IsUnborn, IsUnbornOrFirst}
 use Rattle.farm_journal.specs.Layout.{IsPayload, holds, opens, unborn}
 use Rattle.farm_core.specs.FarmView.{FarmView}
 use Rattle.farm_journal.specs.State.{IsHeld, JournalState}
 use Rattle.farm_entry.specs.declared.entry.Entry.{Entry}
 use Rattle.farm_store.specs.Bytes.{StandsFor}
-use Rattle.farm_store.specs.Founded.{founding}
+use Rattle.farm_store.specs.Founded.{IsUnbornOr, founding}
 use Rattle.farm_store.specs.State.{IsStored}
 use Rattle.farm_store.specs.StoreInside.{IsStore, Keeps}
+use Rattle.farm_store.specs.declared.asking.TheConstants.{MAX_RECORD_BYTES}
+use Rattle.farm_store.proofs.Admissions.{legal-not_nil}
 use Rattle.farm_store.proofs.Spellings.{keeps-first, record-fits}
 use Rattle.farm_store.proofs.Standing.{stands-kept, stored-held}
 
-pub founding-some : (settings : Settings) (at : Moment) → founding settings at ≢ []
-founding-some settings at none = cc
+-- a founding fits a record
+pub founding-fits : (settings : Settings) (at : Moment)
+    → length (spelling (founding settings at)) ≤ MAX_RECORD_BYTES
+founding-fits settings at =
+    let e : Entry = record { at = at; what = Founded settings } in
+    omega (arith, length-append (entry_bytes e) [], founded-length e settings refl)
 
-pub founding-legal : (settings : Settings) (at : Moment) → IsLegal (founding settings at)
-founding-legal settings at = (tt, tt)
-
-pub founding-fits : (settings : Settings) (at : Moment) (p : List ℕ) → p ≡ spelling (founding settings at)
-    → AreSpelled (founding settings at) → IsPayload p
-founding-fits settings at p is spelled =
-    record-fits (founding settings at) p spelled is (founding-some settings at) (omega arith)
-
--- nothing was created there, or the journal of a history
-abbrev IsUnbornOr : List Entry → List ℕ → Type 0
-IsUnbornOr H bytes = IsUnborn bytes ⊎ StandsFor H bytes
-
-module _ (H : List Entry) (some : H ≢ []) (legal : IsLegal H) (p : List ℕ) (is : p ≡ spelling H)
-    (spelled : AreSpelled H) where
+module _ (H : List Entry) (legal : IsLegal H) (p : List ℕ) (is : p ≡ spelling H) (spelled : AreSpelled H) where
   kept : Keeps (p ∷ []) H
-  kept = keeps-first H p spelled is some legal
+  kept = keeps-first H p spelled is (legal-not_nil H legal) legal
+
+  pub first-fits : length (spelling H) ≤ MAX_RECORD_BYTES → IsPayload p
+  first-fits fits = record-fits H p is (legal-not_nil H legal) fits
 
   first-stands : (c : List ℕ) → IsUnbornOrFirst p c → IsUnbornOr H c
   first-stands c one = ⊎_elim
@@ -50,12 +49,11 @@ module _ (H : List Entry) (some : H ≢ []) (legal : IsLegal H) (p : List ℕ) (
   first-stored disk held = stored-held (p ∷ []) H disk kept held
 
   pub store-founded : {D : Type 0} (tells : D → Bool) (told : D → DiskState) (farm : FarmView)
-      (journal : JournalState D) → farm ≡ record { history = H; ready = [] }
-      → journal.payloads ≡ p ∷ [] → journal.pending ≡ None
+      (journal : JournalState D) → farm.history ≡ H → journal.payloads ≡ p ∷ [] → journal.pending ≡ None
       → (tells journal.disk ≡ true → IsHeld (p ∷ []) (told journal.disk)) → IsStore tells told farm journal
   store-founded tells told farm journal same payloads idle held = record {
     keeps = subst (λ (l : List (List ℕ)). Keeps l farm.history) (sym payloads)
-        (subst (λ (f : FarmView). Keeps (p ∷ []) f.history) (sym same) kept);
+        (subst (λ (l : List Entry). Keeps (p ∷ []) l) (sym same) kept);
     undecided = λ q waits. absurd (none-some q (sym idle ∙ waits));
     rests = λ none t. subst (λ (l : List (List ℕ)). IsHeld l (told journal.disk)) (sym payloads) (held t);
     waits = λ q waits t. absurd (none-some q (sym idle ∙ waits));

@@ -1,3 +1,5 @@
+pub mod Admissions
+pub mod AtAdmission
 pub mod Ahead
 pub mod AtClose
 pub mod Batches

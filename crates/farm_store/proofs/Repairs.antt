@@ -1,6 +1,7 @@
 -- What a repair leaves of a store.
 use Rattle.std.proofs.Common.{◌≡◌, ℕ, Bool, true, true≢false, List, [], ◌∷◌, ◌++◌, Option, Some, None, refl, sym, ◌∙◌, subst}
-use Rattle.std.specs.Prelude.{IsSome}
+use Rattle.std.specs.Prelude.{IfErr, IsSome, OnOk, Result, Ok, Err}
+use Rattle.std.proofs.lemmas.List.{append-nil}
 use Rattle.std.proofs.lemmas.Option.{none-some}
 use Rattle.farm_disk.specs.Images.{DiskState, LeavesOnly}
 use Rattle.farm_disk.proofs.Moments.{leaves_only-weaker}
@@ -8,9 +9,12 @@ use Rattle.farm_core.specs.FarmView.{FarmView}
 use Rattle.farm_entry.specs.declared.entry.Entry.{Entry}
 use Rattle.farm_journal.specs.ReadsOnly.{ReadsOnly}
 use Rattle.farm_journal.specs.State.{JournalState, IsBeforeOrAfter, IsHeld}
-use Rattle.farm_store.specs.State.{StoreState, IsWithOrWithout}
+use Rattle.farm_journal.specs.declared.fault.JournalFault.{JournalFault}
+use Rattle.farm_journal.specs.declared.fault.JournalFault.TheVariants as fault
+use Rattle.farm_store.specs.Answering.{IsUnrepairedBy, Repairs}
+use Rattle.farm_store.specs.State.{StoreState, IsRepaired, IsWithOrWithout}
 use Rattle.farm_store.specs.StoreInside.{IsStore, Keeps, store_view, undecided}
-use Rattle.farm_store.proofs.Calls.{stored-store}
+use Rattle.farm_store.proofs.Calls.{longer-repaired, stored-store}
 use Rattle.farm_store.proofs.Spellings.{keeps-push}
 use Rattle.farm_store.proofs.Standing.{leaves-stored, stands-either}
 
@@ -97,3 +101,17 @@ module _ {D : Type 0} (tells : D → Bool) (told : D → DiskState) (farm : Farm
     rests = λ none t. held (sym telling ∙ t);
     waits = λ p waits t. absurd (none-some p (sym idle ∙ waits));
   }
+
+-- what a repair came to, by its answer
+pub repairs-by : {D : Type 0} (r : Result (Unit {0}) JournalFault) (old new : StoreState D)
+    → OnOk r (IsRepaired old new.history) → OnOk r (new.pending ≡ []) → new.recorded ≡ 0
+    → IfErr r (λ (f : JournalFault). IsUnrepairedBy f old new) → Repairs r old new
+repairs-by (Ok done) old new found decided none failed = record { found = found; decided = decided; none = none }
+repairs-by (Err f) old new found decided none failed = failed
+
+-- the history never gets shorter
+pub repairs-longer : {D : Type 0} (r : Result (Unit {0}) JournalFault) (old new : StoreState D) → Repairs r old new
+    → (more : List Entry) × (new.history ≡ old.history ++ more)
+repairs-longer (Ok done) old new says = longer-repaired old new.history says.found
+repairs-longer (Err (fault.StoreFault before after)) old new says = ([], says.history ∙ sym (append-nil old.history))
+repairs-longer (Err fault.Memory) old new says = absurd says

@@ -293,7 +293,7 @@ pub batch-size : (asks : List Ask) → length asks ≤ MAX_BATCH → asks_size a
 batch-size asks few = let most = asks_size-most asks in omega (arith, few, most)
 
 -- and what stands behind what was there takes no more
-pub rest-fits : (H more K : List Entry) (most : ℕ) → K ≡ H ++ more → entries_size K ≤ entries_size H + most
+rest-fits : (H more K : List Entry) (most : ℕ) → K ≡ H ++ more → entries_size K ≤ entries_size H + most
     → entries_size more ≤ most
 rest-fits H more K most is within =
     omega (
@@ -303,12 +303,14 @@ rest-fits H more K most is within =
       sum_by-append (λ (x : Entry). what_size x.what) H more,
     )
 
+-- so their bytes fit where their kinds allow it
+pub rest-short : (H more K : List Entry) (most : ℕ) → K ≡ H ++ more → entries_size K ≤ entries_size H + most
+    → AreSpelled more → length (spelling more) ≤ most
+rest-short H more K most is within spelled =
+    omega (arith, rest-fits H more K most is within, spelling-within more spelled)
+
 -- the entries that asks add have at most as many bytes as the asks allow
 pub new-fit : (H more : List Entry) (asks : List Ask) → history_after H asks ≡ H ++ more → AreSpelled more
     → length (spelling more) ≤ asks_size asks
 new-fit H more asks is spelled =
-    omega (
-      arith,
-      rest-fits H more (history_after H asks) (asks_size asks) is (history_after-takes H asks),
-      spelling-within more spelled,
-    )
+    rest-short H more (history_after H asks) (asks_size asks) is (history_after-takes H asks) spelled

@@ -18,9 +18,7 @@ use Rattle.farm_journal.specs.declared.layout.TheConstants.{FIRST_GATE, GATE_LIM
 use Rattle.farm_journal.proofs.Scan.{gate_of-push}
 use Rattle.farm_store.specs.Bytes.{Spells, joined}
 use Rattle.farm_store.specs.StoreInside.{Keeps}
-use Rattle.farm_store.specs.Sizes.{entries_size}
 use Rattle.farm_store.specs.declared.asking.TheConstants.{MAX_RECORD_BYTES}
-use Rattle.farm_store.proofs.Sizes.{spelling-within}
 
 -- the bytes of all payloads, one after the other
 abbrev all_bytes : List (List ℕ) → List ℕ
@@ -123,11 +121,10 @@ keeps-room payloads H keeps =
     let few : length H ≤ MAX_ENTRIES + 1 = entries-bounded H keeps.legal in
     omega (arith, low, few)
 
--- entries fit a payload where the most that their kinds allow does
-pub record-fits : (entries : List Entry) (p : List ℕ) → AreSpelled entries → p ≡ spelling entries → entries ≢ []
-    → entries_size entries ≤ MAX_RECORD_BYTES → IsPayload p
-record-fits entries p spelled is some fits =
+-- entries that fit a record are a payload
+pub record-fits : (entries : List Entry) (p : List ℕ) → p ≡ spelling entries → entries ≢ []
+    → length (spelling entries) ≤ MAX_RECORD_BYTES → IsPayload p
+record-fits entries p is some fits =
     let size : length p ≡ length (spelling entries) = ap length is in
-    let short = spelling-within entries spelled in
     let one : 1 ≤ length (spelling entries) = spelling-some entries some in
-    record { some = omega (arith, size, one); most = omega (arith, size, short, fits) }
+    record { some = omega (arith, size, one); most = omega (arith, size, fits) }

@@ -5,6 +5,7 @@ use Rattle.farm_disk.proofs.Moments.{leaves_only-start}
 use Rattle.farm_journal.specs.Layout.{holds, opens}
 use Rattle.farm_journal.specs.declared.fault.OpeningFault.{OpeningFault}
 use Rattle.farm_journal.specs.declared.fault.OpeningFault.TheVariants as opening
+use Rattle.farm_journal.specs.Opened.{OnRead}
 use Rattle.farm_journal.specs.State.{IsBeforeOrAfter, IsHeld, IsPending}
 use Rattle.farm_entry.specs.declared.entry.Entry.{Entry}
 use Rattle.farm_store.specs.Admitted.{IsMissed}
@@ -77,3 +78,10 @@ missed-by ps bytes (opening.Damaged o) opened missed = inr (record {
 })
 missed-by ps bytes (opening.StoreFault before after) opened missed = tt
 missed-by ps bytes opening.Memory opened missed = tt
+
+-- where the bytes were read
+pub read-settled : (f : OpeningFault) (P : Type 0) → P → OnRead f P
+read-settled opening.Unborn P held = held
+read-settled (opening.Damaged o) P held = held
+read-settled (opening.StoreFault before after) P held = tt
+read-settled opening.Memory P held = tt

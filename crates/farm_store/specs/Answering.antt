@@ -71,6 +71,11 @@ pub record IsUnanswered {D : Type 0} (old new : StoreState D) : Type 0 where
   pub decided : new.pending ≡ []
   pub none : new.recorded ≡ 0
 
+-- what finding out whether what is pending was kept came to
+abbrev pub Repairs : {D : Type 0} → Result (Unit {0}) JournalFault → (old new : StoreState D) → Type 0
+Repairs (Ok _) old new = IsUnanswered old new
+Repairs (Err f) old new = IsUnrepairedBy f old new
+
 -- what a call that decides these asks came to, by what it gives, which is so of a history
 abbrev pub Settles : {D T : Type 0} → List Ask → (T → List Entry → Type 0) → Result T JournalFault
     → (old new : StoreState D) → Type 0

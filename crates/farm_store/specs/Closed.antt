@@ -9,7 +9,7 @@ use Rattle.farm_entry.specs.declared.entry.Entry.{Entry}
 use Rattle.farm_entry.specs.declared.entry.What.TheVariants as what
 use Rattle.farm_journal.specs.declared.fault.JournalFault.{JournalFault}
 use Rattle.farm_journal.specs.declared.fault.JournalFault.TheVariants as journal
-use Rattle.farm_store.specs.State.{StoreState}
+use Rattle.farm_store.specs.State.{IsAsBefore, StoreState}
 use Rattle.farm_store.specs.declared.closing.CloseFault.{CloseFault}
 use Rattle.farm_store.specs.declared.closing.CloseFault.TheVariants as fault
 
@@ -44,18 +44,6 @@ pub record IsUndecidedNow {D : Type 0} (at : Moment) (old new : StoreState D) : 
   pub history : new.history ≡ old.history
   pub pending : new.pending ≡ closing_at old.history at ∷ []
   pub none : new.recorded ≡ 0
-
--- memory ran out, and the farm is as before
-pub record IsAsBefore {D : Type 0} (old new : StoreState D) : Type 0 where
-  pub history : new.history ≡ old.history
-  pub decided : new.pending ≡ []
-  pub none : new.recorded ≡ 0
-
--- why a farm in memory was not closed: it isn't closed yet, and busy; running out of memory says nothing
-abbrev pub IsUnclosed : List Entry → CloseFault → Type 0
-IsUnclosed H fault.Busy = (is_closed H ≡ false) × (is_busy H ≡ true)
-IsUnclosed H (fault.StoreFault before after) = ⊥
-IsUnclosed H fault.Memory = ⊤
 
 -- why a farm was not closed, where its journal failed
 abbrev pub as_close : JournalFault → CloseFault

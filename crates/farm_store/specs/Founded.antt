@@ -15,6 +15,10 @@ use Rattle.farm_store.specs.State.{StoreState}
 abbrev pub founding : Settings → Moment → List Entry
 founding settings at = record { at = at; what = Founded settings } ∷ []
 
+-- nothing was created there, or the journal of this history
+abbrev pub IsUnbornOr : List Entry → List ℕ → Type 0
+IsUnbornOr H bytes = IsUnborn bytes ⊎ StandsFor H bytes
+
 -- nothing was created there, or the journal of this founding
 abbrev pub IsUnbornOrFounding : Settings → Moment → List ℕ → Type 0
 IsUnbornOrFounding settings at bytes = IsUnborn bytes ⊎ StandsFor (founding settings at) bytes

@@ -31,3 +31,9 @@ IsLeft old new bytes = IsWithOrWithout old.history old.pending bytes ⊎ StandsF
 -- the history after a repair: what was pending was dropped, or all of it was kept
 abbrev pub IsRepaired : {D : Type 0} → (old : StoreState D) → List Entry → Type 0
 IsRepaired old history = (history ≡ old.history) ⊎ (history ≡ old.history ++ old.pending)
+
+-- nothing was stored: the history is as before, with nothing pending
+pub record IsAsBefore {D : Type 0} (old new : StoreState D) : Type 0 where
+  pub history : new.history ≡ old.history
+  pub decided : new.pending ≡ []
+  pub none : new.recorded ≡ 0

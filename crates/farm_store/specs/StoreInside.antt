@@ -12,7 +12,6 @@ use Rattle.farm_entry.specs.Legal.{IsLegal}
 use Rattle.farm_entry.specs.declared.entry.Entry.{Entry}
 use Rattle.farm_store.specs.Bytes.{Spells}
 use Rattle.farm_store.specs.State.{StoreState}
-use Rattle.farm_store.specs.Sizes.{entries_size}
 use Rattle.farm_store.specs.declared.asking.TheConstants.{MAX_RECORD_BYTES}
 
 -- the entries of the journal's pending payload are what may be committed next in the farm
@@ -57,6 +56,6 @@ pub record IsAhead {D : Type 0} (tells : D → Bool) (told : D → DiskState) (s
   pub keeps : Keeps journal.payloads (take start farm.history)
   pub legal : IsLegal farm.history
   pub within : start ≤ length farm.history
-  pub fits : entries_size (drop start farm.history) ≤ MAX_RECORD_BYTES
+  pub fits : AreSpelled (drop start farm.history) → length (spelling (drop start farm.history)) ≤ MAX_RECORD_BYTES
   pub idle : journal.pending ≡ None
   pub rests : tells journal.disk ≡ true → IsHeld journal.payloads (told journal.disk)

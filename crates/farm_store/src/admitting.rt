@@ -1,17 +1,18 @@
-//! The farm of the payloads of a journal.
+//! The farm of the payloads of a journal, and of entries that came from elsewhere.
 
-ghost use Rattle.std.specs.Prelude.{◌≡◌, ◌++◌, ◌∷◌, [], ℕ, List, All, IfOk, IfErr, OnOk};
+ghost use Rattle.std.specs.Prelude.{◌≡◌, ◌≢◌, ◌++◌, ◌∷◌, [], ℕ, List, All, IfOk, IfErr, OnOk};
 ghost use Rattle.entry_codec.specs.Grammar.{AreSpelled};
 ghost use Rattle.entry_codec.specs.Spelling.{spelling};
 ghost use Rattle.farm_entry.specs.Legal.{IsLegal};
 ghost use Rattle.farm_journal.specs.Layout.{IsPayload, gate_of};
-ghost use Rattle.farm_store.specs.Admitted.{GoesOn, IsMisfit, IsMissed, SpellsNone};
+ghost use Rattle.farm_store.specs.Admitted.{Adds, GoesOn, IsMisfit, IsMissed, MakesFarm, SpellsNone};
 ghost use Rattle.farm_store.specs.StoreInside.{Keeps};
 
 use entry_codec::{CodecFault, read_entries};
 use farm_core::{AdmitFault, Farm};
 use farm_entry::Entry;
 use farm_journal::{FIRST_GATE, OpeningFault, Payload};
+use farm_types::Memory;
 use std::alloc::Global;
 
 /// The farm whose history these payloads spell, or the gate of the first record that doesn't fit.
@@ -92,4 +93,61 @@ fn entries_of(alloc: Global, payload: &[u8]) -> Result<Vec<Entry>, AdmitFault>
         Err(CodecFault::Bad(_)) => Err(AdmitFault::Illegal),
         Err(CodecFault::Memory) => Err(AdmitFault::Memory),
     }
+}
+
+/// The farm whose history is copies of these entries, or the index of the first of them that can't come next.
+pub fn farm_by(alloc: Global, entries: &[Entry]) -> Result<Result<Farm, usize>, Memory>
+    requires { entries.now ≢ [] }
+    ensures { MakesFarm entries.now result }
+{
+    let Some((first, others)) = entries.split_first() else {
+        unreachable!();
+    };
+    let mut farm = match Farm::founded_by(alloc, first) {
+        Ok(farm) => farm,
+        Err(AdmitFault::Illegal) => return Ok(Err(0)),
+        Err(AdmitFault::Memory) => return Err(Memory),
+    };
+    match add_all(alloc, &mut farm, others) {
+        Ok(Ok(())) => Ok(Ok(farm)),
+        Ok(Err(index)) => Ok(Err(index + 1)),
+        Err(memory) => Err(memory),
+    }
+}
+
+/// Adds copies of entries to a farm. Where one of them can't come next, none is added, and its index is told.
+pub fn add_all(
+    alloc: Global,
+    farm: &mut Farm,
+    entries: &[Entry],
+) -> Result<Result<(), usize>, Memory>
+    ensures adds { Adds entries.now farm.old.history result farm.new.history }
+    ensures legal { IsLegal farm.new.history }
+{
+    let start = farm.history().len();
+    let Ok(made) = copies(alloc, entries) else {
+        return Err(Memory);
+    };
+    match farm.admit_all(made) {
+        Ok(()) => Ok(Ok(())),
+        Err(fault) => {
+            let count = farm.history().len() - start;
+            farm.retract(count);
+            match fault {
+                AdmitFault::Illegal => Ok(Err(count)),
+                AdmitFault::Memory => Err(Memory),
+            }
+        }
+    }
+}
+
+/// Copies of entries, in their order.
+pub fn copies(alloc: Global, entries: &[Entry]) -> Result<Vec<Entry>, Memory>
+    ensures { IfOk result (λ made. made.items ≡ entries.now) }
+{
+    let mut made = Vec::new(alloc);
+    for entry in entries {
+        made.push(entry.copy()?)?;
+    }
+    Ok(made)
 }

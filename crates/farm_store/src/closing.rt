@@ -1,13 +1,10 @@
-//! Closing a farm in memory, and why a farm isn't closed. The farm of a store is then ahead of its journal by the
-//! closing.
+//! The entry that closes a farm, and why a farm isn't closed.
 
-ghost use Rattle.std.specs.Prelude.{◌≡◌, false, IfErr, OnOk, OnErr};
-ghost use Rattle.farm_entry.specs.Closing.{is_busy};
+ghost use Rattle.std.specs.Prelude.{◌≡◌};
 ghost use Rattle.farm_entry.specs.History.{is_closed};
 ghost use Rattle.farm_entry.specs.Legal.{IsLegal};
-ghost use Rattle.farm_store.specs.Closed.{IsUnclosed, after_closing, as_close};
+ghost use Rattle.farm_store.specs.Closed.{as_close, closing_at};
 
-use farm_core::{AdmitFault, Farm};
 use farm_entry::{Entry, What, moment_used};
 use farm_journal::JournalFault;
 use farm_types::Moment;
@@ -43,32 +40,23 @@ impl From<JournalFault> for CloseFault {
     }
 }
 
-/// Adds the closing of a farm, at this moment or that of the last entry, the later one. A farm that is closed stays as
-/// it is.
-///
-/// # Errors
-///
-/// [`CloseFault::Busy`], exactly where the farm isn't closed and is busy; or [`CloseFault::Memory`]. The history stays.
-pub fn add_closing(farm: &mut Farm, at: Moment) -> Result<(), CloseFault>
-    ensures closed { OnOk result (farm.new.history ≡ after_closing farm.old.history at) }
-    ensures idle { OnOk result (is_closed farm.old.history ≡ false → is_busy farm.old.history ≡ false) }
-    ensures unclosed { IfErr result (IsUnclosed farm.old.history) }
-    ensures kept { OnErr result (farm.new.history ≡ farm.old.history) }
-    ensures legal { IsLegal farm.new.history }
+/// The closing of a farm with this history, at this moment or that of the last entry, the later one.
+pub fn closing(history: &[Entry], at: Moment) -> Entry
+    ensures { result ≡ closing_at history.now at }
 {
-    let closing = Entry {
-        at: moment_used(farm.history(), at),
+    Entry {
+        at: moment_used(history, at),
         what: What::Closed,
-    };
-    match farm.admit(closing) {
-        Ok(()) => Ok(()),
-        Err(AdmitFault::Illegal) => {
-            if farm.is_closed() {
-                Ok(())
-            } else {
-                Err(CloseFault::Busy)
-            }
-        }
-        Err(AdmitFault::Memory) => Err(CloseFault::Memory),
     }
+}
+
+/// Whether a farm with this history is closed. Nothing comes behind a closing, so the last entry tells.
+pub fn is_closed(history: &[Entry]) -> bool
+    requires { IsLegal history.now }
+    ensures { result ≡ is_closed history.now }
+{
+    let Some(last) = history.last() else {
+        return false;
+    };
+    matches!(&last.what, What::Closed)
 }

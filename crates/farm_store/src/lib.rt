@@ -8,6 +8,9 @@
 //! record is stored at once, where their [`most_bytes`] are [`MAX_RECORD_BYTES`] together at most. A caller who needs
 //! no reply but the run that it hands out enters a command, which spares the look at the search that the run is for.
 //!
+//! A store also admits copies of entries that came from elsewhere, all of them in one record, and is created with the
+//! farm that such entries make ([`farm_by`]), for a node that follows another one's history.
+//!
 //! Each call is one settling (repair, decide, record), behind which the decisions of `deciding` differ. What it leaves
 //! alone, and what never falls, is one record, `KeepsStore` of `specs/Keeping`.
 //!
@@ -15,7 +18,7 @@
 //! leave of them, and on `entry_codec` for entries as bytes. What the entries of asks take at most is told by the
 //! commands' kinds, whose decisions name drafts of `farm_rules` and verdicts of `weight_exact`. The layers above may
 //! use every name below; clauses above cite `specs/` (`Bytes`, `Damage`, `State`, `Answering`, `Keeping`, `Together`,
-//! `Sizes`, `Entering`, `Opened`, `Founded`, `Faults`).
+//! `Sizes`, `Entering`, `Opened`, `Founded`, `Closed`, `Admitted`, `Faults`).
 #![tactic(auto)]
 
 mod admitting;
@@ -29,7 +32,7 @@ mod recording;
 mod showing;
 mod store;
 
-pub use admitting::farm_of;
+pub use admitting::{copies, farm_by};
 pub use asking::{
     Answers, Ask, CallFault, MAX_BATCH, MAX_BATCH_BYTES, MAX_RECORD_BYTES, MAX_SHORT_ENTRY_BYTES,
     Part, most_bytes,

@@ -1,14 +1,14 @@
 //! Storing the entries by which the farm in memory is ahead of its journal.
 
-ghost use Rattle.std.specs.Prelude.{◌≡◌, ◌≢◌, ◌≤◌, [], true, take, drop, None, OnOk, OnErr, All};
+ghost use Rattle.std.specs.Prelude.{◌≡◌, ◌≢◌, ◌≤◌, [], true, length, take, drop, None, OnOk, OnErr, All};
 ghost use Rattle.farm_disk.specs.Images.{LeavesOnly};
 ghost use Rattle.farm_journal.specs.Layout.{version_of};
-ghost use Rattle.entry_codec.specs.Grammar.{IsWithinLimits};
+ghost use Rattle.entry_codec.specs.Grammar.{AreSpelled, IsWithinLimits};
+ghost use Rattle.entry_codec.specs.Spelling.{spelling};
 ghost use Rattle.farm_journal.specs.Faults.{OnMemory, OnStoreFault};
 ghost use Rattle.farm_store.specs.Faults.{HasCountFrom};
 ghost use Rattle.farm_store.specs.Recorded.{IsOpen, LeavesNew, Wrote};
 ghost use Rattle.farm_store.specs.StoreInside.{IsAhead, IsStore};
-ghost use Rattle.farm_store.specs.Sizes.{entries_size};
 ghost use Rattle.farm_store.specs.declared.asking.TheConstants.{MAX_RECORD_BYTES};
 
 use entry_codec::write_entries_into;
@@ -69,7 +69,7 @@ fn write_new<D: Disk>(
 ) -> Result<(), JournalFault>
     requires open { IsOpen D.tells D.told journal.old }
     requires within { All (λ entry. IsWithinLimits entry.what) entries.now }
-    requires fits { entries_size entries.now ≤ MAX_RECORD_BYTES }
+    requires fits { AreSpelled entries.now → length (spelling entries.now) ≤ MAX_RECORD_BYTES }
 
     ensures same { D.tells journal.new.disk ≡ D.tells journal.old.disk }
     ensures wrote { Wrote D.tells D.told entries.now result journal.old journal.new }

@@ -19,7 +19,8 @@ ghost use Rattle.std.specs.Prelude.{
   OnErr,
 };
 ghost use Rattle.std.specs.Option.{option_map};
-ghost use Rattle.farm_disk.specs.Images.{EachImage, LeavesOnly, LeavesSinceSync, moment};
+ghost use Rattle.entry_codec.specs.Spelling.{spelling};
+ghost use Rattle.farm_disk.specs.Images.{EachImage, IsSettled, LeavesOnly, LeavesSinceSync, moment};
 ghost use Rattle.farm_entry.specs.Closing.{CanBeCarried};
 ghost use Rattle.farm_entry.specs.History.{opening_numbered};
 ghost use Rattle.farm_entry.specs.Legal.{IsLegal};
@@ -28,13 +29,15 @@ ghost use Rattle.farm_entry.specs.Standing.{standing};
 ghost use Rattle.farm_journal.specs.Created.{CreatingCause, IsUnborn, OnCreatingMemory};
 ghost use Rattle.farm_journal.specs.Faults.{HasCause};
 ghost use Rattle.farm_journal.specs.Layout.{is_unborn, version_of};
-ghost use Rattle.farm_journal.specs.Opened.{OpeningCause};
+ghost use Rattle.farm_journal.specs.Opened.{OnRead, OpeningCause};
 ghost use Rattle.farm_journal.specs.ReadsOnly.{ReadsOnly};
-ghost use Rattle.farm_store.specs.Answering.{AnswerSays, BatchSays, CallSays, IsUnrepairedBy, Settles, as_batch};
+ghost use Rattle.farm_store.specs.Admitted.{Admits};
+ghost use Rattle.farm_store.specs.Answering.{AnswerSays, BatchSays, CallSays, IsUnrepairedBy, Repairs, Settles};
+ghost use Rattle.farm_store.specs.Answering.{as_batch};
 ghost use Rattle.farm_store.specs.Closed.{Closes, HasCloseCause, OnClosedOrBusy};
 ghost use Rattle.farm_store.specs.Entering.{Enters};
 ghost use Rattle.farm_store.specs.Faults.{HasCallCause, HasCountFrom, OnAnswered};
-ghost use Rattle.farm_store.specs.Founded.{Founds, IsUnbornOrFounding, disk_founded, founding};
+ghost use Rattle.farm_store.specs.Founded.{Founds, IsUnbornOr, IsUnbornOrFounding, disk_founded, founding};
 ghost use Rattle.farm_store.specs.Inherited.{IsUnbornOrInheriting, inheriting};
 ghost use Rattle.farm_store.specs.Keeping.{KeepsStore};
 ghost use Rattle.farm_store.specs.Opened.{OpensTo, disk_opened};
@@ -43,13 +46,14 @@ ghost use Rattle.farm_store.specs.Together.{TogetherSays, all_asks};
 ghost use Rattle.farm_store.specs.Sizes.{asks_size};
 ghost use Rattle.farm_store.specs.declared.asking.TheConstants.{MAX_BATCH, MAX_RECORD_BYTES};
 
-use crate::admitting::farm_of;
+use crate::admitting::{add_all, farm_of};
 use crate::asking::{Answers, Ask, CallFault, Part};
-use crate::closing::{CloseFault, add_closing};
+use crate::closing::{CloseFault, closing, is_closed};
 use crate::deciding::{AskList, AskParts, Deciding, OneAsk, OneRun};
-use crate::founding::{found, inherit};
+use crate::founding::inherit;
 use crate::recording::record_from;
 use crate::showing::page_in;
+use entry_codec::write_entries;
 use farm_core::Farm;
 use farm_disk::{DatedDisk, Disk};
 use farm_entry::{
@@ -124,18 +128,9 @@ impl<D: Disk> Store<D> {
         ensures cause { IfErr result (λ missed. CreatingCause missed.1 (D.count disk) (D.count missed.0)) }
         ensures never_falls { D.count disk ≤ D.count (disk_founded result) }
     {
-        let (farm, payload) = match found(alloc, settings, at) {
-            Ok(made) => made,
-            Err(_) => return Err((disk, CreateFault::Memory)),
-        };
-        match Journal::create(alloc, disk, payload) {
-            Ok(journal) => Ok(Store {
-                journal,
-                farm,
-                recorded: 0,
-                payload: Vec::new(alloc),
-            }),
-            Err(missed) => Err(missed),
+        match Farm::found(alloc, settings, at) {
+            Ok(farm) => Store::create(alloc, disk, farm),
+            Err(_) => Err((disk, CreateFault::Memory)),
         }
     }
 
@@ -151,6 +146,9 @@ impl<D: Disk> Store<D> {
         ensures legal { IfOk result (λ store. IsLegal store.history) }
         ensures stored { IfOk result (λ store. D.tells disk ≡ true → IsStored store.history [] (D.told store.disk)) }
         ensures only { D.tells disk ≡ true → ReadsOnly (D.told disk) (D.told (disk_opened result)) }
+        // Where the bytes were read and are no store's, each crash from then on leaves just them.
+        ensures settled { IfErr result (λ missed. OnRead missed.1 (D.tells disk ≡ true
+            → IsSettled (D.told missed.0))) }
         ensures cause { IfErr result (λ missed. OpeningCause missed.1 (D.count disk) (D.count missed.0)) }
         ensures never_falls { D.count disk ≤ D.count (disk_opened result) }
     {
@@ -206,9 +204,48 @@ impl<D: Disk> Store<D> {
         ensures cause { IfErr result (λ missed. CreatingCause missed.1 (D.count disk) (D.count missed.0)) }
         ensures never_falls { D.count disk ≤ D.count (disk_founded result) }
     {
-        let (farm, payload) = match inherit(alloc, settings, at, orders) {
-            Ok(made) => made,
-            Err(_) => return Err((disk, CreateFault::Memory)),
+        match inherit(alloc, settings, at, orders) {
+            Ok(farm) => Store::create(alloc, disk, farm),
+            Err(_) => Err((disk, CreateFault::Memory)),
+        }
+    }
+
+    /// Creates the store of a farm in memory, whose history fits a record: all of it is stored in one, on a disk that
+    /// is unborn as for [`Store::found`]. A disk that isn't keeps its bytes. An error hands the disk back.
+    pub fn create(alloc: Global, disk: D, farm: Farm) -> Result<Store<D>, (D, CreateFault)>
+        requires { length (spelling farm.history) ≤ MAX_RECORD_BYTES }
+
+        ensures same { D.tells (disk_founded result) ≡ D.tells disk }
+        ensures answers { D.tells disk ≡ true → Founds (D.told disk).bytes result }
+        ensures history { IfOk result (λ store. store.history ≡ farm.history) }
+        ensures decided { IfOk result (λ store. store.pending ≡ []) }
+        ensures none_recorded { IfOk result (λ store. store.recorded ≡ 0) }
+        ensures legal { IsLegal farm.history }
+        ensures stored { IfOk result (λ store. D.tells disk ≡ true
+            → IsStored farm.history [] (D.told store.disk)) }
+        ensures new_version { IfOk result (λ store. D.tells disk ≡ true
+            → version_of (D.told store.disk).bytes ≡ 2) }
+
+        ensures born { D.tells disk ≡ true → is_unborn (D.told disk).bytes ≡ false
+            → (D.told (disk_founded result)).bytes ≡ (D.told disk).bytes }
+        ensures since_sync { D.tells disk ≡ true → is_unborn (D.told disk).bytes ≡ true
+            → LeavesSinceSync (D.told disk) (D.told (disk_founded result)) (IsUnbornOr farm.history) }
+        ensures any_moment { D.tells disk ≡ true → is_unborn (D.told disk).bytes ≡ true
+            → EachImage (D.told disk).steps IsUnborn
+            → LeavesOnly (D.told disk) (D.told (disk_founded result)) (IsUnbornOr farm.history) }
+        ensures memory { IfErr result (λ missed. OnCreatingMemory missed.1 (D.tells disk ≡ true
+            → is_unborn (D.told disk).bytes ≡ true → EachImage (D.told disk).steps IsUnborn
+            → EachImage (D.told missed.0).steps IsUnborn)) }
+        // Out of memory, a crash at any moment of the call leaves an unborn file.
+        ensures memory_moment { IfErr result (λ missed. OnCreatingMemory missed.1 (D.tells disk ≡ true
+            → is_unborn (D.told disk).bytes ≡ true → EachImage (D.told disk).steps IsUnborn
+            → LeavesOnly (D.told disk) (D.told missed.0) IsUnborn)) }
+
+        ensures cause { IfErr result (λ missed. CreatingCause missed.1 (D.count disk) (D.count missed.0)) }
+        ensures never_falls { D.count disk ≤ D.count (disk_founded result) }
+    {
+        let Ok(payload) = write_entries(alloc, farm.history()) else {
+            return Err((disk, CreateFault::Memory));
         };
         match Journal::create(alloc, disk, payload) {
             Ok(journal) => Ok(Store {
@@ -236,10 +273,61 @@ impl<D: Disk> Store<D> {
         ensures keeps { KeepsStore D.Disk (λ P. OnClosedOrBusy result P) self.old self.new }
         ensures cause { HasCloseCause result (D.count self.old.disk) (D.count self.new.disk) }
     {
+        let entry = closing(self.history(), at);
+        match self.admit_all(alloc, &[entry]) {
+            Ok(Ok(())) => Ok(()),
+            Ok(Err(_)) => {
+                if is_closed(self.history()) {
+                    Ok(())
+                } else {
+                    Err(CloseFault::Busy)
+                }
+            }
+            Err(fault) => Err(CloseFault::from(fault)),
+        }
+    }
+
+    /// Admits copies of entries that came from elsewhere, all of which fit a record together, and stores them in one: a
+    /// crash leaves all of them or none. Where one of them can't come next, none is admitted, nothing is written, and
+    /// the index of the first such is told. Nothing may be pending.
+    ///
+    /// # Errors
+    ///
+    /// [`JournalFault::StoreFault`] where the disk failed as they were stored, which then are pending; or
+    /// [`JournalFault::Memory`].
+    pub fn admit_all(
+        &mut self,
+        alloc: Global,
+        entries: &[Entry],
+    ) -> Result<Result<(), usize>, JournalFault>
+        requires decided { self.old.pending ≡ [] }
+        requires fits { length (spelling entries.now) ≤ MAX_RECORD_BYTES }
+
+        ensures admits { Admits entries.now result self.old self.new }
+        ensures keeps { KeepsStore D.Disk (λ P. OnOk result P) self.old self.new }
+        ensures cause { HasCause result (D.count self.old.disk) (D.count self.new.disk) }
+    {
         let before = self.faults();
-        let closed = self.close_next(alloc, at, before);
+        let admitted = self.admit_next(alloc, entries, before);
         self.tell();
-        closed
+        admitted
+    }
+
+    /// Finds out whether what is pending was kept, as each call that answers begins. Where nothing is pending, nothing
+    /// is done; else that takes one sync and one read, and no memory.
+    ///
+    /// # Errors
+    ///
+    /// [`JournalFault::StoreFault`] where the disk failed: all is as before.
+    pub fn repair(&mut self) -> Result<(), JournalFault>
+        ensures repairs { Repairs result self.old self.new }
+        ensures keeps { KeepsStore D.Disk (λ P. OnOk result P) self.old self.new }
+        ensures cause { HasCause result (D.count self.old.disk) (D.count self.new.disk) }
+    {
+        let before = self.faults();
+        let repaired = self.find_out(before);
+        self.tell();
+        repaired
     }
 
     /// Answers a command at a moment. Where a fault left a record undecided, a repair finds out first whether it was
@@ -438,8 +526,7 @@ impl<D: Disk> Store<D> {
         ensures cause { HasCause result (D.count self.old.disk) (D.count self.new.disk) }
     {
         let before = self.faults();
-        if let Err(fault) = self.repair(before) {
-            self.tell();
+        if let Err(fault) = self.repair() {
             return Err(fault);
         }
         let decided = self.decide(alloc, asked, before);
@@ -448,7 +535,7 @@ impl<D: Disk> Store<D> {
     }
 
     /// Finds out whether what is pending was kept. Where nothing is pending, nothing is done.
-    fn repair(&mut self, before: u64) -> Result<(), JournalFault>
+    fn find_out(&mut self, before: u64) -> Result<(), JournalFault>
         ensures same { D.tells self.new.disk ≡ D.tells self.old.disk }
         ensures repaired { OnOk result (IsRepaired self.old self.new.history) }
         ensures decided { OnOk result (self.new.pending ≡ []) }
@@ -533,25 +620,29 @@ impl<D: Disk> Store<D> {
         }
     }
 
-    /// Closes the farm and stores its closing, while nothing is pending.
-    fn close_next(&mut self, alloc: Global, at: Moment, before: u64) -> Result<(), CloseFault>
+    /// Admits copies of entries and stores them in one record, while nothing is pending.
+    fn admit_next(
+        &mut self,
+        alloc: Global,
+        entries: &[Entry],
+        before: u64,
+    ) -> Result<Result<(), usize>, JournalFault>
         requires decided { self.old.pending ≡ [] }
-        requires counted { before ≡ D.count self.old.disk }
+        requires fits { length (spelling entries.now) ≤ MAX_RECORD_BYTES }
         ensures same { D.tells self.new.disk ≡ D.tells self.old.disk }
-        ensures closes { Closes at result self.old self.new }
+        ensures admits { Admits entries.now result self.old self.new }
         ensures any_moment { D.tells self.old.disk ≡ true
             → LeavesOnly (D.told self.old.disk) (D.told self.new.disk) (IsLeft self.old self.new) }
-        ensures untouched { self.new.history ≡ self.old.history
-            → OnClosedOrBusy result (self.new.disk ≡ self.old.disk) }
+        ensures untouched { self.new.history ≡ self.old.history → OnOk result (self.new.disk ≡ self.old.disk) }
         ensures new_version { D.tells self.old.disk ≡ true → length self.old.history < length self.new.history
-            → OnClosedOrBusy result (version_of (D.told self.new.disk).bytes ≡ 2) }
-        ensures cause { HasCloseCause result (D.count self.old.disk) (D.count self.new.disk) }
+            → OnOk result (version_of (D.told self.new.disk).bytes ≡ 2) }
+        ensures cause { HasCountFrom before result (D.count self.old.disk) (D.count self.new.disk) }
         ensures never_falls { D.count self.old.disk ≤ D.count self.new.disk }
     {
         self.recorded = 0;
         let start = self.farm.history().len();
-        match add_closing(&mut self.farm, at) {
-            Ok(()) => {
+        match add_all(alloc, &mut self.farm, entries) {
+            Ok(Ok(())) => {
                 match record_from(
                     alloc,
                     &mut self.payload,
@@ -561,13 +652,14 @@ impl<D: Disk> Store<D> {
                     before,
                 ) {
                     Ok(()) => {
-                        self.recorded = self.farm.history().len() - start;
-                        Ok(())
+                        self.recorded = entries.len();
+                        Ok(Ok(()))
                     }
-                    Err(fault) => Err(CloseFault::from(fault)),
+                    Err(fault) => Err(fault),
                 }
             }
-            Err(fault) => Err(fault),
+            Ok(Err(index)) => Ok(Err(index)),
+            Err(_) => Err(JournalFault::Memory),
         }
     }
 }

@@ -6,7 +6,7 @@ use Rattle.farm_entry.specs.Standing.{is_active}
 use Rattle.farm_entry.specs.declared.entry.Entry.{Entry}
 use Rattle.farm_entry.specs.declared.opening.Opening.{Opening}
 use Rattle.search_state.specs.SearchView.{SearchView, standing_in}
-use Rattle.state_laws.specs.Seen.{seen}
+use Rattle.search_state.specs.Seen.{seen}
 use Rattle.farm_turns.specs.Moves.{goes_on}
 
 pub going-some : (H : List Entry) (x : Option Opening) (s : SearchView) → option_map (seen H) x ≡ Some s →

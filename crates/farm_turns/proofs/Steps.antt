@@ -24,8 +24,8 @@ use Rattle.farm_laws.proofs.Made.{is_made}
 use Rattle.farm_laws.proofs.Numbered.{lease-there, number-at, opening-found, opening-there, openings-numbered}
 use Rattle.farm_laws.proofs.Opened.{opened-stays}
 use Rattle.farm_laws.proofs.Stepped.{KindFacts, Stepped, stepped}
-use Rattle.search_laws.specs.Steps.{IsAbout}
-use Rattle.search_laws.proofs.Counting.{about-one, about-opens_none}
+use Rattle.farm_laws.specs.Steps.{IsAbout}
+use Rattle.farm_laws.proofs.Counting.{about-one, about-opens_none}
 use Rattle.turn_laws.specs.TurnOrder.{AreTurns, IsOfActive}
 use Rattle.turn_laws.proofs.NextTurns.{ended-turns, leased-there, leased-turns, opened-struck, opened-turns, opened_ended-turns, other-turns}
 use Rattle.turn_laws.proofs.Parts.{not-both, strike-snoc}

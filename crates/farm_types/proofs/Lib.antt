@@ -1,4 +1,5 @@
 pub mod FirstIndex
+pub mod IdDigits
 pub mod IdTexts
 pub mod Limits
 pub mod NameTexts

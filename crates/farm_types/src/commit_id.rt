@@ -2,6 +2,7 @@ ghost use Rattle.std.specs.Prelude.{◌≡◌, length, Ok, Some, None, OnOk, IfO
 ghost use Rattle.farm_types.specs.declared.commit_id.TheConstants.{ID_BYTES};
 ghost use Rattle.hex.specs.Hex.{IsBytes, decode_of};
 
+use crate::id_digits::bytes_of;
 use hex::{FromHex, FromHexError, encode_to_slice};
 use thiserror::Error;
 
@@ -38,6 +39,19 @@ impl CommitId {
     ///
     /// The first fault of the text is answered: its length, else its first byte that is no digit.
     pub fn read(text: &str) -> Result<CommitId, IdFault>
+        ensures taken { OnOk result (id_fault text.now ≡ None) }
+        ensures bytes { IfOk result (λ id. decode_of text.now ≡ Ok (id_bytes id)) }
+        ensures refused { IfErr result (λ fault. id_fault text.now ≡ Some fault) }
+    {
+        match bytes_of(text.as_bytes()) {
+            Some(bytes) => Ok(CommitId { bytes }),
+            None => CommitId::read_slowly(text),
+        }
+    }
+
+    /// The same of any text, digit by digit up to the first fault.
+    #[inline(never)]
+    fn read_slowly(text: &str) -> Result<CommitId, IdFault>
         ensures taken { OnOk result (id_fault text.now ≡ None) }
         ensures bytes { IfOk result (λ id. decode_of text.now ≡ Ok (id_bytes id)) }
         ensures refused { IfErr result (λ fault. id_fault text.now ≡ Some fault) }

@@ -12,6 +12,7 @@
 #![tactic(auto)]
 
 mod commit_id;
+mod id_digits;
 mod key;
 pub mod laws;
 mod moment;

@@ -82,9 +82,18 @@ impl JsonText {
         if is_plain(text.as_bytes()) {
             self.put_plain(text)
         } else {
-            let escaped = Value::try_from_str(self.alloc, text)?.to_string(self.alloc)?;
-            Ok(self.text.push_str(escaped.as_str())?)
+            self.put_escaped(text)
         }
+    }
+
+    /// Puts a text between quotes with the escapes that it needs. It stands apart, so that a text without any needs no
+    /// room for a value.
+    #[inline(never)]
+    fn put_escaped(&mut self, text: &str) -> Result<(), Memory>
+        ensures { OnOk result (self.new ≡ self.old ++ quoted text.now) }
+    {
+        let escaped = Value::try_from_str(self.alloc, text)?.to_string(self.alloc)?;
+        Ok(self.text.push_str(escaped.as_str())?)
     }
 
     /// Puts a text that needs no escape between quotes.
@@ -92,9 +101,9 @@ impl JsonText {
         requires { escape text.now ≡ text.now }
         ensures { OnOk result (self.new ≡ self.old ++ quoted text.now) }
     {
-        self.text.push_str("\"")?;
+        self.text.push('"')?;
         self.text.push_str(text)?;
-        Ok(self.text.push_str("\"")?)
+        Ok(self.text.push('"')?)
     }
 
     /// Puts the id of a commit between quotes behind a piece.

@@ -2,8 +2,7 @@
 use Rattle.std.proofs.Common.{◌≡◌, refl, ℕ}
 use Rattle.farm_types.specs.declared.moment.Moment.{Moment}
 use Rattle.farm_disk.specs.Images.{DiskState}
-use Rattle.farm_journal.proofs.Births.{birth-start, since_sync-none}
-use Rattle.farm_journal.specs.ReadsOnly.{ReadsOnly}
+use Rattle.farm_journal.proofs.OpeningSteps.{reads-none}
 use Rattle.farm_journal.specs.declared.fault.OpeningFault.TheVariants as fault
 use Rattle.farm_serve.specs.Outside.{DiskSeen, Outside}
 use Rattle.farm_serve.specs.declared.ending.Ending.TheVariants as end
@@ -11,18 +10,11 @@ use Rattle.finder_program.specs.Opening.{IsNotOpened}
 use Rattle.finder_program.specs.ServeCommand.{JournalServeEnds}
 use Rattle.finder_program.specs.declared.status.Status.TheVariants.{Memory}
 
-reads-nothing : (state : DiskState) → ReadsOnly state state
-reads-nothing state = record {
-  bytes = refl;
-  since_sync = since_sync-none state (λ c. c ≡ state.bytes);
-  any_moment = λ settled. birth-start state (λ c. c ≡ state.bytes) settled refl;
-}
-
 pub unread-not_opened : {V : Type 0} (seen : V) (disk : DiskSeen) → IsNotOpened Memory seen seen disk disk
 unread-not_opened seen disk = (
   fault.Memory,
   refl,
-  record { untouched = refl; cause = λ tells. tt; only = λ tells. reads-nothing disk.told },
+  record { untouched = refl; cause = λ tells. tt; only = λ tells. reads-none disk.told },
 )
 
 pub unread-served : (links : ℕ) (clock : Moment → Type 0) (seen : Outside)
@@ -33,7 +25,7 @@ unread-served links clock seen = (
   record {
     untouched = (refl, refl);
     cause = λ tells. tt;
-    only = λ tells. reads-nothing seen.disk.told;
+    only = λ tells. reads-none seen.disk.told;
     counts = tt;
   },
 )

@@ -12,6 +12,7 @@ use farm_drill::drill;
 use farm_types::Memory;
 use link_io::Sink;
 use std::alloc::Global;
+use std::mem::forget;
 use std::sync::Wait;
 use std::thread::Threads;
 
@@ -31,7 +32,11 @@ pub fn drill_command<H: Threads + Wait + Sync, K: Sink>(
     ensures completes { DrillCompletes result (output_seen K.Sink output.old) (output_seen K.Sink output.new) }
 {
     match drill(rt, alloc, searches, workers) {
-        Ok((line, _)) => put_text(output, line.as_str()),
+        Ok((line, store)) => {
+            // The process ends with its drill, and all memory goes back at once then.
+            forget(store);
+            put_text(output, line.as_str())
+        }
         Err(Memory) => Status::Memory,
     }
 }

@@ -28,9 +28,9 @@ use Rattle.farm_laws.proofs.Induct.{AreNext-first, IsLegal-pushed}
 use Rattle.farm_laws.proofs.Numbered.{lease-there, leases-numbered, number-at, opening-found, opening-there, openings-numbered}
 use Rattle.farm_laws.proofs.Stepped.{Stepped, stepped}
 use Rattle.search_state.specs.SearchView.{SearchView, after_report, after_skip, cancelled, opened, standing_in}
-use Rattle.state_laws.specs.Seen.{all_seen, seen}
-use Rattle.state_laws.proofs.AllStates.{cancelled-all, opened-all, quiet-all, reported-all, skipped-all}
-use Rattle.state_laws.proofs.Changes.{cancelled-not_opened, cancelled-seen, opened-seen, report-not_opened, reported-seen, skip-not_opened, skipped-seen}
+use Rattle.search_state.specs.Seen.{all_seen, seen}
+use Rattle.search_state.proofs.AllStates.{cancelled-all, opened-all, quiet-all, reported-all, skipped-all}
+use Rattle.search_state.proofs.Changes.{cancelled-not_opened, cancelled-seen, opened-seen, report-not_opened, reported-seen, skip-not_opened, skipped-seen}
 use Rattle.flake_book.specs.Noted.{Noted, all_noted, noted_at, noted_of, started, with_run}
 use Rattle.flake_book.specs.Tally.{StandsAfter, tells}
 use Rattle.flake_book.proofs.Parts.{search-of_cancel, search-of_opening, search-of_told, told-either}

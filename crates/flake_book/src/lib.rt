@@ -6,7 +6,7 @@
 //! for each test.
 //!
 //! The crate stands on `farm_entry` for entries and the definitions of the farm, on `flake_rate` for the rate that is
-//! offered, and on `told_list` for what contracts alone see; its proofs stand on `state_laws`, on `search_laws` and on
+//! offered, and on `told_list` for what contracts alone see; its proofs stand on `search_state` and on
 //! `farm_laws`. The layer above may use `FlakeBook`, which contracts see as the list of the entries noted.
 //! `specs/Tally` says what a test's tally, its offered rate and the tests are, over a whole history.
 #![tactic(auto)]

@@ -35,10 +35,6 @@ gcd-mod a b = sym (gcd-from_IsGcd a b (gcd b (a % b)) (IsGcd-from_mod a b (gcd b
 pub gcd-zero_left : (b : ℕ) → gcd 0 b ≡ b
 gcd-zero_left b = gcd-from_IsGcd 0 b b (IsGcd-swap b 0 b (IsGcd-from_zero b 0 refl))
 
--- gcd is positive where one of the two numbers is
-pub gcd_positive_left : (a b : ℕ) → 0 < a → 0 < gcd a b
-gcd_positive_left a b h = pos_of_dvd_of_pos (gcd_divides a b).0 h
-
 pub gcd_positive_right : (a b : ℕ) → 0 < b → 0 < gcd a b
 gcd_positive_right a b h = pos_of_dvd_of_pos (gcd_divides a b).1 h
 

@@ -3,7 +3,7 @@
 use crate::refusals::print_fault;
 use crate::texts::{bytes_of, number_of, print_found, word};
 use farm_wire::{Route, command_of, line_of};
-use std::alloc::Global;
+use std::alloc::{AllocError, Global};
 use std::io;
 
 // Prints what a line asks for and when, or its fault.
@@ -43,15 +43,20 @@ fn print_body(rt: &impl Print, alloc: Global, text: &str) -> io::Result<()> {
     }
 }
 
+// The bytes of a line, which may be spelled or given by its bytes' digits.
+fn line_bytes(alloc: Global, name: &str, text: &str) -> Result<Vec<u8>, AllocError> {
+    match name {
+        "spelled" => bytes_of(alloc, text),
+        "bytes" => Ok(hex::decode(alloc, text).unwrap_or(Vec::new(alloc))),
+        _ => Vec::from_slice(alloc, text.as_bytes()),
+    }
+}
+
 /// Prints what a body asks for, or a line, which may be spelled or given by its bytes.
 pub(crate) fn play_asked(rt: &impl Print, alloc: Global, name: &str, text: &str) -> io::Result<()> {
-    match name {
-        "body" => print_body(rt, alloc, text),
-        "spelled" => print_line(rt, alloc, &bytes_of(alloc, text)?),
-        "bytes" => match hex::decode(alloc, text) {
-            Ok(bytes) => print_line(rt, alloc, &bytes),
-            Err(_) => println!(rt; "no digits"),
-        },
-        _ => print_line(rt, alloc, text.as_bytes()),
+    if name == "body" {
+        return print_body(rt, alloc, text);
     }
+    let line = line_bytes(alloc, name, text)?;
+    print_line(rt, alloc, &line)
 }

@@ -6,10 +6,11 @@ ghost use Rattle.std.specs.Prelude.{◌≤◌, IfOk, Some};
 use link_io::{MemSink, Put, Sink};
 use std::io::{Error, ErrorKind, Read, Write};
 
-/// A sink that takes at most three bytes of a piece.
+/// A sink that takes at most three bytes of a piece, where it is narrow.
 #[derive(Drop)]
 pub(crate) struct Narrow {
     pub(crate) held: MemSink,
+    pub(crate) narrow: bool,
 }
 
 impl Sink for Narrow {
@@ -24,8 +25,11 @@ impl Sink for Narrow {
     }
 
     fn put(&mut self, bytes: &[u8]) -> Put {
-        let count = bytes.len().min(3);
-        self.held.put(&bytes[..count])
+        if self.narrow {
+            let count = bytes.len().min(3);
+            return self.held.put(&bytes[..count]);
+        }
+        self.held.put(bytes)
     }
 }
 

@@ -10,16 +10,24 @@ use link_io::{
 use std::alloc::{AllocError, Global};
 use std::{io, rt};
 
+// Takes a piece of a source and prints it, unless the source has ended. Answers whether it hasn't.
+fn print_take<S: Source>(rt: &impl Print, source: &mut S) -> io::Result<bool> {
+    let mut buf = [0u8; 10];
+    match take_piece(source, &mut buf) {
+        Ok([]) => return Ok(false),
+        Ok(piece) => print!(rt; "{:?} ", text_of(piece))?,
+        Err(_) => print!(rt; "failed ")?,
+    }
+    print!(rt; "{}, ", source.faults())?;
+    Ok(true)
+}
+
 // Takes to the end of a source, and prints what each take gave, with the count of faults after it.
 fn print_takes<S: Source>(rt: &impl Print, source: &mut S) -> io::Result<()> {
-    let mut buf = [0u8; 10];
     for _ in 0..100 {
-        match take_piece(source, &mut buf) {
-            Ok([]) => break,
-            Ok(piece) => print!(rt; "{:?} ", text_of(piece))?,
-            Err(_) => print!(rt; "failed ")?,
+        if !print_take(rt, source)? {
+            break;
         }
-        print!(rt; "{}, ", source.faults())?;
     }
     println!(rt; "the end {}", source.faults())
 }
@@ -43,38 +51,31 @@ fn print_source(rt: &impl Print, alloc: Global, text: &str) -> io::Result<()> {
     print_takes(rt, &mut source)
 }
 
+// Puts a text, whole where it is asked for, as far as it can be, and prints what came of it.
+fn print_put<K: Sink>(rt: &impl Print, sink: &mut K, text: &str, whole: bool) -> io::Result<()> {
+    if whole {
+        print!(rt; "{:?}", put_all(sink, text.as_bytes()))
+    } else {
+        print!(rt; "{:?}", sink.put(text.as_bytes()))
+    }
+}
+
 // Puts texts, with a comma between them, one after the other, and prints what came of each, with the count of faults.
-fn print_puts<K: Sink>(rt: &impl Print, sink: &mut K, texts: &str) -> io::Result<()> {
+fn print_puts<K: Sink>(rt: &impl Print, sink: &mut K, texts: &str, whole: bool) -> io::Result<()> {
     for text in texts.split(',') {
-        let put = sink.put(text.as_bytes());
-        print!(rt; "{put:?} {}, ", sink.faults())?;
+        print_put(rt, sink, text, whole)?;
+        print!(rt; " {}, ", sink.faults())?;
     }
     Ok(())
 }
 
-// The same for texts that are put whole, as far as they can be.
-fn print_whole_puts<K: Sink>(rt: &impl Print, sink: &mut K, texts: &str) -> io::Result<()> {
-    for text in texts.split(',') {
-        let put = put_all(sink, text.as_bytes());
-        print!(rt; "{put:?} {}, ", sink.faults())?;
-    }
-    Ok(())
-}
-
-// Puts texts into memory, where the put with a number fails, and prints the bytes that stand there then.
-fn print_sink(rt: &impl Print, alloc: Global, text: &str) -> io::Result<()> {
-    let (fails, texts) = word(text);
-    let mut sink = MemSink::of(alloc, vec![in alloc; u64::from(number_of(fails))]?);
-    print_puts(rt, &mut sink, texts)?;
-    print_found(rt, text_of(sink.bytes()))
-}
-
-// The same through a sink that takes at most three bytes at once, where all of each text is put.
-fn print_narrow(rt: &impl Print, alloc: Global, text: &str) -> io::Result<()> {
+// Puts texts into memory, where the put with a number fails, and prints the bytes that stand there then. A narrow sink
+// takes at most three bytes at once, and all of each text is put.
+fn print_sink(rt: &impl Print, alloc: Global, text: &str, narrow: bool) -> io::Result<()> {
     let (fails, texts) = word(text);
     let held = MemSink::of(alloc, vec![in alloc; u64::from(number_of(fails))]?);
-    let mut sink = Narrow { held };
-    print_whole_puts(rt, &mut sink, texts)?;
+    let mut sink = Narrow { held, narrow };
+    print_puts(rt, &mut sink, texts, narrow)?;
     print_found(rt, text_of(sink.held.bytes()))
 }
 
@@ -82,6 +83,12 @@ fn print_narrow(rt: &impl Print, alloc: Global, text: &str) -> io::Result<()> {
 fn shown(text: &str) -> Result<(u64, u64), MomentFault> {
     let clock = MemClock::at(Moment::of(text.parse::<u64>().unwrap_or(0))?);
     Ok((clock.now().ms(), clock.now().ms()))
+}
+
+// Whether the machine's clock shows a moment from 2026-01-01 in UTC to the last one that there is.
+fn is_this_century<R: rt::Clock>(rt: &R) -> bool {
+    let now = SystemClock::new(rt).now().ms();
+    (1_767_225_600_000..4_102_444_800_000).contains(&now)
 }
 
 /// Prints what is taken, put or shown.
@@ -93,18 +100,14 @@ pub(crate) fn play_link<R: Print + rt::Clock>(
 ) -> io::Result<()> {
     match name {
         "takes" => print_source(rt, alloc, text),
-        "puts" => print_sink(rt, alloc, text),
-        "narrow_puts" => print_narrow(rt, alloc, text),
+        "puts" => print_sink(rt, alloc, text, false),
+        "narrow_puts" => print_sink(rt, alloc, text, true),
         "flaky_takes" => print_takes(rt, &mut InputSource::new(Flaky { calls: 0 })),
         "flaky_puts" => {
-            print_puts(rt, &mut OutputSink::new(Flaky { calls: 0 }), text)?;
+            print_puts(rt, &mut OutputSink::new(Flaky { calls: 0 }), text, false)?;
             println!(rt; "")
         }
         "clock" => print_found(rt, shown(text)),
-        _ => {
-            let now = SystemClock::new(rt).now().ms();
-            // 2026-01-01 in UTC, and the last moment that there is.
-            print_found(rt, (1_767_225_600_000..4_102_444_800_000).contains(&now))
-        }
+        _ => print_found(rt, is_this_century(rt)),
     }
 }

@@ -35,49 +35,87 @@ mod workers;
 
 use answers::play_answer;
 use asked::play_asked;
+use http_routes::Pages;
 use links::play_link;
 use refusals::{print_refusals, print_wire_faults};
 use replies::play_reply;
 use requests::play_bytes;
-use std::alloc::Global;
+use std::alloc::{AllocError, Global};
 use std::{io, rt};
-use texts::word;
+use texts::{is_among, word};
 use workers::play_worker;
 
-fn play<R: Print + rt::Clock>(rt: &R, alloc: Global, name: &str, rest: &str) -> io::Result<()> {
+/// The words of links and clocks.
+const LINKS: &str = "takes puts narrow_puts flaky_takes flaky_puts clock machine_clock";
+
+/// The words of answers.
+const ANSWERS: &str = "faults statuses not_allowed refusal interim bodies";
+
+// Plays a case of what is written.
+fn play_written(rt: &impl Print, alloc: Global, name: &str, rest: &str) -> io::Result<()> {
+    if is_among(ANSWERS, name) {
+        return play_answer(rt, alloc, name, rest);
+    }
     match name {
-        "held" | "whole" | "prefixes" | "response" => play_bytes(rt, alloc, name, rest),
-        "lease" | "no_run" | "closed" | "worker" => play_worker(rt, alloc, name, rest),
-        "takes"
-        | "puts"
-        | "narrow_puts"
-        | "flaky_takes"
-        | "flaky_puts"
-        | "clock"
-        | "machine_clock" => play_link(rt, alloc, name, rest),
-        "faults" | "statuses" | "not_allowed" | "refusal" | "interim" | "bodies" => {
-            play_answer(rt, alloc, name, rest)
-        }
-        "line" | "spelled" | "bytes" | "body" => play_asked(rt, alloc, name, rest),
         "refusals" => print_refusals(rt, alloc),
         "wire_faults" => print_wire_faults(rt, alloc),
         _ => play_reply(rt, alloc, name, rest),
     }
 }
 
-fn play_line<R: Print + rt::Clock>(rt: &R, alloc: Global, line: &str) -> io::Result<()> {
+fn play<R: Print + rt::Clock>(
+    rt: &R,
+    alloc: Global,
+    pages: &Pages,
+    name: &str,
+    rest: &str,
+) -> io::Result<()> {
+    if is_among("held whole prefixes response", name) {
+        play_bytes(rt, alloc, pages, name, rest)
+    } else if is_among("line spelled bytes body", name) {
+        play_asked(rt, alloc, name, rest)
+    } else if is_among("lease no_run closed worker", name) {
+        play_worker(rt, alloc, name, rest)
+    } else if is_among(LINKS, name) {
+        play_link(rt, alloc, name, rest)
+    } else {
+        play_written(rt, alloc, name, rest)
+    }
+}
+
+fn play_line<R: Print + rt::Clock>(
+    rt: &R,
+    alloc: Global,
+    pages: &Pages,
+    line: &str,
+) -> io::Result<()> {
     if line.starts_with('#') {
         return println!(rt; "{line}");
     }
     print!(rt; "{line}: ")?;
     let (name, rest) = word(line);
-    play(rt, alloc, name, rest)
+    play(rt, alloc, pages, name, rest)
+}
+
+fn play_lines<R: Print + rt::Clock>(
+    rt: &R,
+    alloc: Global,
+    pages: &Pages,
+    lines: &str,
+) -> io::Result<()> {
+    for line in lines.split('\n') {
+        play_line(rt, alloc, pages, line)?;
+    }
+    Ok(())
 }
 
 fn main(rt: HostRuntime) -> io::Result<()> {
     let text = io::read_to_string(rt.alloc(), rt.reader())?;
-    for line in text.as_str().strip_suffix("\n").unwrap_or("").split('\n') {
-        play_line(&rt, rt.alloc(), line)?;
-    }
-    Ok(())
+    let pages = Pages::new(rt.alloc()).map_err(|_| AllocError)?;
+    play_lines(
+        &rt,
+        rt.alloc(),
+        &pages,
+        text.as_str().strip_suffix("\n").unwrap_or(""),
+    )
 }

@@ -1,7 +1,7 @@
 //! The text of each refusal and each fault.
 
+use crate::texts::print_text;
 use farm_entry::{OpenFault, Refusal, Standing};
-use farm_types::Memory;
 use farm_wire::{Field, WireFault, fault_text, refusal_text};
 use flake_rate::{BarFault, MissFault, RateFault};
 use std::alloc::Global;
@@ -44,14 +44,6 @@ const FAULTS: [WireFault; 4] = [
     WireFault::BadField(Field::At),
     WireFault::BadField(Field::From),
 ];
-
-/// Prints a text that was written.
-pub(crate) fn print_text(rt: &impl Print, text: Result<String, Memory>) -> io::Result<()> {
-    match text {
-        Ok(text) => println!(rt; "{}", text.as_str()),
-        Err(fault) => println!(rt; "{fault}"),
-    }
-}
 
 /// Prints the text of a fault.
 pub(crate) fn print_fault(rt: &impl Print, alloc: Global, fault: &WireFault) -> io::Result<()> {

@@ -1,26 +1,17 @@
-//! The text of each reply that answers a request.
+//! The text of each reply.
 
+ghost use Rattle.std.specs.Prelude.{IfSome};
 ghost use Rattle.farm_laws.specs.Days.{HasDays};
 
-use crate::lists::{print_runs, print_searches};
-use crate::pages::{
-    print_log, print_no_orders, print_order, print_page, print_posted, print_totals,
-};
-use crate::refusals::print_text;
-use crate::texts::{number_at, word_at};
-use farm_entry::{Fate, Reply, SkipFate, Standing};
+use crate::lists::{runs_of, searches_of};
+use crate::pages::{orders_of, page_of};
+use crate::texts::{bytes_of, is_among, number_of, numbers_of, parts, print_text, word, words_of};
+use farm_entry::{Fate, Reply, SkipFate, Standing, Totals};
 use farm_types::{CommitId, LAST_DAY, Name, Stage};
-use farm_wire::reply_text;
+use farm_wire::{log_text, reply_text, totals_text};
 use std::alloc::Global;
 use std::io;
 use weight_exact::Verdict;
-
-/// Prints the text of a reply.
-pub(crate) fn print_reply(rt: &impl Print, alloc: Global, reply: &Reply) -> io::Result<()>
-    requires { HasDays reply.now }
-{
-    print_text(rt, reply_text(alloc, reply))
-}
 
 /// The position with these digits, and 0 where they aren't digits.
 pub(crate) fn position_of(digits: &str) -> u16 {
@@ -37,36 +28,6 @@ pub(crate) fn standing_of(text: &str) -> Standing {
         "vindicated" => Standing::Vindicated(culprit),
         "inconclusive" => Standing::Inconclusive,
         _ => Standing::Searching,
-    }
-}
-
-// Prints the reply to an open: its search, budget and standing.
-fn print_opened(rt: &impl Print, alloc: Global, text: &str) -> io::Result<()> {
-    let opened = Reply::Opened {
-        search: number_at(text, 0),
-        budget: number_at(text, 1),
-        standing: standing_of(word_at(text, 2)),
-    };
-    print_reply(rt, alloc, &opened)
-}
-
-// Prints the reply to a lease of a rerun: its run, search, position, commit and deadline, and the test behind a slash.
-fn print_leased(rt: &impl Print, alloc: Global, text: &str) -> io::Result<()> {
-    let (numbers, test) = text.split_once(" / ").unwrap_or((text, ""));
-    match (CommitId::read(word_at(numbers, 3)), Name::of(alloc, test)) {
-        (Ok(commit), Ok(test)) => {
-            let leased = Reply::Leased {
-                run: number_at(numbers, 0),
-                search: number_at(numbers, 1),
-                stage: Stage::Verify,
-                position: position_of(word_at(numbers, 2)),
-                commit,
-                test,
-                deadline: word_at(numbers, 4).parse::<u64>().unwrap_or(0),
-            };
-            print_reply(rt, alloc, &leased)
-        }
-        _ => println!(rt; "no lease"),
     }
 }
 
@@ -88,18 +49,6 @@ pub(crate) fn fate_of(name: &str) -> Fate {
     }
 }
 
-// Prints the reply to a report: its run, search, verdict, fate and standing.
-fn print_reported(rt: &impl Print, alloc: Global, text: &str) -> io::Result<()> {
-    let reported = Reply::Reported {
-        run: number_at(text, 0),
-        search: number_at(text, 1),
-        verdict: verdict_of(word_at(text, 2)),
-        fate: fate_of(word_at(text, 3)),
-        standing: standing_of(word_at(text, 4)),
-    };
-    print_reply(rt, alloc, &reported)
-}
-
 /// What the report of a tree that can't be tested did, by its name.
 pub(crate) fn skip_fate_of(name: &str) -> SkipFate {
     if name == "late" {
@@ -109,54 +58,124 @@ pub(crate) fn skip_fate_of(name: &str) -> SkipFate {
     }
 }
 
-// Prints the reply to a report of a run whose tree can't be tested: its run, search, fate and standing.
-fn print_skipped(rt: &impl Print, alloc: Global, text: &str) -> io::Result<()> {
-    let skipped = Reply::Skipped {
-        run: number_at(text, 0),
-        search: number_at(text, 1),
-        fate: skip_fate_of(word_at(text, 2)),
-        standing: standing_of(word_at(text, 3)),
-    };
-    print_reply(rt, alloc, &skipped)
-}
-
-// Prints the reply to a revert: its order, commit, search and day.
-fn print_ordered(rt: &impl Print, alloc: Global, text: &str) -> io::Result<()> {
-    let Ok(commit) = CommitId::read(word_at(text, 1)) else {
-        return println!(rt; "no commit");
-    };
-    let day = number_at(text, 3);
-    if day > LAST_DAY {
-        return println!(rt; "no day");
+// The totals of a farm, in the order of their fields.
+fn totals_of(numbers: [u32; 10]) -> Totals {
+    Totals {
+        entries: numbers[0] as u64,
+        searches: numbers[1] as u64,
+        searching: numbers[2] as u64,
+        verifying: numbers[3] as u64,
+        confirmed: numbers[4] as u64,
+        ended: numbers[5] as u64,
+        counted: numbers[6] as u64,
+        orders: numbers[7] as u64,
     }
-    let ordered = Reply::Ordered {
-        order: number_at(text, 0),
-        commit,
-        search: number_at(text, 2),
-        day,
-    };
-    print_reply(rt, alloc, &ordered)
 }
 
-/// Prints the text of a reply with the fields that a text lists, a culprit behind a slash.
-pub(crate) fn play_reply(rt: &impl Print, alloc: Global, name: &str, text: &str) -> io::Result<()> {
+// A reply to a lease of a rerun: its run, search, position, commit and deadline, and the test behind a slash.
+fn leased(alloc: Global, text: &str) -> Option<Reply>
+    ensures { IfSome result HasDays }
+{
+    let (fields, test) = parts(text);
+    let words = words_of(fields);
+    let numbers = numbers_of(&words);
+    let commit = CommitId::read(words[3]).ok()?;
+    let test = Name::of(alloc, test).ok()?;
+    Some(Reply::Leased {
+        run: numbers[0],
+        search: numbers[1],
+        stage: Stage::Verify,
+        position: position_of(words[2]),
+        commit,
+        test,
+        deadline: words[4].parse::<u64>().unwrap_or(0),
+    })
+}
+
+// A reply to a revert: its order, commit, search and day.
+fn ordered(words: [&str; 10], numbers: [u32; 10]) -> Option<Reply>
+    ensures { IfSome result HasDays }
+{
+    if numbers[3] > LAST_DAY {
+        return None;
+    }
+    Some(Reply::Ordered {
+        order: numbers[0],
+        commit: CommitId::read(words[1]).ok()?,
+        search: numbers[2],
+        day: numbers[3],
+    })
+}
+
+// A reply of the numbers and names that a text lists, a culprit behind a slash.
+fn told(name: &str, text: &str) -> Option<Reply>
+    ensures { IfSome result HasDays }
+{
+    let words = words_of(text);
+    let numbers = numbers_of(&words);
     match name {
-        "opened" => print_opened(rt, alloc, text),
-        "cancelled" => {
-            let search = number_at(text, 0);
-            print_reply(rt, alloc, &Reply::Cancelled { search })
-        }
-        "leased" => print_leased(rt, alloc, text),
-        "reported" => print_reported(rt, alloc, text),
-        "skipped" => print_skipped(rt, alloc, text),
-        "ordered" => print_ordered(rt, alloc, text),
-        "page" => print_page(rt, alloc, text),
-        "totals" => print_totals(rt, alloc, text),
-        "posted" => print_posted(rt, alloc, text),
-        "log" => print_log(rt, alloc, text),
-        "no_orders" => print_no_orders(rt, alloc),
-        "runs" => print_runs(rt, alloc, text),
-        "list" => print_searches(rt, alloc, text),
-        _ => print_order(rt, alloc, text),
+        "opened" => Some(Reply::Opened {
+            search: numbers[0],
+            budget: numbers[1],
+            standing: standing_of(words[2]),
+        }),
+        "cancelled" => Some(Reply::Cancelled { search: numbers[0] }),
+        "reported" => Some(Reply::Reported {
+            run: numbers[0],
+            search: numbers[1],
+            verdict: verdict_of(words[2]),
+            fate: fate_of(words[3]),
+            standing: standing_of(words[4]),
+        }),
+        "skipped" => Some(Reply::Skipped {
+            run: numbers[0],
+            search: numbers[1],
+            fate: skip_fate_of(words[2]),
+            standing: standing_of(words[3]),
+        }),
+        "totals" => Some(Reply::Farm(totals_of(numbers))),
+        _ => ordered(words, numbers),
+    }
+}
+
+// A reply that lists something.
+fn shown(alloc: Global, name: &str, text: &str) -> Option<Reply>
+    ensures { IfSome result HasDays }
+{
+    match name {
+        "page" => Some(Reply::Search(page_of(alloc, text)?)),
+        "runs" => Some(Reply::Runs(runs_of(alloc, text)?)),
+        "list" => Some(Reply::Searches(searches_of(alloc, text)?)),
+        "leased" => leased(alloc, text),
+        _ => Some(Reply::Orders(orders_of(alloc, text)?)),
+    }
+}
+
+// The reply with a name, and the fields that a text lists.
+fn reply_of(alloc: Global, name: &str, text: &str) -> Option<Reply>
+    ensures { IfSome result HasDays }
+{
+    if is_among("page runs list leased order no_orders", name) {
+        shown(alloc, name, text)
+    } else {
+        told(name, text)
+    }
+}
+
+/// Prints the text of a reply with the fields that a text lists, that of totals that were posted, or of a log page from
+/// an entry on.
+pub(crate) fn play_reply(rt: &impl Print, alloc: Global, name: &str, text: &str) -> io::Result<()> {
+    if name == "posted" {
+        let numbers = numbers_of(&words_of(text));
+        return print_text(rt, totals_text(alloc, &totals_of(numbers)));
+    }
+    if name == "log" {
+        let (from, bytes) = word(text);
+        let bytes = bytes_of(alloc, bytes)?;
+        return print_text(rt, log_text(alloc, number_of(from), &bytes));
+    }
+    match reply_of(alloc, name, text) {
+        Some(reply) => print_text(rt, reply_text(alloc, &reply)),
+        None => println!(rt; "no reply"),
     }
 }

@@ -47,17 +47,24 @@ fn print_prefixes(rt: &impl Print, pages: &Pages, bytes: &[u8]) -> io::Result<()
     println!(rt; "{} bytes", bytes.len())
 }
 
+fn print_bytes(rt: &impl Print, pages: &Pages, name: &str, bytes: &[u8]) -> io::Result<()> {
+    match name {
+        "held" => print_twice(rt, pages, bytes, false),
+        "whole" => print_twice(rt, pages, bytes, true),
+        "prefixes" => print_prefixes(rt, pages, bytes),
+        _ => print_found(rt, read_response(bytes)),
+    }
+}
+
 /// Prints what comes next of bytes, whole or as those that are held, of each of their prefixes, or what response stands
 /// at their front.
-pub(crate) fn play_bytes(rt: &impl Print, alloc: Global, name: &str, text: &str) -> io::Result<()> {
+pub(crate) fn play_bytes(
+    rt: &impl Print,
+    alloc: Global,
+    pages: &Pages,
+    name: &str,
+    text: &str,
+) -> io::Result<()> {
     let bytes = bytes_of(alloc, text)?;
-    let Ok(pages) = Pages::new(alloc) else {
-        return println!(rt; "out of memory");
-    };
-    match name {
-        "held" => print_twice(rt, &pages, &bytes, false),
-        "whole" => print_twice(rt, &pages, &bytes, true),
-        "prefixes" => print_prefixes(rt, &pages, &bytes),
-        _ => print_found(rt, read_response(&bytes)),
-    }
+    print_bytes(rt, pages, name, &bytes)
 }

@@ -8,34 +8,47 @@ use weight_exact::Verdict;
 use worker_core::{Event, Tested, WorkerCore};
 use worker_wire::{is_closed, is_no_run, lease_of};
 
+fn tested_of(name: &str) -> Option<Tested> {
+    match name {
+        "failed" => Some(Tested::Verdict(Verdict::Fail)),
+        "passed" => Some(Tested::Verdict(Verdict::Pass)),
+        "untestable" => Some(Tested::Untestable),
+        _ => None,
+    }
+}
+
 fn event_of(text: &str) -> Event {
+    if let Some(tested) = tested_of(text) {
+        return Event::Ran(tested);
+    }
     let (name, value) = text.split_once('/').unwrap_or((text, ""));
     let number = number_of(value);
     match name {
-        "drew" => Event::Drew(Key(u128::from(number))),
+        "drew" => Event::Drew(Key(number as u128)),
         "leased" => Event::Leased(number),
         "nothing" => Event::Nothing,
-        "failed" => Event::Ran(Tested::Verdict(Verdict::Fail)),
-        "passed" => Event::Ran(Tested::Verdict(Verdict::Pass)),
-        "untestable" => Event::Ran(Tested::Untestable),
         "noted" => Event::Noted,
         "lost" => Event::Lost(value.parse::<u16>().unwrap_or(0)),
         _ => Event::Begin,
     }
 }
 
-// Prints what a worker does that may lease so many runs, event by event.
+// Prints what a worker does, event by event.
+fn print_steps(rt: &impl Print, worker: &mut WorkerCore, events: &str) -> io::Result<()> {
+    for event in events.split(' ') {
+        print!(rt; "{:?}; ", worker.step(event_of(event)))?;
+    }
+    println!(rt; "")
+}
+
+// Prints what a worker does that may lease so many runs.
 fn print_worker(rt: &impl Print, text: &str) -> io::Result<()> {
     let (runs, events) = word(text);
     let runs = number_of(runs);
     if runs == 0 {
         return println!(rt; "no runs");
     }
-    let mut worker = WorkerCore::start(runs);
-    for event in events.split(' ') {
-        print!(rt; "{:?}; ", worker.step(event_of(event)))?;
-    }
-    println!(rt; "")
+    print_steps(rt, &mut WorkerCore::start(runs), events)
 }
 
 /// Prints what a worker does, or what it reads in a body.

@@ -5,22 +5,19 @@ use Rattle.farm_disk.specs.Images.{DiskState, LeavesOnly}
 use Rattle.farm_disk.proofs.Moments.{leaves_only-start, leaves_only-trans, leaves_only-weaker}
 use Rattle.farm_entry.specs.declared.entry.Entry.{Entry}
 use Rattle.farm_laws.proofs.Induct.{IsLegal-first}
-use Rattle.farm_journal.specs.State.{JournalState}
-use Rattle.farm_store.proofs.Calls.{legal-store, stored-store}
 use Rattle.std.specs.Prelude.{Err, Ok, OnOk, Result}
 use Rattle.follow_law.specs.Page.{MayBeHeld}
 use Rattle.follow_law.specs.Taking.{Held, IsDecided}
-use Rattle.journal_follow.specs.Inside.{IsFollower, IsPlace, Stores, follower_state, place_state}
-use Rattle.journal_follow.specs.Shown.{IsKept, ShowsDecided, ShowsLeft}
-use Rattle.journal_follow.specs.State.{FollowerState, IsSameDisk}
+use Rattle.journal_follow.specs.Inside.{IsFollower, IsPlace, follower_state, place_state}
+use Rattle.journal_follow.specs.Shown.{IsKept, ShowsLeft}
+use Rattle.journal_follow.specs.State.{FollowerState}
 use Rattle.journal_follow.specs.Taken.{OnMemory}
 use Rattle.journal_follow.specs.declared.fault.FollowFault.{FollowFault}
 use Rattle.journal_follow.specs.declared.fault.FollowFault.TheVariants as fault
-use Rattle.journal_follow.specs.declared.place.Opened.{Opened}
 use Rattle.journal_follow.specs.declared.place.Place.{Place}
 use Rattle.journal_follow.specs.declared.place.Place.TheVariants as place
-use Rattle.journal_follow.proofs.Admissions.{legal-may}
-use Rattle.journal_follow.proofs.Showing.{begun-kept, decided-left, left-on, stored-kept, unborn-kept}
+use Rattle.journal_follow.proofs.Legals.{legal-may}
+use Rattle.journal_follow.proofs.Showing.{begun-kept, decided-left, left-first, left-on, stored-kept, unborn-kept}
 
 -- the history without what is pending may be held where both may
 pub may-front : (H more : List Entry) → MayBeHeld (H ++ more) → MayBeHeld H
@@ -34,18 +31,15 @@ module _ {D : Type 0} (tells : D → Bool) (told : D → DiskState) (count : D �
   place-legal : (p : Place D) → IsPlace tells told count p
       → MayBeHeld ((place_state tells told count p).held.history ++ (place_state tells told count p).held.pending)
   place-legal (place.Unborn disk) holds = tt
-  place-legal (place.Begun begun) holds = legal-may begun.farm.history holds.0.legal
-  place-legal (place.Open opened) holds =
-      legal-may _ (legal-store tells told opened.farm opened.journal holds)
+  place-legal (place.Begun begun) holds = legal-may begun.entries holds.0
+  place-legal (place.Open store) holds = legal-may (store.history ++ store.pending) holds.legal
 
   place-kept : (p : Place D) → IsPlace tells told count p → (place_state tells told count p).tells ≡ true
       → IsKept (place_state tells told count p).held (place_state tells told count p).disk
   place-kept (place.Unborn disk) holds t = unborn-kept (told disk) (holds t)
-  place-kept (place.Begun begun) holds t =
-      begun-kept begun.payload begun.farm.history (told begun.disk) holds.0 (holds.1 t)
-  place-kept (place.Open opened) holds t =
-      stored-kept opened.farm.history _ (told opened.journal.disk)
-      (stored-store tells told opened.farm opened.journal holds t)
+  place-kept (place.Begun begun) holds t = begun-kept begun.entries (told begun.disk) (holds.1 t)
+  place-kept (place.Open store) holds t =
+      stored-kept store.history store.pending (told store.disk) (holds.stored t)
 
   follower-legal : (o : Option (Place D)) → IsFollower tells told count o
       → MayBeHeld ((follower_state tells told count o).held.history ++ (follower_state tells told count o).held.pending)
@@ -95,17 +89,13 @@ module _ {D : Type 0} (tells : D → Bool) (told : D → DiskState) (count : D �
 
 -- a repair, and then what was done while nothing was pending
 pub leaves-then : (old mid new : Held) (a b d : DiskState) → IsDecided old mid.history → mid.pending ≡ []
-    → LeavesOnly a b (ShowsDecided old) → LeavesOnly b d (ShowsLeft mid new) → LeavesOnly a d (ShowsLeft old new)
+    → LeavesOnly a b (ShowsLeft old mid) → LeavesOnly b d (ShowsLeft mid new) → LeavesOnly a d (ShowsLeft old new)
 leaves-then old mid new a b d found none one two =
     leaves_only-trans a b d (ShowsLeft old new)
-    (leaves_only-weaker a b (ShowsDecided old) (ShowsLeft old new) (λ c shows. decided-left old new c shows) one)
+    (leaves_only-weaker a b (ShowsLeft old mid) (ShowsLeft old new) (λ c shows. left-first old mid new c found none shows)
+    one)
     (leaves_only-weaker b d (ShowsLeft mid new) (ShowsLeft old new) (λ c shows. left-on old mid new c found none shows)
     two)
-
-pub leaves-decided : (old new : Held) (a b : DiskState) → LeavesOnly a b (ShowsDecided old)
-    → LeavesOnly a b (ShowsLeft old new)
-leaves-decided old new a b leaves =
-    leaves_only-weaker a b (ShowsDecided old) (ShowsLeft old new) (λ c shows. decided-left old new c shows) leaves
 
 pub leaves-none : (held new : Held) (disk : DiskState) → IsKept held disk → LeavesOnly disk disk (ShowsLeft held new)
 leaves-none held new disk kept =
@@ -135,36 +125,3 @@ on_memory-weaker (Err (fault.Peer a)) P Q weaker held = tt
 pub on_ok-weaker : {T E : Type 0} (r : Result T E) (P Q : Type 0) → (P → Q) → OnOk r P → OnOk r Q
 on_ok-weaker (Ok x) P Q weaker held = weaker held
 on_ok-weaker (Err e) P Q weaker held = tt
-
--- what is told of the disk is the same
-pub same-journal : {D : Type 0} (tells : D → Bool) (told : D → DiskState) (count : D → ℕ) (a b : Opened D)
-    → b.journal ≡ a.journal
-    → IsSameDisk (place_state tells told count (place.Open a)) (place_state tells told count (place.Open b))
-same-journal tells told count a b same = record {
-  disk = ap (λ (j : JournalState _). told j.disk) same;
-  count = ap (λ (j : JournalState _). count j.disk) same;
-}
-
-pub unborn-still : {D : Type 0} (tells : D → Bool) (told : D → DiskState) (count : D → ℕ) (disk : D)
-    → IsPlace tells told count (place.Unborn disk) → tells disk ≡ true
-    → LeavesOnly (told disk) (told disk) (ShowsDecided (place_state tells told count (place.Unborn disk)).held)
-unborn-still tells told count disk holds t =
-    leaves_only-start (told disk) (ShowsDecided (place_state tells told count (place.Unborn disk)).held)
-    (λ c image. (unborn-kept (told disk) (holds t)).images c image)
-
--- what is stored on a disk of which nothing is known
-pub stores-any : (tells : Bool) (place : ℕ) (entries H : List Entry) (r : Result (Unit {0}) FollowFault) (new : Held)
-    → Stores true place entries H r new → Stores tells place entries H r new
-stores-any tells place entries H (Ok done) new stores = stores
-stores-any tells place entries H (Err (fault.Foreign p)) new stores = stores
-stores-any tells place entries H (Err (fault.StoreFault a b)) new stores = stores
-stores-any tells place entries H (Err (fault.Damaged o)) new stores = absurd (true≢false stores.0)
-stores-any tells place entries H (Err fault.Memory) new stores = stores
-stores-any tells place entries H (Err (fault.Gap a b)) new stores = stores
-stores-any tells place entries H (Err fault.NetFault) new stores = stores
-stores-any tells place entries H (Err (fault.Peer s)) new stores = stores
-
-pub stores-zero : (tells : Bool) (place : ℕ) (entries : List Entry) (r : Result (Unit {0}) FollowFault) (new : Held)
-    → place ≡ 0 → Stores tells 0 entries [] r new → Stores tells place entries [] r new
-stores-zero tells place entries r new zero stores =
-    subst (λ (n : ℕ). Stores tells n entries [] r new) (sym zero) stores

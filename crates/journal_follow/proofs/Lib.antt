@@ -1,13 +1,10 @@
-pub mod Admissions
-pub mod Advances
 pub mod Going
 pub mod Holding
-pub mod Mended
+pub mod Legals
 pub mod Openings
 pub mod Placing
-pub mod Records
+pub mod Rises
 pub mod Rounding
 pub mod Showing
-pub mod Syncs
 pub mod Takings
 pub mod Tries

@@ -1,18 +1,17 @@
--- What the bytes of a follower's disk show, from what a journal or a store is.
+-- What the bytes of a follower's disk show, from what a store is.
 use Rattle.std.proofs.Common.{◌≡◌, inl, inr, ⊎_elim, ℕ, List, [], ◌∷◌, ◌++◌, refl, sym, ◌∙◌, ap, subst}
 use Rattle.std.proofs.lemmas.List.{append-nil}
 use Rattle.farm_disk.specs.Images.{DiskState}
 use Rattle.farm_entry.specs.declared.entry.Entry.{Entry}
-use Rattle.farm_journal.specs.Created.{IsUnbornOrFirst}
-use Rattle.farm_journal.specs.Layout.{holds, opens, unborn}
+use Rattle.farm_journal.specs.Created.{IsUnborn}
+use Rattle.farm_journal.specs.Layout.{opens, unborn}
 use Rattle.farm_store.specs.Bytes.{StandsFor}
-use Rattle.farm_store.specs.State.{IsStored, IsWithOrWithout}
-use Rattle.farm_store.proofs.Spellings.{keeps-first}
-use Rattle.farm_store.proofs.Standing.{stands-kept}
+use Rattle.farm_store.specs.Founded.{IsUnbornOr}
+use Rattle.farm_store.specs.State.{IsStored, IsWithOrWithout, StoreState}
+use Rattle.farm_store.specs.State as store
 use Rattle.follow_law.specs.Taking.{Held, IsDecided, IsLeft}
-use Rattle.journal_follow.specs.Inside.{IsBegunDisk, IsFirst, IsUnbornDisk}
+use Rattle.journal_follow.specs.Inside.{IsBegunDisk, IsUnbornDisk}
 use Rattle.journal_follow.specs.Shown.{IsKept, Shows, ShowsDecided, ShowsLeft}
-use Rattle.journal_follow.proofs.Admissions.{legal-some}
 
 -- nothing is pending
 abbrev pub just : List Entry → Held
@@ -49,25 +48,17 @@ unborn-kept disk none = record {
   images = λ c image. unborn-shows c (none.images c image);
 }
 
--- nothing, or the first payload
-pub first-stands : (p : List ℕ) (H : List Entry) (bytes : List ℕ) → IsFirst p H → opens bytes ≡ holds (p ∷ [])
-    → StandsFor H bytes
-first-stands p H bytes first opened =
-    stands-kept (p ∷ []) H bytes (keeps-first H p first.spelled first.is (legal-some H first.legal) first.legal) opened
-
-pub begun-shows : (p : List ℕ) (H : List Entry) (bytes : List ℕ) → IsFirst p H → IsUnbornOrFirst p bytes
-    → ShowsDecided (with_pending [] H) bytes
-begun-shows p H bytes first one = ⊎_elim
-    (λ (none : opens bytes ≡ unborn). ([], inl refl, none))
-    (λ (opened : opens bytes ≡ holds (p ∷ [])).
-    (H, inr refl, stands-shows H bytes (first-stands p H bytes first opened)))
+-- nothing, or a store that was begun
+pub begun-shows : (H : List Entry) (bytes : List ℕ) → IsUnbornOr H bytes → ShowsDecided (with_pending [] H) bytes
+begun-shows H bytes one = ⊎_elim
+    (λ (none : IsUnborn bytes). ([], inl refl, none))
+    (λ (stands : StandsFor H bytes). (H, inr refl, stands-shows H bytes stands))
     one
 
-pub begun-kept : (p : List ℕ) (H : List Entry) (disk : DiskState) → IsFirst p H → IsBegunDisk p disk
-    → IsKept (with_pending [] H) disk
-begun-kept p H disk first begun = record {
-  reads = begun-shows p H disk.bytes first begun.reads;
-  images = λ c image. begun-shows p H c first (begun.images c image);
+pub begun-kept : (H : List Entry) (disk : DiskState) → IsBegunDisk H disk → IsKept (with_pending [] H) disk
+begun-kept H disk begun = record {
+  reads = begun-shows H disk.bytes begun.reads;
+  images = λ c image. begun-shows H c (begun.images c image);
 }
 
 -- what is held and decided, is left
@@ -95,3 +86,25 @@ left-on old mid new bytes first none shows =
     (λ (now : shows.0 ≡ new.history ++ new.pending). inr now)
     shows.1 in
     (shows.0, left, shows.2)
+
+-- what is left where it is decided in between
+pub left-first : (old mid new : Held) (bytes : List ℕ) → IsDecided old mid.history → mid.pending ≡ []
+    → ShowsLeft old mid bytes → ShowsLeft old new bytes
+left-first old mid new bytes first none shows =
+    let left : IsLeft old new shows.0 = ⊎_elim
+    (λ (before : IsDecided old shows.0). inl before)
+    (λ (now : shows.0 ≡ mid.history ++ mid.pending). inl (decided-twice old mid shows.0 first none (inr now)))
+    shows.1 in
+    (shows.0, left, shows.2)
+
+-- what a call on a store leaves, shows what is left
+pub store-left : {D : Type 0} (old new : StoreState D) (bytes : List ℕ) → store.IsLeft old new bytes
+    → ShowsLeft (with_pending old.history old.pending) (with_pending new.history new.pending) bytes
+store-left old new bytes left = ⊎_elim
+    (λ (before : IsWithOrWithout old.history old.pending bytes).
+    decided-left (with_pending old.history old.pending) (with_pending new.history new.pending) bytes
+    (stored-shows old.history old.pending bytes before))
+    (λ (now : StandsFor (new.history ++ new.pending) bytes).
+    now-left (with_pending old.history old.pending) (with_pending new.history new.pending) bytes
+    (stands-shows (new.history ++ new.pending) bytes now))
+    left

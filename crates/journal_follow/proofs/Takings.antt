@@ -12,14 +12,14 @@ use Rattle.farm_entry.specs.declared.limits.TheConstants.{MAX_ENTRIES}
 use Rattle.farm_laws.proofs.Bounds.{entries-bounded}
 use Rattle.follow_law.specs.Page.{GoesWith, IsForeignAt, MayBeHeld, entries_past}
 use Rattle.follow_law.specs.Taking.{Came, Held, IsDecided, Takes, foreign, gap, stored, undecided, unrepaired, unstored}
-use Rattle.journal_follow.specs.Admitted.{IsStuckAt}
+use Rattle.farm_store.specs.Admitted.{IsStuckAt}
 use Rattle.journal_follow.specs.Inside.{HasCountFrom, IsPast, IsRefused, Repairs, Stores}
 use Rattle.journal_follow.specs.Taken.{Answers, HasCause}
 use Rattle.journal_follow.specs.declared.fault.FollowFault.{FollowFault}
 use Rattle.journal_follow.specs.declared.fault.FollowFault.TheVariants as fault
-use Rattle.journal_follow.proofs.Admissions.{split-at}
+use Rattle.journal_follow.proofs.Legals.{may-by, may-pushed, split-at}
+use Rattle.journal_follow.proofs.Rises.{rose-later}
 use Rattle.journal_follow.proofs.Showing.{decided-twice, with_pending}
-use Rattle.journal_follow.proofs.Syncs.{rose-later}
 
 -- a history that may be held is bounded
 pub may-bounded : (H : List Entry) → MayBeHeld H → length H ≤ MAX_ENTRIES + 1
@@ -240,12 +240,12 @@ module _ (from : ℕ) (page past : List Entry) (old : Held) (one : 1 ≤ from) (
           split = sym (take-append-drop n page) ∙ ap (λ (l : List Entry). take n page ++ l) (sym is.is ∙ stuck.split)
               ∙ sym (append_assoc (take n page) stuck.before (stuck.entry ∷ stuck.behind));
           at = omega (arith, at, i_is, over-size, length-append (take n page) stuck.before, begins, one);
-          fits = goes-front stuck.before stuck.fits;
-          misfit = λ both. stuck.misfit (subst MayBeHeld
+          fits = goes-front stuck.before (may-by (old.history ++ stuck.before) stuck.fits);
+          misfit = λ both. stuck.misfit (may-pushed (old.history ++ stuck.before) stuck.entry (subst MayBeHeld
               (sym (append_assoc old.history stuck.before (stuck.entry ∷ [])))
               (legal-front (stuck.before ++ stuck.entry ∷ [])
               (subst (λ (l : List Entry). GoesWith old.history (from - 1) l)
-              (append_assoc (take n page) stuck.before (stuck.entry ∷ [])) both)));
+              (append_assoc (take n page) stuck.before (stuck.entry ∷ [])) both))));
         }
 
   decided-by : (new : Held) (pending : List Entry) → new ≡ with_pending old.history pending → IsDecided old new.history

@@ -1,25 +1,19 @@
--- How a follower keeps its history: nothing yet; the farm of a journal that was begun; or a farm and a journal.
+-- How a follower keeps its history: nothing yet; the entries of a store that was begun; or a store.
 use Rattle.std.specs.Prelude.{◌≡◌, ◌≢◌, ◌≤◌, ◌<◌, ◌+◌, ◌-◌, ◌++◌, length, take, drop, ℕ, Bool, true, false, List, []}
 use Rattle.std.specs.Prelude.{Option, Some, None, Result, Ok, Err, ⊤}
-use Rattle.entry_codec.specs.Grammar.{AreSpelled}
-use Rattle.entry_codec.specs.Spelling.{spelling}
-use Rattle.farm_disk.specs.Images.{DiskState, EachImage}
+use Rattle.farm_disk.specs.Images.{DiskState, EachImage, LeavesOnly}
 use Rattle.farm_entry.specs.Legal.{IsLegal}
 use Rattle.farm_entry.specs.declared.entry.Entry.{Entry}
-use Rattle.farm_journal.specs.Created.{IsUnborn, IsUnbornOrFirst}
-use Rattle.farm_core.specs.FarmView.{FarmView}
-use Rattle.farm_journal.specs.Layout.{IsPayload}
-use Rattle.farm_journal.specs.State.{IsHeld, JournalState}
-use Rattle.farm_journal.specs.declared.layout.TheConstants.{MAX_PAYLOAD}
-use Rattle.farm_journal.specs.declared.fault.OpeningFault.{OpeningFault}
-use Rattle.farm_journal.specs.declared.fault.OpeningFault.TheVariants as opening
-use Rattle.farm_store.specs.Recorded.{IsTorn, IsUnwritten, IsWritten}
-use Rattle.farm_store.specs.StoreInside.{IsStore, Keeps, undecided}
+use Rattle.farm_journal.specs.Created.{IsUnborn}
+use Rattle.farm_store.specs.Admitted.{IsStuckAt}
+use Rattle.farm_store.specs.Founded.{IsUnbornOr}
+use Rattle.farm_store.specs.State.{IsStored, StoreState}
 use Rattle.fault_types.specs.Counts.{Rose}
 use Rattle.follow_law.specs.Page.{IsForeignAt, MayBeHeld, entries_past}
 use Rattle.follow_law.specs.Taking.{Held, IsDecided}
-use Rattle.journal_follow.specs.Admitted.{IsStuckAt}
-use Rattle.journal_follow.specs.State.{FollowerState}
+use Rattle.journal_follow.specs.Shown.{ShowsLeft}
+use Rattle.journal_follow.specs.State.{FollowerState, IsSameDisk}
+use Rattle.journal_follow.specs.Taken.{IsSoundly, OnMemory}
 use Rattle.journal_follow.specs.declared.fault.FollowFault.{FollowFault}
 use Rattle.journal_follow.specs.declared.fault.FollowFault.TheVariants as fault
 use Rattle.journal_follow.specs.declared.place.Place.{Place}
@@ -30,17 +24,10 @@ pub record IsUnbornDisk (disk : DiskState) : Type 0 where
   pub reads : IsUnborn disk.bytes
   pub images : EachImage disk.steps IsUnborn
 
--- nothing, or the journal of this payload, in each image and in what a read gives
-pub record IsBegunDisk (payload : List ℕ) (disk : DiskState) : Type 0 where
-  pub reads : IsUnbornOrFirst payload disk.bytes
-  pub images : EachImage disk.steps (IsUnbornOrFirst payload)
-
--- a payload spells a legal history
-pub record IsFirst (payload : List ℕ) (H : List Entry) : Type 0 where
-  pub fits : IsPayload payload
-  pub spelled : AreSpelled H
-  pub is : payload ≡ spelling H
-  pub legal : IsLegal H
+-- nothing, or the journal of these entries, in each image and in what a read gives
+pub record IsBegunDisk (entries : List Entry) (disk : DiskState) : Type 0 where
+  pub reads : IsUnbornOr entries disk.bytes
+  pub images : EachImage disk.steps (IsUnbornOr entries)
 
 module _ {D : Type 0} (tells : D → Bool) (told : D → DiskState) (count : D → ℕ) where
   -- a follower over a disk
@@ -54,9 +41,8 @@ module _ {D : Type 0} (tells : D → Bool) (told : D → DiskState) (count : D �
 
   abbrev pub place_state : Place D → FollowerState
   place_state (place.Unborn disk) = on_disk disk [] []
-  place_state (place.Begun begun) = on_disk begun.disk [] begun.farm.history
-  place_state (place.Open opened) =
-      on_disk opened.journal.disk opened.farm.history (undecided opened.journal.pending opened.farm.ready)
+  place_state (place.Begun begun) = on_disk begun.disk [] begun.entries
+  place_state (place.Open store) = on_disk store.disk store.history store.pending
 
   -- while a call has the place in its hands, nothing is told
   abbrev pub follower_state : Option (Place D) → FollowerState
@@ -68,45 +54,21 @@ module _ {D : Type 0} (tells : D → Bool) (told : D → DiskState) (count : D �
     count = 0;
   }
 
+  -- what holds of a store at any time
+  pub record IsOpen (store : StoreState D) : Type 0 where
+    pub legal : IsLegal (store.history ++ store.pending)
+    pub stored : tells store.disk ≡ true → IsStored store.history store.pending (told store.disk)
+
   -- what holds of each place
   abbrev pub IsPlace : Place D → Type 0
   IsPlace (place.Unborn disk) = tells disk ≡ true → IsUnbornDisk (told disk)
   IsPlace (place.Begun begun) =
-      IsFirst begun.payload begun.farm.history × (tells begun.disk ≡ true → IsBegunDisk begun.payload (told begun.disk))
-  IsPlace (place.Open opened) = IsStore tells told opened.farm opened.journal
+      IsLegal begun.entries × (tells begun.disk ≡ true → IsBegunDisk begun.entries (told begun.disk))
+  IsPlace (place.Open store) = IsOpen store
 
   abbrev pub IsFollower : Option (Place D) → Type 0
   IsFollower (Some p) = IsPlace p
   IsFollower None = ⊥
-
--- The farm is ahead of its journal by the entries from a place on, which fit a record, and nothing is pending.
-pub record IsAheadBy {D : Type 0} (tells : D → Bool) (told : D → DiskState) (start : ℕ) (farm : FarmView)
-    (journal : JournalState D) : Type 0 where
-  pub keeps : Keeps journal.payloads (take start farm.history)
-  pub legal : IsLegal farm.history
-  pub within : start < length farm.history
-  pub fits : length (spelling (drop start farm.history)) ≤ MAX_PAYLOAD
-  pub idle : journal.pending ≡ None
-  pub rests : tells journal.disk ≡ true → IsHeld journal.payloads (told journal.disk)
-
--- what a farm and its journal hold
-abbrev pub held_of : {D : Type 0} → FarmView → JournalState D → Held
-held_of farm journal = record { history = farm.history; pending = undecided journal.pending farm.ready }
-
--- what writing entries as one record did, by its answer
-abbrev pub Writes : {D : Type 0} → (tells : D → Bool) → (told : D → DiskState) → List Entry → Result (Unit {0}) FollowFault
-    → (old new : JournalState D) → Type 0
-Writes tells told entries (Ok done) old new = IsWritten tells told entries old new
-Writes tells told entries (Err (fault.StoreFault before after)) old new = IsTorn tells told entries old new
-Writes tells told entries (Err fault.Memory) old new = IsUnwritten tells told old new
-Writes tells told entries answer old new = ⊥
-
--- the fault that is answered where a journal that was created isn't opened again, unless nothing was created
-abbrev pub unopened_fault : (before : ℕ) → OpeningFault → Option FollowFault
-unopened_fault before (opening.StoreFault first after) = Some (fault.StoreFault before after)
-unopened_fault before (opening.Damaged o) = Some (fault.Damaged o)
-unopened_fault before opening.Unborn = None
-unopened_fault before opening.Memory = Some fault.Memory
 
 -- a fault of a repair
 abbrev pub IsOfRepair : FollowFault → Type 0
@@ -145,13 +107,28 @@ IsRefused H from page (fault.Gap first have) = (first ≡ from) × (have ≡ len
 IsRefused H from page (fault.Foreign p) = (from ≤ length H + 1) × IsForeignAt H (from - 1) page p
 IsRefused H from page answer = ⊥
 
--- why entries can't be stored behind a history, of which the first has this place
-abbrev pub IsStuckBy : (place : ℕ) → (H entries : List Entry) → FollowFault → Type 0
-IsStuckBy place H entries (fault.Foreign p) = (i : ℕ) × (p ≡ place + i) × IsStuckAt H entries i
-IsStuckBy place H entries fault.Memory = ⊤
-IsStuckBy place H entries answer = ⊥
-
 -- a fault of the disk tells a count from earlier on and the one after the call, in which the count rose
 abbrev pub HasCountFrom : {T : Type 0} → (start : ℕ) → Result T FollowFault → (first last : ℕ) → Type 0
 HasCountFrom start (Err (fault.StoreFault before after)) first last = (before ≡ start) × (after ≡ last) × Rose first last
 HasCountFrom start answer first last = ⊤
+
+-- A repair, where a fault of the disk is counted from `before` on. Where nothing was pending, nothing was done.
+pub record Mends (before : ℕ) (result : Result (Unit {0}) FollowFault) (old new : FollowerState) : Type 0 where
+  pub same : new.tells ≡ old.tells
+  pub repairs : Repairs result old.held new.held
+  pub idle : old.held.pending ≡ [] → IsSameDisk old new
+  pub any_moment : old.tells ≡ true → LeavesOnly old.disk new.disk (ShowsLeft old.held new.held)
+  pub soundly : old.tells ≡ true → IsSoundly result
+  pub memory : OnMemory result (old.held.history ≡ [])
+  pub cause : HasCountFrom before result old.count new.count
+  pub never_falls : old.count ≤ new.count
+
+-- Storing entries while nothing was pending, of which the first has this place, where a fault of the disk is counted
+-- from `before` on.
+pub record Puts (before place : ℕ) (entries : List Entry) (result : Result (Unit {0}) FollowFault)
+    (old new : FollowerState) : Type 0 where
+  pub same : new.tells ≡ old.tells
+  pub stores : Stores old.tells place entries old.held.history result new.held
+  pub any_moment : old.tells ≡ true → LeavesOnly old.disk new.disk (ShowsLeft old.held new.held)
+  pub cause : HasCountFrom before result old.count new.count
+  pub never_falls : old.count ≤ new.count

@@ -1,4 +1,3 @@
-pub mod Admitted
 pub mod Asked
 pub mod Asks
 pub mod Following
@@ -6,7 +5,6 @@ pub mod Inside
 pub mod Opened
 pub mod Pages
 pub mod Rounds
-pub mod Settled
 pub mod Shown
 pub mod State
 pub mod Taken

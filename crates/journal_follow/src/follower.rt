@@ -19,22 +19,21 @@ ghost use Rattle.std.specs.Prelude.{
 ghost use Rattle.entry_codec.specs.Spelling.{spelling};
 ghost use Rattle.farm_disk.specs.Images.{LeavesOnly};
 ghost use Rattle.farm_journal.specs.declared.layout.TheConstants.{MAX_PAYLOAD};
+ghost use Rattle.farm_store.specs.declared.asking.TheConstants.{MAX_RECORD_BYTES};
 ghost use Rattle.follow_law.specs.Page.{MayBeHeld};
 ghost use Rattle.follow_law.specs.Taking.{Came, Takes};
 ghost use Rattle.journal_follow.specs.Opened.{Opens};
-ghost use Rattle.journal_follow.specs.Shown.{IsKept, ShowsDecided, ShowsLeft};
-ghost use Rattle.journal_follow.specs.Inside.{HasCountFrom, IsPast, IsRefused, Repairs, Stores};
+ghost use Rattle.journal_follow.specs.Shown.{IsKept, ShowsLeft};
+ghost use Rattle.journal_follow.specs.Inside.{HasCountFrom, IsPast, IsRefused, Mends, Puts};
 ghost use Rattle.journal_follow.specs.State.{IsSameDisk};
 ghost use Rattle.journal_follow.specs.Taken.{Answers, HasCause, IsSoundly, OnMemory};
 
 use crate::FollowFault;
 use crate::comparing::first_difference;
-use crate::place::{Opened, Place, begin, reopen};
-use crate::settling::open_settled;
+use crate::place::Place;
 use farm_disk::Disk;
 use farm_entry::Entry;
-use farm_journal::OpeningFault;
-use farm_store::farm_of;
+use farm_store::{OpeningFault, Store};
 use std::alloc::Global;
 use std::marker::Model;
 use std::mem;
@@ -71,13 +70,10 @@ impl<D: Disk> Follower<D> {
         ensures opens { Opens D.tells D.told D.count disk result }
         ensures legal { IfOk result (λ follower. MayBeHeld follower.held.history) }
     {
-        match open_settled(alloc, disk) {
-            Ok((journal, payloads)) => match farm_of(alloc, payloads.as_slice()) {
-                Ok(farm) => Ok(Follower {
-                    place: Some(Place::Open(Opened { journal, farm })),
-                }),
-                Err(fault) => Err((journal.into_disk(), fault)),
-            },
+        match Store::open_on(alloc, disk) {
+            Ok(store) => Ok(Follower {
+                place: Some(Place::Open(store)),
+            }),
             Err((disk, fault)) => match fault {
                 OpeningFault::Unborn => Ok(Follower {
                     place: Some(Place::Unborn(disk)),
@@ -194,33 +190,14 @@ impl<D: Disk> Follower<D> {
 
     /// Finds out whether what is pending was kept. Where nothing is pending, nothing is done.
     fn repair(&mut self, alloc: Global, before: u64) -> Result<(), FollowFault>
-        ensures same { self.new.tells ≡ self.old.tells }
-        ensures repairs { Repairs result self.old.held self.new.held }
-        ensures idle { self.old.held.pending ≡ [] → IsSameDisk self.old self.new }
-        ensures any_moment { self.old.tells ≡ true
-            → LeavesOnly self.old.disk self.new.disk (ShowsDecided self.old.held) }
-        ensures soundly { self.old.tells ≡ true → IsSoundly result }
-        ensures memory { OnMemory result (self.old.held.history ≡ []) }
-        ensures cause { HasCountFrom before result self.old.count self.new.count }
-        ensures never_falls { self.old.count ≤ self.new.count }
+        ensures { Mends before result self.old self.new }
     {
-        match self.place.take() {
-            Some(Place::Begun(begun)) => {
-                let (place, repaired) = reopen(alloc, begun, before);
-                put_back(&mut self.place, place);
-                repaired
-            }
-            Some(Place::Open(mut opened)) => {
-                let repaired = opened.repair(before);
-                put_back(&mut self.place, Place::Open(opened));
-                repaired
-            }
-            Some(Place::Unborn(disk)) => {
-                put_back(&mut self.place, Place::Unborn(disk));
-                Ok(())
-            }
-            None => unreachable!(),
-        }
+        let Some(place) = self.place.take() else {
+            unreachable!();
+        };
+        let (place, repaired) = place.repaired(alloc, before);
+        put_back(&mut self.place, place);
+        repaired
     }
 
     /// Stores entries behind those held, while nothing is pending. The first of them has this place.
@@ -233,29 +210,16 @@ impl<D: Disk> Follower<D> {
     ) -> Result<(), FollowFault>
         requires decided { self.old.held.pending ≡ [] }
         requires some { entries.now ≢ [] }
-        requires fits { length (spelling entries.now) ≤ MAX_PAYLOAD }
+        requires fits { length (spelling entries.now) ≤ MAX_RECORD_BYTES }
         requires place { place ≡ length self.old.held.history }
-        ensures same { self.new.tells ≡ self.old.tells }
-        ensures stores { Stores self.old.tells place entries.now self.old.held.history result self.new.held }
-        ensures any_moment { self.old.tells ≡ true
-            → LeavesOnly self.old.disk self.new.disk (ShowsLeft self.old.held self.new.held) }
-        ensures cause { HasCountFrom before result self.old.count self.new.count }
-        ensures never_falls { self.old.count ≤ self.new.count }
+        ensures { Puts before place entries.now result self.old self.new }
     {
-        match self.place.take() {
-            Some(Place::Unborn(disk)) => {
-                let (place, stored) = begin(alloc, disk, entries, before);
-                put_back(&mut self.place, place);
-                stored
-            }
-            Some(Place::Open(mut opened)) => {
-                let stored = opened.go_on(alloc, place, entries, before);
-                put_back(&mut self.place, Place::Open(opened));
-                stored
-            }
-            Some(Place::Begun(_)) => unreachable!(),
-            None => unreachable!(),
-        }
+        let Some(held) = self.place.take() else {
+            unreachable!();
+        };
+        let (held, stored) = held.stored(alloc, place, entries, before);
+        put_back(&mut self.place, held);
+        stored
     }
 
     /// The history, without what is pending.
@@ -264,7 +228,7 @@ impl<D: Disk> Follower<D> {
         ensures legal { MayBeHeld self.now.held.history }
     {
         match &self.place {
-            Some(Place::Open(opened)) => opened.farm.history(),
+            Some(Place::Open(store)) => store.history(),
             _ => &[],
         }
     }
@@ -276,7 +240,7 @@ impl<D: Disk> Follower<D> {
         match &self.place {
             Some(Place::Unborn(disk)) => disk.faults(),
             Some(Place::Begun(begun)) => begun.disk.faults(),
-            Some(Place::Open(opened)) => opened.journal.faults(),
+            Some(Place::Open(store)) => store.faults(),
             None => unreachable!(),
         }
     }
@@ -299,7 +263,7 @@ impl<D: Disk> Follower<D> {
         match self.place {
             Some(Place::Unborn(disk)) => disk,
             Some(Place::Begun(begun)) => begun.disk,
-            Some(Place::Open(opened)) => opened.journal.into_disk(),
+            Some(Place::Open(store)) => store.into_disk(),
             None => unreachable!(),
         }
     }

@@ -4,13 +4,12 @@
 //! page in one record, so that a crash leaves the history from before or the one from now. [`follow`] asks a leader for
 //! its pages over any network, from the first entry on, until all that the leader has is held.
 //!
-//! The crate stands on `follow_law` for what a follower does with a page, on `farm_core` for which entries may come
-//! next, on `farm_journal`, `farm_disk` and `farm_store` for records and what bytes stand for, on `entry_codec` for
-//! entries as bytes, and on `http_exchange` for asks and answers. The layers above may use every name below; clauses
-//! above cite `specs/` (`State`, `Shown`, `Opened`, `Taken`, `Asks`, `Following`).
+//! The crate stands on `follow_law` for what a follower does with a page, on `farm_store` for the history on a disk,
+//! which admits and records the leader's entries and finds out what a fault left, on `farm_disk` for what a crash may
+//! leave, on `entry_codec` for entries as bytes, and on `http_exchange` for asks and answers. The layers above may use
+//! every name below; clauses above cite `specs/` (`State`, `Shown`, `Opened`, `Taken`, `Asks`, `Following`).
 #![tactic(auto)]
 
-mod admitting;
 mod answer;
 mod asking;
 mod comparing;
@@ -18,11 +17,9 @@ mod fault;
 mod follower;
 mod following;
 mod place;
-mod recording;
 mod request;
-mod settling;
 
-pub use farm_journal::OpeningFault;
+pub use farm_store::OpeningFault;
 pub use fault::FollowFault;
 pub use follower::Follower;
 pub use following::{Followed, follow};

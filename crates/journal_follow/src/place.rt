@@ -1,37 +1,19 @@
 //! Where a follower keeps its history.
 
-ghost use Rattle.std.specs.Prelude.{◌≡◌, ◌≢◌, ◌≤◌, ◌↔◌, ◌∷◌, [], true, length, IfOk, IfErr, IsTrue};
+ghost use Rattle.std.specs.Prelude.{◌≡◌, ◌≢◌, ◌≤◌, ◌↔◌, [], true, length, IsTrue};
 ghost use Rattle.entry_codec.specs.Spelling.{spelling};
-ghost use Rattle.farm_disk.specs.Images.{LeavesOnly};
-ghost use Rattle.farm_journal.specs.declared.layout.TheConstants.{MAX_PAYLOAD};
 ghost use Rattle.farm_disk.specs.Answers.{rested};
 ghost use Rattle.farm_disk.specs.Model.{IsSound};
-ghost use Rattle.journal_follow.specs.Inside.{
-  HasCountFrom,
-  IsFirst,
-  IsPlace,
-  IsStuckBy,
-  IsUnbornDisk,
-  Repairs,
-  Stores,
-  on_disk,
-  place_state,
-  unopened_fault,
-};
-ghost use Rattle.journal_follow.specs.Shown.{ShowsDecided, ShowsLeft};
-ghost use Rattle.journal_follow.specs.Taken.{IsSoundly, OnMemory};
+ghost use Rattle.farm_store.specs.declared.asking.TheConstants.{MAX_RECORD_BYTES};
+ghost use Rattle.journal_follow.specs.Inside.{IsPlace, IsUnbornDisk, Mends, Puts, on_disk, place_state};
 
 use crate::FollowFault;
-use crate::admitting::{Stuck, admit_all, found};
-use crate::recording::record_from;
-use crate::settling::open_settled;
-use entry_codec::write_entries;
+use crate::answer::Page;
 use farm_core::Farm;
 use farm_disk::Disk;
 use farm_entry::Entry;
-use farm_journal::{
-    CreateFault, FIRST_GATE, Journal, JournalFault, OpeningFault, Payload, Payloads, Repaired,
-};
+use farm_journal::FIRST_GATE;
+use farm_store::{CreateFault, JournalFault, OpeningFault, Store, copies, farm_by};
 use std::alloc::Global;
 
 /// Where a follower keeps its history.
@@ -39,236 +21,185 @@ use std::alloc::Global;
 pub(crate) enum Place<D: Disk> {
     /// Nothing was created on the disk yet.
     Unborn(D),
-    /// The disk failed as the journal was created.
+    /// The disk failed as the store was created.
     Begun(Begun<D>),
-    /// The journal is there.
-    Open(Opened<D>),
+    /// The store is there.
+    Open(Store<D>),
 }
 
-/// A disk that failed as a journal of one payload was created, and the farm whose history the payload spells.
+/// A disk that failed as a store was created, and the entries that were to be stored.
 #[derive(Drop)]
 pub(crate) struct Begun<D: Disk> {
     pub disk: D,
-    pub farm: Farm,
-    pub payload: Payload,
-}
-
-/// A journal, and the farm whose history its payloads spell.
-#[derive(Drop)]
-pub(crate) struct Opened<D: Disk> {
-    pub journal: Journal<D>,
-    pub farm: Farm,
+    pub entries: Page,
 }
 
 /// A place, and what came of the call that left it.
 pub(crate) type Left<D> = (Place<D>, Result<(), FollowFault>);
 
-impl<D: Disk> Opened<D> {
-    /// Finds out whether the pending payload was kept.
-    pub(crate) fn repair(&mut self, before: u64) -> Result<(), FollowFault>
-        requires { IsPlace D.tells D.told D.count (Place.Open self.old) }
-        ensures place { IsPlace D.tells D.told D.count (Place.Open self.new) }
-        ensures same { D.tells self.new.journal.disk ≡ D.tells self.old.journal.disk }
-        ensures repairs { Repairs result (place_state D.tells D.told D.count (Place.Open self.old)).held
-            (place_state D.tells D.told D.count (Place.Open self.new)).held }
-        ensures idle { (place_state D.tells D.told D.count (Place.Open self.old)).held.pending ≡ []
-            → self.new.journal ≡ self.old.journal }
-        ensures any_moment { D.tells self.old.journal.disk ≡ true
-            → LeavesOnly (D.told self.old.journal.disk) (D.told self.new.journal.disk)
-            (ShowsDecided (place_state D.tells D.told D.count (Place.Open self.old)).held) }
-        ensures soundly { IsSoundly result }
-        ensures memory { OnMemory result ⊥ }
-        ensures cause { HasCountFrom before result (D.count self.old.journal.disk) (D.count self.new.journal.disk) }
-        ensures never_falls { D.count self.old.journal.disk ≤ D.count self.new.journal.disk }
+impl<D: Disk> Place<D> {
+    /// Finds out whether what is pending was kept. Where nothing is pending, nothing is done.
+    pub(crate) fn repaired(self, alloc: Global, before: u64) -> Left<D>
+        requires { IsPlace D.tells D.told D.count self }
+        ensures place { IsPlace D.tells D.told D.count result.0 }
+        ensures mends { Mends before result.1 (place_state D.tells D.told D.count self)
+            (place_state D.tells D.told D.count result.0) }
     {
-        if !self.journal.pending() {
-            return Ok(());
-        }
-        match self.journal.repair() {
-            Ok(Repaired::Kept) => {
-                self.farm.commit_all();
-                Ok(())
-            }
-            Ok(Repaired::Dropped) => Ok(()),
-            Err(JournalFault::StoreFault { after, .. }) => Err(FollowFault::StoreFault {
-                before,
-                after,
-            }),
-            Err(JournalFault::Memory) => unreachable!(),
+        match self {
+            Place::Unborn(disk) => (Place::Unborn(disk), Ok(())),
+            Place::Begun(begun) => reopen(alloc, begun, before),
+            Place::Open(store) => mend(store, before),
         }
     }
 
-    /// Stores entries behind the history, those at places from this one on.
-    pub(crate) fn go_on(
-        &mut self,
-        alloc: Global,
-        place: u32,
-        entries: &[Entry],
-        before: u64,
-    ) -> Result<(), FollowFault>
-        requires open { IsPlace D.tells D.told D.count (Place.Open self.old) }
-        requires decided { (place_state D.tells D.told D.count (Place.Open self.old)).held.pending ≡ [] }
+    /// Stores entries behind those held, while nothing is pending. The first of them has this place.
+    pub(crate) fn stored(self, alloc: Global, place: u32, entries: &[Entry], before: u64) -> Left<D>
+        requires holds { IsPlace D.tells D.told D.count self }
+        requires decided { (place_state D.tells D.told D.count self).held.pending ≡ [] }
         requires some { entries.now ≢ [] }
-        requires fits { length (spelling entries.now) ≤ MAX_PAYLOAD }
-        requires place { place ≡ length self.old.farm.history }
-        ensures place { IsPlace D.tells D.told D.count (Place.Open self.new) }
-        ensures same { D.tells self.new.journal.disk ≡ D.tells self.old.journal.disk }
-        ensures stores { Stores true place entries.now self.old.farm.history result
-            (place_state D.tells D.told D.count (Place.Open self.new)).held }
-        ensures any_moment { D.tells self.old.journal.disk ≡ true
-            → LeavesOnly (D.told self.old.journal.disk) (D.told self.new.journal.disk)
-            (ShowsLeft (place_state D.tells D.told D.count (Place.Open self.old)).held
-            (place_state D.tells D.told D.count (Place.Open self.new)).held) }
-        ensures cause { HasCountFrom before result (D.count self.old.journal.disk) (D.count self.new.journal.disk) }
-        ensures never_falls { D.count self.old.journal.disk ≤ D.count self.new.journal.disk }
+        requires fits { length (spelling entries.now) ≤ MAX_RECORD_BYTES }
+        requires place { place ≡ length (place_state D.tells D.told D.count self).held.history }
+        ensures place { IsPlace D.tells D.told D.count result.0 }
+        ensures puts { Puts before place entries.now result.1 (place_state D.tells D.told D.count self)
+            (place_state D.tells D.told D.count result.0) }
     {
-        let start = self.farm.history().len();
-        match admit_all(&mut self.farm, entries) {
-            Ok(()) => record_from(alloc, &mut self.farm, &mut self.journal, start, before),
-            Err(Stuck::At(i)) => Err(FollowFault::Foreign(place + i as u32)),
-            Err(Stuck::Memory) => Err(FollowFault::Memory),
+        match self {
+            Place::Unborn(disk) => begin(alloc, disk, entries, before),
+            Place::Begun(_) => unreachable!(),
+            Place::Open(store) => go_on(alloc, store, place, entries, before),
         }
     }
 }
 
-/// Opens the disk again on which the journal was created, in place of a repair.
-pub(crate) fn reopen<D: Disk>(alloc: Global, begun: Begun<D>, before: u64) -> Left<D>
+/// Finds out whether what is pending in a store was kept.
+fn mend<D: Disk>(store: Store<D>, before: u64) -> Left<D>
+    requires { IsPlace D.tells D.told D.count (Place.Open store) }
+    ensures place { IsPlace D.tells D.told D.count result.0 }
+    ensures mends { Mends before result.1 (place_state D.tells D.told D.count (Place.Open store))
+        (place_state D.tells D.told D.count result.0) }
+{
+    let mut store = store;
+    match store.repair() {
+        Ok(()) => (Place::Open(store), Ok(())),
+        Err(JournalFault::StoreFault { after, .. }) => (
+            Place::Open(store),
+            Err(FollowFault::StoreFault { before, after }),
+        ),
+        Err(JournalFault::Memory) => unreachable!(),
+    }
+}
+
+/// Opens the disk again on which the store was created, in place of a repair.
+fn reopen<D: Disk>(alloc: Global, begun: Begun<D>, before: u64) -> Left<D>
     requires { IsPlace D.tells D.told D.count (Place.Begun begun) }
     ensures place { IsPlace D.tells D.told D.count result.0 }
-    ensures same { (place_state D.tells D.told D.count result.0).tells ≡ D.tells begun.disk }
-    ensures repairs { Repairs result.1 (place_state D.tells D.told D.count (Place.Begun begun)).held
-        (place_state D.tells D.told D.count result.0).held }
-    ensures any_moment { D.tells begun.disk ≡ true
-        → LeavesOnly (D.told begun.disk) (place_state D.tells D.told D.count result.0).disk
-        (ShowsDecided (place_state D.tells D.told D.count (Place.Begun begun)).held) }
-    ensures soundly { D.tells begun.disk ≡ true → IsSoundly result.1 }
-    ensures cause { HasCountFrom before result.1 (D.count begun.disk)
-        (place_state D.tells D.told D.count result.0).count }
-    ensures never_falls { D.count begun.disk ≤ (place_state D.tells D.told D.count result.0).count }
+    ensures mends { Mends before result.1 (place_state D.tells D.told D.count (Place.Begun begun))
+        (place_state D.tells D.told D.count result.0) }
 {
-    let Begun {
-        disk,
-        farm,
-        payload,
-    } = begun;
-    match open_settled(alloc, disk) {
-        Ok((journal, payloads)) => {
-            if is_just(&payloads, payload.bytes()) {
-                return (Place::Open(Opened { journal, farm }), Ok(()));
+    let Begun { disk, entries } = begun;
+    match Store::open_on(alloc, disk) {
+        Ok(store) => {
+            if is_history(&entries, store.history()) {
+                return (Place::Open(store), Ok(()));
             }
-            let disk = journal.into_disk();
-            let begun = Begun {
-                disk,
-                farm,
-                payload,
-            };
-            (Place::Begun(begun), Err(FollowFault::Damaged(FIRST_GATE)))
+            let disk = store.into_disk();
+            (
+                Place::Begun(Begun { disk, entries }),
+                Err(FollowFault::Damaged(FIRST_GATE)),
+            )
         }
-        Err((disk, fault)) => match unopened(fault, before) {
-            None => (Place::Unborn(disk), Ok(())),
-            Some(fault) => {
-                let begun = Begun {
-                    disk,
-                    farm,
-                    payload,
-                };
-                (Place::Begun(begun), Err(fault))
-            }
+        Err((disk, fault)) => match fault {
+            OpeningFault::Unborn => (Place::Unborn(disk), Ok(())),
+            OpeningFault::StoreFault { after, .. } => (
+                Place::Begun(Begun { disk, entries }),
+                Err(FollowFault::StoreFault { before, after }),
+            ),
+            OpeningFault::Damaged(at) => (
+                Place::Begun(Begun { disk, entries }),
+                Err(FollowFault::Damaged(at)),
+            ),
+            OpeningFault::Memory => (
+                Place::Begun(Begun { disk, entries }),
+                Err(FollowFault::Memory),
+            ),
         },
     }
 }
 
-/// Whether this payload is the only one.
-fn is_just(payloads: &Payloads, payload: &[u8]) -> bool
-    ensures { IsTrue result ↔ (payloads.now ≡ payload.now ∷ []) }
+/// Whether these entries are all of a history.
+fn is_history(entries: &Page, history: &[Entry]) -> bool
+    ensures { IsTrue result ↔ (history.now ≡ entries.now) }
 {
-    if payloads.len() != 1 {
-        return false;
-    }
-    payloads.at(0).bytes() == payload
+    history == entries.as_slice()
 }
 
-/// Why a journal that was created isn't opened again, unless nothing was created.
-fn unopened(fault: OpeningFault, before: u64) -> Option<FollowFault>
-    ensures { result ≡ unopened_fault before fault }
+/// Stores entries behind the history of a store, those at places from this one on.
+fn go_on<D: Disk>(
+    alloc: Global,
+    store: Store<D>,
+    place: u32,
+    entries: &[Entry],
+    before: u64,
+) -> Left<D>
+    requires holds { IsPlace D.tells D.told D.count (Place.Open store) }
+    requires decided { store.pending ≡ [] }
+    requires fits { length (spelling entries.now) ≤ MAX_RECORD_BYTES }
+    requires place { place ≡ length store.history }
+    ensures place { IsPlace D.tells D.told D.count result.0 }
+    ensures puts { Puts before place entries.now result.1 (place_state D.tells D.told D.count (Place.Open store))
+        (place_state D.tells D.told D.count result.0) }
 {
-    match fault {
-        OpeningFault::Unborn => None,
-        OpeningFault::StoreFault { after, .. } => Some(FollowFault::StoreFault { before, after }),
-        OpeningFault::Damaged(at) => Some(FollowFault::Damaged(at)),
-        OpeningFault::Memory => Some(FollowFault::Memory),
+    let mut store = store;
+    match store.admit_all(alloc, entries) {
+        Ok(Ok(())) => (Place::Open(store), Ok(())),
+        Ok(Err(index)) => (
+            Place::Open(store),
+            Err(FollowFault::Foreign(place + index as u32)),
+        ),
+        Err(JournalFault::StoreFault { after, .. }) => (
+            Place::Open(store),
+            Err(FollowFault::StoreFault { before, after }),
+        ),
+        Err(JournalFault::Memory) => (Place::Open(store), Err(FollowFault::Memory)),
     }
 }
 
-/// Creates the journal of these entries, the first of a history.
-pub(crate) fn begin<D: Disk>(alloc: Global, disk: D, entries: &[Entry], before: u64) -> Left<D>
+/// Creates the store of these entries, the first of a history.
+fn begin<D: Disk>(alloc: Global, disk: D, entries: &[Entry], before: u64) -> Left<D>
     requires unborn { D.tells disk ≡ true → IsUnbornDisk (D.told disk) }
     requires some { entries.now ≢ [] }
-    requires fits { length (spelling entries.now) ≤ MAX_PAYLOAD }
+    requires fits { length (spelling entries.now) ≤ MAX_RECORD_BYTES }
     ensures place { IsPlace D.tells D.told D.count result.0 }
-    ensures same { (place_state D.tells D.told D.count result.0).tells ≡ D.tells disk }
-    ensures stores { Stores (D.tells disk) 0 entries.now [] result.1
-        (place_state D.tells D.told D.count result.0).held }
-    ensures any_moment { D.tells disk ≡ true
-        → LeavesOnly (D.told disk) (place_state D.tells D.told D.count result.0).disk
-        (ShowsLeft (record { history = []; pending = [] }) (place_state D.tells D.told D.count result.0).held) }
-    ensures cause { HasCountFrom before result.1 (D.count disk) (place_state D.tells D.told D.count result.0).count }
-    ensures never_falls { D.count disk ≤ (place_state D.tells D.told D.count result.0).count }
+    ensures puts { Puts before 0 entries.now result.1 (on_disk D.tells D.told D.count disk [] [])
+        (place_state D.tells D.told D.count result.0) }
 {
-    match first_record(alloc, entries) {
-        Ok((farm, payload)) => create(alloc, disk, farm, payload, before),
-        Err(fault) => (Place::Unborn(disk), Err(fault)),
-    }
-}
-
-/// The farm of these entries, and the payload that spells them.
-fn first_record(alloc: Global, entries: &[Entry]) -> Result<(Farm, Vec<u8>), FollowFault>
-    requires some { entries.now ≢ [] }
-    requires fits { length (spelling entries.now) ≤ MAX_PAYLOAD }
-    ensures farm { IfOk result (λ made. made.0.history ≡ entries.now) }
-    ensures first { IfOk result (λ made. IsFirst made.1.items entries.now) }
-    ensures stuck { IfErr result (IsStuckBy 0 [] entries.now) }
-{
-    match found(alloc, entries) {
-        Ok(farm) => match write_entries(alloc, farm.history()) {
-            Ok(payload) => Ok((farm, payload)),
-            Err(_) => Err(FollowFault::Memory),
-        },
-        Err(Stuck::At(i)) => Err(FollowFault::Foreign(i as u32)),
-        Err(Stuck::Memory) => Err(FollowFault::Memory),
-    }
-}
-
-/// Creates the journal of a farm, of the payload that spells its history.
-fn create<D: Disk>(alloc: Global, disk: D, farm: Farm, payload: Vec<u8>, before: u64) -> Left<D>
-    requires unborn { D.tells disk ≡ true → IsUnbornDisk (D.told disk) }
-    requires first { IsFirst payload.items farm.history }
-    ensures place { IsPlace D.tells D.told D.count result.0 }
-    ensures same { (place_state D.tells D.told D.count result.0).tells ≡ D.tells disk }
-    ensures stores { Stores (D.tells disk) 0 farm.history [] result.1
-        (place_state D.tells D.told D.count result.0).held }
-    ensures any_moment { D.tells disk ≡ true
-        → LeavesOnly (D.told disk) (place_state D.tells D.told D.count result.0).disk
-        (ShowsLeft (record { history = []; pending = [] }) (place_state D.tells D.told D.count result.0).held) }
-    ensures cause { HasCountFrom before result.1 (D.count disk) (place_state D.tells D.told D.count result.0).count }
-    ensures never_falls { D.count disk ≤ (place_state D.tells D.told D.count result.0).count }
-{
-    let Ok(copy) = Payload::copy_of(alloc, &payload) else {
+    let Ok(made) = copies(alloc, entries) else {
         return (Place::Unborn(disk), Err(FollowFault::Memory));
     };
-    match Journal::create(alloc, disk, payload) {
-        Ok(journal) => (Place::Open(Opened { journal, farm }), Ok(())),
+    match farm_by(alloc, entries) {
+        Ok(Ok(farm)) => create(alloc, disk, farm, Page::of(made), before),
+        Ok(Err(index)) => (Place::Unborn(disk), Err(FollowFault::Foreign(index as u32))),
+        Err(_) => (Place::Unborn(disk), Err(FollowFault::Memory)),
+    }
+}
+
+/// Creates the store of a farm of these entries.
+fn create<D: Disk>(alloc: Global, disk: D, farm: Farm, entries: Page, before: u64) -> Left<D>
+    requires unborn { D.tells disk ≡ true → IsUnbornDisk (D.told disk) }
+    requires history { farm.history ≡ entries }
+    requires fits { length (spelling entries) ≤ MAX_RECORD_BYTES }
+    ensures place { IsPlace D.tells D.told D.count result.0 }
+    ensures puts { Puts before 0 entries result.1 (on_disk D.tells D.told D.count disk [] [])
+        (place_state D.tells D.told D.count result.0) }
+{
+    match Store::create(alloc, disk, farm) {
+        Ok(store) => (Place::Open(store), Ok(())),
         Err((disk, fault)) => match fault {
             CreateFault::AlreadyBorn => (Place::Unborn(disk), Err(FollowFault::Damaged(0))),
             CreateFault::StoreFault { .. } => {
                 let (disk, after) = looked_at(disk);
-                let begun = Begun {
-                    disk,
-                    farm,
-                    payload: copy,
-                };
                 (
-                    Place::Begun(begun),
+                    Place::Begun(Begun { disk, entries }),
                     Err(FollowFault::StoreFault { before, after }),
                 )
             }

@@ -32,17 +32,16 @@ fn play_file_call(
     }
 }
 
-/// Makes calls of a disk over a real file. Answers the disk.
+/// Makes calls of a disk over a real file.
 pub(crate) fn play_file_calls(
     rt: HostRuntime,
-    disk: FileDisk<SystemFile<HostRuntime>>,
+    disk: &mut FileDisk<SystemFile<HostRuntime>>,
     calls: &str,
-) -> io::Result<FileDisk<SystemFile<HostRuntime>>> {
-    let mut disk = disk;
+) -> io::Result<()> {
     for call in calls.split(' ') {
-        play_file_call(rt, &mut disk, call)?;
+        play_file_call(rt, disk, call)?;
     }
-    Ok(disk)
+    Ok(())
 }
 
 fn play_call(rt: &impl Print, alloc: Global, disk: &mut MemDisk, call: &str) -> io::Result<()> {
@@ -63,16 +62,15 @@ fn play_call(rt: &impl Print, alloc: Global, disk: &mut MemDisk, call: &str) -> 
     }
 }
 
-/// Makes calls of a disk in memory. Answers the disk.
+/// Makes calls of a disk in memory.
 pub(crate) fn play_calls(
     rt: &impl Print,
     alloc: Global,
-    disk: MemDisk,
+    disk: &mut MemDisk,
     calls: &str,
-) -> io::Result<MemDisk> {
-    let mut disk = disk;
+) -> io::Result<()> {
     for call in calls.split(' ') {
-        play_call(rt, alloc, &mut disk, call)?;
+        play_call(rt, alloc, disk, call)?;
     }
-    Ok(disk)
+    Ok(())
 }

@@ -1,53 +1,56 @@
 //! Journals that are created, opened, appended to and repaired, over any disk.
 use crate::words::bytes_of;
 use farm_disk::Disk;
-use farm_journal::{GATE_LIMIT, Journal, MAX_PAYLOAD};
+use farm_journal::{GATE_LIMIT, Journal, MAX_PAYLOAD, Payloads};
 use std::alloc::Global;
 use std::io;
 
-/// Creates a journal of a payload with these digits, and prints whether it was created. Answers the disk.
+/// Creates a journal of a payload with these digits, and prints whether it was created. Answers the disk, and whether
+/// that was printed.
 pub(crate) fn create<D: Disk + Drop>(
     rt: &impl Print,
     alloc: Global,
     disk: D,
     payload: &str,
-) -> io::Result<D> {
+) -> (D, io::Result<()>) {
     let payload = bytes_of(alloc, payload);
     if payload.is_empty() || payload.len() > MAX_PAYLOAD {
-        return Ok(disk);
+        return (disk, Ok(()));
     }
     match Journal::create(alloc, disk, payload) {
-        Ok(journal) => {
-            print!(rt; "created; ")?;
-            Ok(journal.into_disk())
-        }
-        Err((disk, fault)) => {
-            print!(rt; "{fault:?}; ")?;
-            Ok(disk)
-        }
+        Ok(journal) => (journal.into_disk(), print!(rt; "created; ")),
+        Err((disk, fault)) => (disk, print!(rt; "{fault:?}; ")),
     }
 }
 
-/// Opens a journal, prints what it holds, and plays the words of a case over it. Answers the disk.
+/// Opens a journal, prints what it holds, and plays the words of a case over it. Answers the disk, and whether all was
+/// printed.
 pub(crate) fn open<D: Disk + Drop>(
     rt: &impl Print,
     alloc: Global,
     disk: D,
     words: &str,
-) -> io::Result<D> {
+) -> (D, io::Result<()>) {
     match Journal::open_on(alloc, disk) {
-        Ok((mut journal, payloads)) => {
-            print!(rt; "{:?}; ", payloads.as_slice())?;
-            let played = play_words(rt, alloc, &mut journal, words);
-            let disk = journal.into_disk();
-            played?;
-            Ok(disk)
+        Ok((journal, payloads)) => {
+            let mut journal = journal;
+            let played = play_opened(rt, alloc, &mut journal, &payloads, words);
+            (journal.into_disk(), played)
         }
-        Err((disk, fault)) => {
-            print!(rt; "{fault:?}; ")?;
-            Ok(disk)
-        }
+        Err((disk, fault)) => (disk, print!(rt; "{fault:?}; ")),
     }
+}
+
+// Prints what a journal held when it was opened, and plays the words of a case over it.
+fn play_opened<D: Disk>(
+    rt: &impl Print,
+    alloc: Global,
+    journal: &mut Journal<D>,
+    payloads: &Payloads,
+    words: &str,
+) -> io::Result<()> {
+    print!(rt; "{:?}; ", payloads.as_slice())?;
+    play_words(rt, alloc, journal, words)
 }
 
 // Appends the payload of each word, or repairs where one is pending, and prints what each call answers; and the version

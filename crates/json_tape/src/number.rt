@@ -26,7 +26,8 @@ pub(crate) fn whole_number(text: &str) -> Option<u64>
     }
 }
 
-/// The same of any text.
+/// The same of any text. It stands apart, so that the usual way takes few registers.
+#[inline(never)]
 fn other_whole_number(bytes: &[u8]) -> Option<u64>
     ensures { result ≡ option_and_then as_u64 (number_of bytes.now) }
 {
@@ -51,7 +52,8 @@ pub(crate) fn is_number(text: &str) -> bool
     plain_number(bytes).is_some() || is_other_number(bytes)
 }
 
-/// The same of any text.
+/// The same of any text, apart as well.
+#[inline(never)]
 fn is_other_number(bytes: &[u8]) -> bool
     ensures { result ≡ is_some (number_of bytes.now) }
 {

@@ -28,9 +28,9 @@ use Rattle.farm_laws.proofs.Made.{is_made}
 use Rattle.farm_laws.proofs.Numbered.{opening-found, opening-there}
 use Rattle.farm_laws.proofs.Replies.{slice_get-last}
 use Rattle.farm_laws.proofs.Stepped.{KindFacts, Stepped, map-none, stepped}
-use Rattle.search_laws.specs.Steps.{IsAbout}
-use Rattle.search_laws.proofs.Counting.{counted-step, entries-step, none-changes, one-changes, orders-step, searches-step}
-use Rattle.state_laws.specs.Seen.{seen}
+use Rattle.farm_laws.specs.Steps.{IsAbout}
+use Rattle.farm_laws.proofs.Counting.{counted-step, entries-step, none-changes, one-changes, orders-step, searches-step}
+use Rattle.search_state.specs.Seen.{seen}
 use Rattle.farm_state.proofs.Searches.{search-none, search-of_lease}
 use Rattle.kept_farm.specs.Changes.{AreFew, CanMove, HasMoved, IsMoved, MayMove, counts_in, last_standing, one_if, one_that, search_in, standing_in, standing_of, with_entry}
 use Rattle.kept_farm.specs.Rows.{AreSmall, row_of, row_with, totals_in}

@@ -16,7 +16,7 @@ ghost use Rattle.farm_entry.specs.RunPages.{runs_page};
 ghost use Rattle.farm_entry.specs.SearchLines.{search_list};
 ghost use Rattle.farm_laws.specs.Laws.{IsNotBefore};
 ghost use Rattle.kept_farm.specs.Replying.{reply_with};
-ghost use Rattle.state_laws.specs.Seen.{seen};
+ghost use Rattle.search_state.specs.Seen.{seen};
 
 use crate::changes::{search_in, standing_of, with_entry, with_standings};
 use crate::entry_kind::kind_of;

@@ -4,20 +4,24 @@
 //! of a link keeps what the other half has done, whether the last take found the end, and that each failure is
 //! counted. Code above is generic over them and proved once.
 //!
-//! The crate stands on `farm_types` for moments and on `fault_types` for counts. The layers above may use
+//! The crate stands on `farm_types` for moments, on `fault_types` for counts, on `past_moments` for moments that are
+//! over and on `told_list` for notes. The layers above may use
 //! - the traits with their answers, `take_piece`, which gives the bytes of one take, and `put_all`, which puts a whole
 //!   slice;
+//! - `Gathered`, a sink in memory with room for [`GATHERED_BYTES`], in which many short pieces are gathered to go out
+//!   to another sink in one put;
 //! - `MemSource`, `MemSink` and `MemLink`, which tell their bytes to contracts, and fail at the calls that they are
 //!   told to, `MemClock`, which stands still, and `FaultPlan`, the calls of an object in memory that are to fail;
 //! - `InputSource`, `OutputSink` and `StreamLink`, over any reader, writer and stream of the standard library, and
 //!   `SystemClock`: the trusted edge, since no contract says which bytes the system itself gives or takes, or what its
 //!   clock shows.
 //!
-//! Clauses above cite `specs/` (`Took`, `Put`, `Intake`, `Links`, `Streams`, `Telling`, `FaultPlan`, `Pieces`),
-//! and proofs above the lemmas of `proofs/Told`.
+//! Clauses above cite `specs/` (`Took`, `Put`, `Intake`, `Links`, `Notes`, `Streams`, `Telling`, `FaultPlan`,
+//! `Pieces`), and proofs above the lemmas of `proofs/Told`.
 #![tactic(auto)]
 
 mod clock;
+mod gathered;
 mod link;
 mod memory;
 mod sink;
@@ -27,6 +31,7 @@ mod stream_link;
 mod system_clock;
 
 pub use clock::Clock;
+pub use gathered::{GATHERED_BYTES, Gathered};
 pub use link::Link;
 pub use memory::{FaultPlan, MemClock, MemLink, MemSink, MemSource};
 pub use sink::{Put, PutFault, Sink, put_all};

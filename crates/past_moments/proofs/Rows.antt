@@ -6,10 +6,6 @@ module _ {A : Type 0} where
   pub IsOlder-refl : (list : List A) → IsOlder list list
   IsOlder-refl list = ([], refl)
 
-  -- one more is told
-  pub IsOlder-told : (thing : A) (list : List A) → IsOlder list (thing ∷ list)
-  IsOlder-told thing list = (thing ∷ [], refl)
-
   pub IsOlder-trans : (a b c : List A) → IsOlder a b → IsOlder b c → IsOlder a c
   IsOlder-trans a b c (newer, is) (more, on) =
       (more ++ newer, on ∙ ap (λ (l : List A). more ++ l) is ∙ sym (append_assoc more newer a))
@@ -63,8 +59,3 @@ module _ {A : Type 0} where
   pub AreAmong-refl : (rows : List A) → AreAmong rows rows
   AreAmong-refl [] = tt
   AreAmong-refl (first ∷ rows) = (inl refl, AreAmong-behind (first ∷ []) rows rows (AreAmong-refl rows))
-
-  pub AreAmong-trans : (a b c : List A) → AreAmong a b → AreAmong b c → AreAmong a c
-  AreAmong-trans [] b c all more = tt
-  AreAmong-trans (first ∷ a) b c (one, others) more =
-      (IsAmong-AreAmong b c first more one, AreAmong-trans a b c others more)

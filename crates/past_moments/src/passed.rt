@@ -5,8 +5,8 @@ ghost use Rattle.past_moments.specs.Moments.{passed_at};
 use std::snapshot::Snapshot;
 use told_list::ToldList;
 
-/// A moment of a disk that is over. Whoever has one knows that so many steps of the disk were done. Only a disk gives
-/// one.
+/// A moment of a disk that is over. Whoever has one knows that so many steps of the disk were done. Code that is
+/// generic over a disk has none but those that its disk gave.
 pub trait Past {
     /// How many steps were done.
     ghost at: { Self → ℕ };

@@ -10,7 +10,7 @@ use Rattle.farm_entry.specs.declared.lease.ReportedRun.{ReportedRun}
 use Rattle.farm_entry.specs.declared.lease.SkippedRun.{SkippedRun}
 use Rattle.farm_entry.specs.declared.opening.Opening.{Opening}
 use Rattle.farm_laws.proofs.EntryParts.{report-told, skip-told}
-use Rattle.search_laws.specs.Steps.{IsAbout}
+use Rattle.farm_laws.specs.Steps.{IsAbout}
 
 pub record IsOpenedAlone (w : What) : Type 0 where
   pub lease : lease_in w ≡ None

@@ -17,7 +17,7 @@ use Rattle.farm_entry.specs.declared.standing.Standing.TheVariants.{Verifying}
 use Rattle.farm_laws.proofs.Bounds.{entries-bounded}
 use Rattle.farm_laws.proofs.OpenLimits.{open_within}
 use Rattle.farm_laws.proofs.Standings.{culprit-at_bar}
-use Rattle.belief_laws.proofs.Beliefs.{hypotheses-of}
+use Rattle.farm_laws.proofs.Beliefs.{hypotheses-of}
 
 -- stated by `farm_laws`
 

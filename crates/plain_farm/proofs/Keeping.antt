@@ -20,8 +20,8 @@ use Rattle.farm_laws.proofs.Made.{is_made}
 use Rattle.farm_laws.proofs.Numbered.{number-at, openings-numbered}
 use Rattle.farm_laws.proofs.Opened.{opened-cases}
 use Rattle.farm_laws.proofs.Stepped.{Stepped}
-use Rattle.search_laws.specs.Steps.{IsAbout}
-use Rattle.search_laws.proofs.OneMore.{cancelled-same, not_about-cancel, not_about-report, over-same, runs-same, skips-same, standing-same}
+use Rattle.farm_laws.specs.Steps.{IsAbout}
+use Rattle.farm_laws.proofs.OneMore.{cancelled-same, not_about-cancel, not_about-report, over-same, runs-same, skips-same, standing-same}
 use Rattle.plain_farm.specs.Rows.{AreRows, IsOut, IsTold}
 use Rattle.plain_farm.specs.declared.rows.Row.{Row}
 

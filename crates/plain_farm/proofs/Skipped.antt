@@ -22,7 +22,7 @@ use Rattle.farm_laws.proofs.Numbered.{lease-there, opening-there}
 use Rattle.farm_laws.proofs.OpenLimits.{open_within}
 use Rattle.farm_laws.proofs.RunSteps.{chosen_position, skipped_position-is}
 use Rattle.farm_laws.proofs.Stepped.{Stepped}
-use Rattle.belief_laws.proofs.Beliefs.{hypotheses-of}
+use Rattle.farm_laws.proofs.Beliefs.{hypotheses-of}
 use Rattle.plain_farm.proofs.About.{opened-alone}
 use Rattle.plain_farm.proofs.Keeping.{opened-number, opening-low}
 use Rattle.plain_farm.proofs.Taking.{skipped-told}

@@ -20,7 +20,7 @@ use Rattle.farm_laws.proofs.Filters.{counted-grow, lease_of-stays, skipped-grow,
 use Rattle.farm_laws.proofs.Known.{reports-known, skips-known}
 use Rattle.farm_laws.proofs.RunSteps.{chosen_position, chosen_run, counted_run-is, skipped_position-is}
 use Rattle.farm_laws.proofs.Stepped.{Stepped}
-use Rattle.search_laws.proofs.OneMore.{counted-same, over-same, skipped-same}
+use Rattle.farm_laws.proofs.OneMore.{counted-same, over-same, skipped-same}
 use Rattle.plain_farm.specs.Rows.{AreRows, IsCancelledRow, IsLeasedRow, IsOut, IsRow, IsTold, closed_position, told_run}
 use Rattle.plain_farm.specs.declared.rows.Row.{Row}
 use Rattle.plain_farm.proofs.About.{about-cancelled, about-none, about-told, cancelled-alone, lease-alone, opened-alone, told-alone}

@@ -18,8 +18,8 @@ use Rattle.farm_laws.proofs.Known.{told_runs-known}
 use Rattle.farm_laws.proofs.Lists.{there-filter}
 use Rattle.farm_laws.proofs.Numbered.{lease-found, lease-there, leases-numbered, number-at}
 use Rattle.farm_laws.proofs.Stepped.{Stepped}
-use Rattle.search_laws.specs.Steps.{handed_out}
-use Rattle.search_laws.proofs.OneMore.{last_lease-step}
+use Rattle.farm_laws.specs.Steps.{handed_out}
+use Rattle.farm_laws.proofs.OneMore.{last_lease-step}
 use Rattle.plain_farm.specs.Rows.{IsOut, unreported}
 use Rattle.plain_farm.specs.declared.rows.Row.{Row}
 

@@ -20,11 +20,11 @@ use crate::kept::{last_lease_by, open_positions_by, plan_by, reruns_by, standing
 use crate::rows::Row;
 use crate::standings::{belief, skips};
 use farm_entry::{DueRun, Entry, LeasedRun, Opening, Standing, What};
+use farm_rules::{due_search, due_verify};
 use farm_types::{Memory, Moment, Stage};
 use open_positions::Skips;
 use plain_history::{is_reported, leases, push_some};
 use posterior::Belief;
-use run_plan::{due_search, due_verify};
 use std::alloc::Global;
 use threshold_pick::open_pick_uncounted;
 use weight_exact::Run;

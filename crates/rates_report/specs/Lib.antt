@@ -1,1 +1,3 @@
 pub mod RateLines
+pub mod Rates
+pub mod Object

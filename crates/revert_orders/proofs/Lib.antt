@@ -1,4 +1,5 @@
 pub mod Dates
+pub mod Days
 pub mod Earliest
 pub mod Ends
 pub mod Items

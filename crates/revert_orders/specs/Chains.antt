@@ -1,7 +1,7 @@
 -- The table that finds an order by its commit: of each bucket, a chain of its items from the newest to the oldest.
 use Rattle.std.specs.Prelude.{ℕ, zero, suc, ◌≡◌, ◌<◌, ◌≤◌, ◌+◌, ◌*◌, ◌%◌, ◌^◌, cond, nat_eq, List, length, map, get_or, slice_index, replicate, refl}
 use Rattle.std.proofs.Math.Facts.{leb_yes}
-use Rattle.farm_rules.specs.Orders.{Ordered}
+use Rattle.farm_rules.specs.Orders.{Ordered, orders_of}
 use Rattle.farm_types.specs.CommitId.{id_bytes}
 use Rattle.farm_types.specs.declared.commit_id.CommitId.{CommitId}
 use Rattle.revert_orders.specs.Book.{IsOnePerCommit, ordered}
@@ -43,14 +43,15 @@ pub record IsLinked (heads : List ℕ) (items : List Item) : Type 0 where
 abbrev pub orders_in : List Item → List Ordered
 orders_in items = map (λ item. ordered item.commit item.day) items
 
--- what holds of the table, where so many of its items were given here
-pub record IsTable (heads : List ℕ) (items : List Item) (given capacity : ℕ) : Type 0 where
+-- what holds of the table, where so many of its items were given here, and so many are of the last one's day
+pub record IsTable (heads : List ℕ) (items : List Item) (given capacity last_day on_last_day : ℕ) : Type 0 where
   pub size : 0 < capacity → 0 < length heads
   pub fits : length items ≤ capacity
   pub linked : IsLinked heads items
   pub apart : IsOnePerCommit (orders_in items)
   pub few : length items < 2 ^ 32
   pub given_here : given ≤ length items
+  pub counted : on_last_day ≡ orders_of last_day (orders_in items)
 
 -- a table of the same orders with so many buckets, and room for as many items
 pub record IsGrown (old : List Item) (size : ℕ) (heads : List ℕ) (items : List Item) (capacity : ℕ) : Type 0 where

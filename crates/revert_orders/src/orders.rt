@@ -19,11 +19,18 @@ pub struct RevertOrder {
 
 /// The revert orders that stand: first those that were carried over from farms before this one, and then those that it
 /// gave, numbered from 1 in their order. No commit has two, and there are fewer than 2^32.
+///
+/// How many stand on the day of the one that was added last is kept, so that the next order of that day doesn't go
+/// through all of them.
 #[derive(Debug, Drop)]
 pub struct Orders {
     heads: Vec<usize>,
     items: Vec<Item>,
     given: u32,
+    /// The day of the order that was added last, whether it stands still or not.
+    last_day: u32,
+    /// How many orders stand on that day.
+    on_last_day: u32,
 }
 
 impl Model for Orders {
@@ -42,7 +49,8 @@ impl Model for Orders {
     } };
 
     ghost invariant = { λ orders.
-        IsTable orders.heads.items orders.items.items orders.given (vec_capacity orders.items) };
+        IsTable orders.heads.items orders.items.items orders.given (vec_capacity orders.items)
+        orders.last_day orders.on_last_day };
 }
 
 impl Orders {
@@ -57,6 +65,8 @@ impl Orders {
             heads: Vec::new(alloc),
             items: Vec::new(alloc),
             given: 0,
+            last_day: 0,
+            on_last_day: 0,
         }
     }
 
@@ -134,12 +144,15 @@ impl Orders {
         ensures none_given { self.new.given ≡ 0 }
         ensures room { self.new.room + 1 ≡ self.old.room }
     {
+        let before = self.count(carried.day);
         link(
             &mut self.heads,
             &mut self.items,
             carried.commit,
             carried.day,
         );
+        self.last_day = carried.day;
+        self.on_last_day = before + 1;
     }
 
     /// Adds an order that is given, which takes no memory.
@@ -152,8 +165,11 @@ impl Orders {
         ensures given { self.new.given ≡ self.old.given + 1 }
         ensures room { self.new.room + 1 ≡ self.old.room }
     {
+        let before = self.count(draft.day);
         link(&mut self.heads, &mut self.items, draft.commit, draft.day);
         self.given += 1;
+        self.last_day = draft.day;
+        self.on_last_day = before + 1;
     }
 
     /// Takes the last order back, where one stands. Its room is free then, so that an order can be added in its place
@@ -172,6 +188,7 @@ impl Orders {
         let order = self.given;
         self.given = order.saturating_sub(1);
         let last = unlink_last(&mut self.heads, &mut self.items);
+        self.on_last_day -= u32::from(last.day == self.last_day);
         Some(RevertOrder {
             order,
             commit: last.commit,
@@ -196,6 +213,9 @@ impl Orders {
     fn count(&self, day: u32) -> u32
         ensures { result ≡ orders_of day self.now.orders }
     {
+        if day == self.last_day {
+            return self.on_last_day;
+        }
         self.items.iter().filter(|item| item.day == day).count() as u32
     }
 }

@@ -1,7 +1,7 @@
 //! Which position is due.
 
 use crate::texts::{count_of, position_of, positions, word};
-use run_plan::{due_search, due_verify};
+use farm_rules::{due_search, due_verify};
 use std::alloc::Global;
 use std::io;
 

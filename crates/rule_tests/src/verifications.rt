@@ -3,8 +3,8 @@
 ghost use Rattle.std.specs.Prelude.{◌≡◌, ◌≤◌};
 
 use crate::texts::{count_of, position_of, word};
+use farm_rules::{Outcome, Verify};
 use std::io;
-use verify_flow::{Outcome, Verify};
 use weight_exact::Verdict;
 
 // Notes a rerun at the culprit or at its parent.

@@ -7,7 +7,7 @@ use farm_types::Memory;
 use std::alloc::Global;
 use std::marker::Model;
 
-/// For how many leases the first one of a search takes memory: most searches have fewer, so that their lists don't grow.
+/// For how many leases the first one of a search takes memory: most searches have fewer, so their lists don't grow.
 const FIRST_RUNS: usize = 16;
 
 /// Where the entries of one search stand. It takes 40 bytes, those of 16 leases from the first one on, and four for

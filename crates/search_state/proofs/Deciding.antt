@@ -13,7 +13,7 @@ use Rattle.posterior.specs.Kept.{Kept}
 use Rattle.threshold_pick.specs.Blocks.{CanHalve, is_hidden_in}
 use Rattle.threshold_pick.specs.CanPick.{CanPick}
 use Rattle.threshold_pick.specs.Picks.{open_pick_in}
-use Rattle.verify_flow.specs.Verification.{Verification}
+use Rattle.farm_rules.specs.Verification.{Verification}
 use Rattle.farm_entry.specs.Setup.{setup_of}
 use Rattle.farm_entry.specs.Standing.{standing_of_hidden}
 use Rattle.farm_entry.specs.declared.opening.Opening.{Opening}
@@ -21,7 +21,7 @@ use Rattle.farm_entry.specs.declared.standing.Standing.{Standing}
 use Rattle.farm_entry.specs.declared.standing.Standing.TheVariants.{Searching, Verifying}
 use Rattle.farm_laws.specs.Openings.{OpenWithin}
 use Rattle.farm_laws.proofs.OpenLimits.{setup_facts}
-use Rattle.belief_laws.proofs.Beliefs.{IsBeliefOf, belief-can_halve, belief-can_pick, belief-hidden, hypotheses-of}
+use Rattle.farm_laws.proofs.Beliefs.{IsBeliefOf, belief-can_halve, belief-can_pick, belief-hidden, hypotheses-of}
 use Rattle.search_state.specs.Begun.{IsBegunBy, IsBelieved, begun_standing}
 use Rattle.search_state.specs.SearchInside.{IsVerificationOf}
 use Rattle.search_state.proofs.Flags.{searching-none, verified-first}

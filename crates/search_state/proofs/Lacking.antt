@@ -7,7 +7,7 @@ use Rattle.open_positions.specs.Open.{is_skipped}
 use Rattle.weight_exact.specs.Counts.{is_fail_at, is_pass_at}
 use Rattle.weight_exact.specs.declared.run.Run.{Run}
 use Rattle.farm_rules.specs.Reruns.{confirmed, is_verifying, outcome, reruns_at, verifying, vindicated, vindicating}
-use Rattle.verify_flow.proofs.Rulings.{fails-not_vindicated, passes-not_vindicated}
+use Rattle.farm_rules.proofs.Rulings.{fails-not_vindicated, passes-not_vindicated}
 use Rattle.farm_entry.specs.Standing.{lacks}
 use Rattle.search_state.specs.Begun.{lacks_by}
 

@@ -6,3 +6,7 @@ pub mod Deciding
 pub mod Reclosed
 pub mod Verified
 pub mod Crossing
+pub mod Reading
+pub mod Asking
+pub mod Changes
+pub mod AllStates

@@ -11,13 +11,13 @@ use Rattle.posterior.specs.Kept.{Kept}
 use Rattle.posterior.specs.StandsFor.{StandsFor}
 use Rattle.posterior.specs.declared.belief.Noted.{Noted}
 use Rattle.posterior.specs.declared.belief.Noted.TheVariants.{Counted, Over}
-use Rattle.verify_flow.specs.Verification.{Verification}
+use Rattle.farm_rules.specs.Verification.{Verification}
 use Rattle.farm_entry.specs.Setup.{budget_of_search, setup_of}
 use Rattle.farm_entry.specs.Standing.{standing_of_reached}
 use Rattle.farm_entry.specs.declared.opening.Opening.{Opening}
 use Rattle.farm_entry.specs.declared.standing.Standing.{Standing}
 use Rattle.farm_entry.specs.declared.standing.Standing.TheVariants.{Searching}
-use Rattle.belief_laws.proofs.Beliefs.{IsBeliefOf}
+use Rattle.farm_laws.proofs.Beliefs.{IsBeliefOf}
 use Rattle.search_state.specs.Begun.{IsBegunBy, IsBelieved}
 use Rattle.search_state.specs.SearchView.{SearchView, adds_load, bar_of, passes_budget, standing_in}
 use Rattle.search_state.specs.SearchInside.{IsSearch, IsSetUp, IsVerificationOf, search_view}

@@ -7,11 +7,11 @@ use Rattle.weight_exact.specs.declared.limits.TheConstants.{MAX_SUSPECTS}
 use Rattle.weight_exact.specs.declared.run.Run.{Run}
 use Rattle.weight_exact.proofs.Shares.{IsReached-from_some}
 use Rattle.farm_rules.specs.Reruns.{Outcome, after_rerun, counts, is_verifying, outcome, reruns_at, verifying}
-use Rattle.verify_flow.specs.Answer.{answer, said}
-use Rattle.verify_flow.specs.StandsFor.{StandsFor}
-use Rattle.verify_flow.specs.Verification.{Verification}
-use Rattle.verify_flow.specs.declared.outcome.Outcome.{Outcome as Answered}
-use Rattle.verify_flow.specs.declared.outcome.Outcome.TheVariants.{Late}
+use Rattle.farm_rules.specs.Answer.{answer, said}
+use Rattle.farm_rules.specs.StandsFor.{StandsFor}
+use Rattle.farm_rules.specs.Verification.{Verification}
+use Rattle.farm_rules.specs.declared.outcome.Outcome.{Outcome as Answered}
+use Rattle.farm_rules.specs.declared.outcome.Outcome.TheVariants.{Late}
 use Rattle.farm_entry.specs.Setup.{setup_of}
 use Rattle.farm_entry.specs.Standing.{is_searching, lacks, standing_of_outcome}
 use Rattle.farm_entry.specs.declared.standing.Standing.{Standing}

@@ -8,7 +8,7 @@ use Rattle.weight_exact.specs.declared.run.Run.{Run}
 use Rattle.posterior.specs.Kept.{Kept}
 use Rattle.posterior.specs.StandsFor.{StandsFor}
 use Rattle.threshold_pick.specs.Picks.{open_pick_in}
-use Rattle.verify_flow.specs.Verification.{Verification}
+use Rattle.farm_rules.specs.Verification.{Verification}
 use Rattle.farm_entry.specs.Setup.{setup_of}
 use Rattle.farm_entry.specs.Standing.{standing_of_reached}
 use Rattle.farm_entry.specs.declared.opening.Opening.{Opening}

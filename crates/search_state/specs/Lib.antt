@@ -1,3 +1,4 @@
 pub mod SearchView
 pub mod SearchInside
 pub mod Begun
+pub mod Seen

@@ -6,8 +6,8 @@ use Rattle.weight_exact.specs.Weights.{hypotheses}
 use Rattle.weight_exact.specs.declared.run.Run.{Run}
 use Rattle.posterior.specs.StandsFor.{StandsFor}
 use Rattle.threshold_pick.specs.Picks.{open_pick_in}
-use Rattle.verify_flow.specs.StandsFor.{StandsFor as StandsForReruns}
-use Rattle.verify_flow.specs.Verification.{Verification}
+use Rattle.farm_rules.specs.StandsFor.{StandsFor as StandsForReruns}
+use Rattle.farm_rules.specs.Verification.{Verification}
 use Rattle.farm_entry.specs.Setup.{setup_of}
 use Rattle.farm_entry.specs.declared.opening.Opening.{Opening}
 use Rattle.farm_entry.specs.declared.standing.Standing.TheVariants.{Searching, Verifying}

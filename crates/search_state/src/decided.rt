@@ -9,7 +9,7 @@ ghost use Rattle.open_positions.specs.Open.{is_skipped};
 ghost use Rattle.farm_rules.specs.Reruns.{Outcome as Ruling};
 ghost use Rattle.threshold_pick.specs.CanPick.{CanPick};
 ghost use Rattle.threshold_pick.specs.Picks.{open_pick_in};
-ghost use Rattle.verify_flow.specs.Answer.{said};
+ghost use Rattle.farm_rules.specs.Answer.{said};
 ghost use Rattle.farm_entry.specs.Setup.{setup_of};
 ghost use Rattle.farm_entry.specs.Standing.{standing_of_hidden, standing_of_outcome, standing_of_reached};
 ghost use Rattle.farm_entry.specs.declared.standing.Standing.TheVariants.{Inconclusive, Searching, Verifying};
@@ -17,11 +17,11 @@ ghost use Rattle.search_state.specs.Begun.{IsBegunBy, IsBelieved, begun_standing
 ghost use Rattle.search_state.specs.SearchInside.{IsVerificationOf};
 
 use farm_entry::{Opening, Standing};
+use farm_rules::{Outcome, Verify};
 use flake_rate::Bar;
 use open_positions::Skips;
 use posterior::Belief;
 use threshold_pick::{is_hidden, open_pick_uncounted};
-use verify_flow::{Outcome, Verify};
 use weight_exact::Run;
 
 /// What follows of the belief of a search that has no reruns.

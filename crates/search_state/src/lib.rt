@@ -6,12 +6,12 @@
 //! see it as the plain thing: the search's opening, the lists of the runs and of the reruns that counted, of the
 //! positions that were skipped, and whether it went over its budget or was cancelled (`specs/SearchView`). It keeps
 //! none of these lists, but one belief and one verification that stand for them, and a flag for each position that was
-//! skipped, and takes no memory after its start. `laws` say that this is what the farm's definitions give of a search
-//! in any legal history, and how appending an entry changes it.
+//! skipped, and takes no memory after its start. `specs/Seen` says what a history holds of a search, and
+//! `proofs/Changes` and `AllStates` how appending an entry changes it.
 //!
-//! It stands on `farm_entry` for the types and the definitions, on `posterior`, `open_positions`, `threshold_pick`,
-//! `verify_flow` and `run_plan` for the belief, the plan, the reruns and the run that is due, and on the law crates for
-//! what they ask for.
+//! It stands on `farm_entry` for the types and the definitions, on `posterior`, `open_positions`, `threshold_pick`
+//! and `farm_rules` for the belief, the plan, the reruns and the run that is due, and on `farm_laws` for what they ask
+//! for.
 #![tactic(auto)]
 
 mod decided;

@@ -14,17 +14,16 @@ ghost use Rattle.search_state.specs.SearchView.{IsPlaced, IsPlacedAt, adds_load,
 
 use crate::decided::{begun, next_standing, standing_with_skip};
 use farm_entry::{DueRun, Fate, Opening, Positions, Shares, SkipFate, Standing};
+use farm_rules::{Verify, due_verify, is_left};
 use farm_types::{Memory, Stage};
 use flake_rate::Bar;
 use open_positions::Skips;
 use posterior::Belief;
-use run_plan::{due_verify, is_left};
 use std::alloc::Global;
 use std::marker::Model;
 use std::snapshot::Snapshot;
 use threshold_pick::open_pick_uncounted;
 use told_list::ToldList;
-use verify_flow::Verify;
 use weight_exact::{Factors, MAX_WIDTH, Run};
 
 /// A search of a farm, kept from report to report.
@@ -144,7 +143,7 @@ impl SearchState {
     pub fn shares(&self, alloc: Global) -> Result<Shares, Memory>
         ensures { IfOk result (λ shares. shares ≡ shares_in self.now) }
     {
-        let mut shares = Vec::new(alloc);
+        let mut shares = Vec::with_capacity(alloc, self.suspects as usize + 1)?;
         for before in 0..self.suspects + 1 {
             shares.push(self.belief.basis_points(before + 1))?;
         }

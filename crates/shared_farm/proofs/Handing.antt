@@ -68,7 +68,8 @@ module _ {K O : Type 0} (lock : TableId) (jobs : Jobs K) where
   helped-errands (p ∷ parts) (h ∷ group) are =
       let rest = helped-errands parts group are.1 in
       record {
-        each = All-cons (IsErrand lock) h.taken.job (map (λ (k : Helped K O). k.taken.job) group) are.0.errand rest.each;
+        each = All-cons (IsErrand lock) h.taken.job (map (λ (k : Helped K O). k.taken.job) group) are.0.errand
+            rest.each;
         asks = ap (λ (l : List Ask). l ++ all_asks parts) are.0.asks
             ∙ ap (λ (l : List Ask). h.taken.job.asks.items ++ l) rest.asks;
         count = ap (λ (n : ℕ). suc n) rest.count;

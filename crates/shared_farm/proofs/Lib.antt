@@ -1,8 +1,10 @@
+pub mod Accounting
 pub mod ByCommands
 pub mod Crossing
 pub mod Handing
 pub mod Logging
 pub mod Members
+pub mod Picked
 pub mod Recorded
 pub mod Resting
 pub mod Taking

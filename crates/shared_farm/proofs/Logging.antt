@@ -19,7 +19,8 @@ use Rattle.shared_farm.specs.Rests.{IsLeftBetween, Rest, TurnLeaves, rest_of}
 pub holds-earlier : (first mid : List Entry) (c : List ℕ) → IsPrefix first mid → HoldsAll mid c → HoldsAll first c
 holds-earlier first mid c (more, is) (rest, stands) = (
   more ++ rest,
-  subst (λ (l : List Entry). StandsFor l c) (ap (λ (l : List Entry). l ++ rest) is ∙ append_assoc first more rest) stands,
+  subst (λ (l : List Entry). StandsFor l c) (ap (λ (l : List Entry). l ++ rest) is ∙ append_assoc first more rest)
+      stands,
 )
 
 -- what a turn leaves holds the history from before it
@@ -53,7 +54,8 @@ logged-on_one mid last row turn one =
     let to : List Step = turn.leaves.since in
     let since : LeavesSince (moment mid.told) last.told.steps H =
     leaves-weaker (moment mid.told) last.told.steps (IsLeftBetween mid last) H
-    (λ c between. holds-earlier first mid.history c begins (holds-turn mid last c turn.longer between)) turn.leaves.each in
+    (λ c between. holds-earlier first mid.history c begins (holds-turn mid last c turn.longer between))
+    turn.leaves.each in
     let all : LeavesSince row.moment (to ++ mid.told.steps) H =
     leaves-append row.moment to mid.told.steps H one.since
     (subst (λ (l : List Step). LeavesSince (moment mid.told) l H) turn.leaves.extends since) in
@@ -80,7 +82,8 @@ logged-now H pending told row stored entries now =
           (subst (λ (m : ℕ). LeavesSince m told.steps (HoldsAll H)) (sym now)
           (leaves-here told.steps (HoldsAll H) (λ c image. ⊎_elim
           (λ (without : StandsFor H c).
-          let held : HoldsAll H c = ([], subst (λ (l : List Entry). StandsFor l c) (sym (append-nil H)) without) in held)
+          let held : HoldsAll H c =
+          ([], subst (λ (l : List Entry). StandsFor l c) (sym (append-nil H)) without) in held)
           (λ (with_all : StandsFor (H ++ pending) c). let held : HoldsAll H c = (pending, with_all) in held)
           (stored.images c image))));
     }

@@ -1,5 +1,5 @@
 -- What those know whose asks were answered together: each had a turn of its own.
-use Rattle.std.proofs.Common.{◌≡◌, ◌++◌, ◌∷◌, [], List, ℕ, ◌-◌, ◌≤◌, ◌<◌, All, Some, inl, inr, ⊎_elim, length, take, arith, sym, refl, ap, ◌∙◌, subst, le_refl, drop, Vec, Global}
+use Rattle.std.proofs.Common.{◌≡◌, ◌++◌, ◌∷◌, [], Bool, false, List, ℕ, ◌-◌, ◌≤◌, ◌<◌, All, Some, inl, inr, ⊎_elim, length, take, arith, sym, refl, ap, ◌∙◌, subst, le_refl, drop, Vec, Global}
 use Rattle.std.specs.Prelude.{Result, Ok, Err}
 use Rattle.std.specs.List.{range_with_len}
 use Rattle.std.proofs.lemmas.List.{length-take-le, take-append-drop, take_at}
@@ -21,7 +21,7 @@ use Rattle.farm_entry.specs.Decision.{decide}
 use Rattle.farm_entry.specs.Playing.{after}
 use Rattle.list_prefix.specs.Prefix.{IsPrefix}
 use Rattle.list_prefix.proofs.Prefixes.{IsPrefix-length, IsPrefix-trans}
-use Rattle.turn_lock.specs.Known.{Before, IsSettled, Known, known_after}
+use Rattle.turn_lock.specs.Known.{AccountsFor, Before, IsSettled, Known, known_after}
 use Rattle.turn_lock.specs.Places.{ArePlaces}
 use Rattle.turn_lock.proofs.PlaceLists.{ArePlaces-range_with_len}
 use Rattle.turn_lock.specs.declared.view.Taken.{Taken}
@@ -30,10 +30,11 @@ use Rattle.shared_farm.specs.Answered.{GoesOn, own_places}
 use Rattle.shared_farm.specs.Errands.{IsErrand, errands_asks}
 use Rattle.shared_farm.specs.Outcomes.{HadTurn}
 use Rattle.shared_farm.specs.Rounds.{AreAnswered, IsShared}
-use Rattle.shared_farm.specs.Turns.{TurnSays}
+use Rattle.shared_farm.specs.Turns.{TurnSays, failed_by}
 use Rattle.shared_farm.specs.declared.errand.Errand.{Errand}
 use Rattle.shared_farm.specs.declared.sharing.TheConstants.{MOST_PARTS}
-use Rattle.shared_farm.proofs.Recorded.{cause_of-fault, goes-on_by, history_after-begins, repaired-begins, says-grown}
+use Rattle.shared_farm.proofs.Accounting.{IsTold, batch-told, grown-accounts}
+use Rattle.shared_farm.proofs.Recorded.{FitRecord-nothing, cause_of-fault, goes-on_by, history_after-begins, repaired-begins, says-grown}
 use Rattle.shared_farm.proofs.Turning.{IsServed, IsTaken, served-keeps, served-own, served-turn}
 
 -- the first entries of a history, of which it has so many
@@ -122,12 +123,13 @@ module _ {D : Type 0} where
 
 module _ {D : Type 0} (count : D → ℕ) where
   -- all that is known of a turn that was served
-  pub had-turn : {old new : Known} {held : Before} {found left : StoreState D} {own : List ℕ}
+  pub had-turn : {old new : Known} {held : Before} {found left : StoreState D} {own : List ℕ} {failed : Bool}
       (lock : TableId) (asks : List Ask) (result : Result (List Answer) CallFault)
-      (s : IsServed count old new held found left own) → s.lock ≡ lock → TurnSays old.lock asks result found left
+      (s : IsServed count old new held found left own failed) → s.lock ≡ lock → failed ≡ failed_by result
+      → TurnSays old.lock asks result found left
       → HasCallCause result (count found.disk) (count left.disk) → HadTurn count lock asks result old new
-  had-turn {old} lock asks result s same says cause = record {
-    turn = served-turn s (TurnSays old.lock asks result) result says cause;
+  had-turn {old} lock asks result s same fails says cause = record {
+    turn = served-turn s (TurnSays old.lock asks result) result fails says cause;
     own = served-own s;
     keeps = served-keeps s lock same;
   }
@@ -173,35 +175,38 @@ module _ {D : Type 0} (count : D → ℕ) where
       goes-on_by count found left stored.legal on.3.legal
       (IsPrefix-trans found.history R left.history first longer)
       (says-grown part.asks.items (Ok part.answers) found left (stored-says found store shown part parts stored))
-      (inl stored.shared.decided) stored.never_falls
+      (inl stored.shared.decided) stored.never_falls (FitRecord-nothing store.pending stored.shared.decided)
 
   -- all that is known of the part's turn
   pub stored-had : (found store : StoreState D) (shown : ℕ) (part : Part) (parts : List Part) (old new : Known)
       (held : Before) (own : List ℕ) (lock : TableId) → AreStored found store shown (part ∷ parts)
       → held.pass ≡ old → IsTaken count old held found → ArePlaces 0 (length old.seen) old.mine
       → own ≡ range_with_len shown (part.end - shown)
-      → (log : List Row)
-      → new ≡ known_after lock held (take part.end store.history) own (count store.disk) store.pending log
+      → 0 < old.stake.parts → (failed : Bool) → failed ≡ false → (log : List Row)
+      → new ≡ known_after lock held (take part.end store.history) own (count store.disk) store.pending log failed
       → HadTurn count lock part.asks.items (Ok part.answers) old new
-  stored-had found store shown part parts old new held own lock stored held_is taken places own_is log new_is =
+  stored-had found store shown part parts old new held own lock stored held_is taken places own_is some failed none log
+      new_is =
       let on = shared-on store shown part parts stored.shared in
       let low = on.1 in
       let left : StoreState D = store_at store part.end (part.end - shown) in
       let m : length left.history ≡ part.end = length-take-le part.end store.history on.2 in
       let start : length left.history - left.recorded ≡ shown = omega (arith, m, low) in
-      let served : IsServed count old new held found left own = record {
+      let served : IsServed count old new held found left own failed = record {
         serving = record {
           held_is = held_is;
+          some = some;
           places = places;
           taken = taken;
           answered = stored-goes_on found store shown part parts stored;
           own_is = own_is ∙ ap (λ (k : ℕ). range_with_len k (part.end - shown)) (sym start);
+          told = inl stored.shared.decided;
         };
         lock = lock;
         log = log;
         new_is = new_is;
       } in
-      had-turn lock part.asks.items (Ok part.answers) served refl
+      had-turn lock part.asks.items (Ok part.answers) served refl none
       (stored-says found store shown part parts stored) tt
 
   -- a turn may go on with the next part: what it began with, and what it is to leave
@@ -211,6 +216,7 @@ module _ {D : Type 0} (count : D → ℕ) where
     pub faults : taken.count ≤ count store.disk
     pub settled : IsSettled (Some taken.pending) taken.count (count store.disk) store.pending
     pub places : ArePlaces (length taken.entries) (length (take part.end store.history)) own
+    pub accounts : (failed : Bool) → AccountsFor taken (take part.end store.history) store.pending own failed
     pub shared : IsShared store part.end parts
 
   pub stored-onward : (found store : StoreState D) (shown : ℕ) (part : Part) (parts : List Part) (taken : Taken)
@@ -238,6 +244,16 @@ module _ {D : Type 0} (count : D → ℕ) where
         settled = λ _ _ _. stored.shared.decided;
         places = ArePlaces-range_with_len shown (part.end - shown) (length found.history) (length L)
             (omega (arith, n, few)) (omega (arith, m, low));
+        accounts = λ failed.
+            let left : StoreState D = store_at store part.end (part.end - shown) in
+            let start : length L - (part.end - shown) ≡ shown = omega (arith, m, low) in
+            subst (λ (k : ℕ). AccountsFor (record {
+              entries = found.history;
+              count = count found.disk;
+              pending = found.pending;
+            }) L store.pending (range_with_len k (part.end - shown)) failed) start
+            (grown-accounts count found left failed (stored-goes_on found store shown part parts stored).grown
+            (inl stored.shared.decided));
         shared = on.3;
       }))
 
@@ -306,6 +322,25 @@ module _ {D : Type 0} where
       says
   none-recorded asks Memory old new says = says.none
 
+  -- where the record wasn't stored, the one who asked for all has recorded nothing
+  pub failed-accounts : (count : D → ℕ) (old store : StoreState D) (asks : List Ask) (f : CallFault) (taken : Taken)
+      (own : List ℕ) (failed : Bool) → BatchSays asks (Err f) old store → GoesOn count old store
+      → taken ≡ record { entries = old.history; count = count old.disk; pending = old.pending } → own ≡ []
+      → failed ≡ failed_by {T = List Answer} (Err f)
+      → AccountsFor taken store.history store.pending own failed
+  failed-accounts count old store asks f taken own failed says goes_on took none fails =
+      let zero : store.recorded ≡ 0 = none-recorded asks f old store says in
+      let nowhere : own_places store ≡ [] =
+      ap (λ (n : ℕ). range_with_len (length store.history - n) n) zero in
+      subst (λ (t : Taken). AccountsFor t store.history store.pending own failed) (sym took)
+      (subst (λ (l : List ℕ). AccountsFor (record {
+        entries = old.history;
+        count = count old.disk;
+        pending = old.pending;
+      }) store.history store.pending l failed) (nowhere ∙ sym none)
+      (grown-accounts count old store failed goes_on.grown
+      (subst (λ (b : Bool). IsTold store b) (sym fails) (batch-told asks (Err f) old store says))))
+
   -- all that is known of the turn of the one who asked for all, where the record wasn't stored
   pub failed-had : (count : D → ℕ) (old store : StoreState D) (asks : List Ask) (others : List Errand) (f : CallFault)
       (known new : Known) (held : Before) (own : List ℕ) (lock : TableId) → known.lock ≡ lock
@@ -313,28 +348,31 @@ module _ {D : Type 0} where
       → BatchSays (asks ++ errands_asks others) (Err f) old store
       → HasCallCause {T = Unit {0}} (Err f) (count old.disk) (count store.disk) → GoesOn count old store
       → held.pass ≡ known → IsTaken count known held old → ArePlaces 0 (length known.seen) known.mine
-      → own ≡ [] → (log : List Row)
-      → new ≡ known_after lock held store.history own (count store.disk) store.pending log
+      → own ≡ [] → 0 < known.stake.parts → (failed : Bool) → failed ≡ failed_by {T = List Answer} (Err f)
+      → (log : List Row)
+      → new ≡ known_after lock held store.history own (count store.disk) store.pending log failed
       → HadTurn count lock asks (Err f) known new
   failed-had count old store asks others f known new held own lock its posted few says cause goes_on held_is taken
-      places none log new_is =
+      places none some failed fails log new_is =
       let all : List Ask = asks ++ errands_asks others in
       let zero : store.recorded ≡ 0 = none-recorded all f old store says in
       let nowhere : own_places store ≡ [] =
       ap (λ (n : ℕ). range_with_len (length store.history - n) n) zero in
-      let served : IsServed count known new held old store own = record {
+      let served : IsServed count known new held old store own failed = record {
         serving = record {
           held_is = held_is;
+          some = some;
           places = places;
           taken = taken;
           answered = goes_on;
           own_is = none ∙ sym nowhere;
+          told = subst (λ (b : Bool). IsTold store b) (sym fails) (batch-told all (Err f) old store says);
         };
         lock = lock;
         log = log;
         new_is = new_is;
       } in
-      had-turn count lock asks (Err f) served refl
+      had-turn count lock asks (Err f) served refl fails
       (subst (λ (id : TableId). TurnSays id asks (Err f) old store) (sym its)
       (says-with lock asks others f old store posted few says))
       (cause_of-fault f (count old.disk) (count store.disk) cause)

@@ -1,5 +1,6 @@
 -- What a call of a store recorded stands at the end of its history, past what stood there before.
 use Rattle.std.proofs.Common.{◌≡◌, ◌++◌, ◌∷◌, [], List, ℕ, ◌+◌, ◌-◌, ◌<◌, ◌≤◌, length, arith, ap, sym, subst, ◌∙◌, inl, inr, map, ◌⊎◌, ⊎_elim, Ok, Err, Option, Result}
+use Rattle.std.proofs.lemmas.List.Sums.{sum_by-append}
 use Rattle.farm_types.specs.declared.moment.Moment.{Moment}
 use Rattle.farm_entry.specs.Decision.{decide}
 use Rattle.farm_entry.specs.Legal.{IsLegal}
@@ -13,6 +14,7 @@ use Rattle.farm_entry.specs.declared.reply.Reply.{Reply}
 use Rattle.farm_store.specs.Answering.{as_batch, asked, BatchSays, history_after, IsAnswered, IsUndecided, IsUnrepaired}
 use Rattle.farm_store.specs.Entering.{run_given}
 use Rattle.farm_store.specs.Faults.{HasCallCause}
+use Rattle.farm_store.specs.Sizes.{asks_size, entries_size, what_size}
 use Rattle.farm_store.specs.State.{StoreState, IsRepaired}
 use Rattle.farm_store.specs.Together.{IsGiven, TogetherSays, all_asks}
 use Rattle.farm_entry.specs.declared.answer.Answer.{Answer}
@@ -20,6 +22,8 @@ use Rattle.farm_store.specs.declared.asking.Ask.{Ask}
 use Rattle.farm_store.specs.declared.asking.CallFault.{CallFault}
 use Rattle.farm_store.specs.declared.asking.CallFault.TheVariants.{Refused, StoreFault, Memory}
 use Rattle.farm_store.specs.declared.asking.Part.{Part}
+use Rattle.farm_store.specs.declared.asking.TheConstants.{MAX_RECORD_BYTES}
+use Rattle.farm_store.proofs.Sizes.{asks-fit}
 use Rattle.list_prefix.specs.Prefix.{IsPrefix}
 use Rattle.list_prefix.proofs.Prefixes.{IsPrefix-append, IsPrefix-length, IsPrefix-refl, IsPrefix-trans}
 use Rattle.fault_types.specs.Counts.{Rose, last_count}
@@ -27,7 +31,7 @@ use Rattle.turn_lock.specs.Known.{MayRise}
 use Rattle.turn_lock.specs.Places.{ArePlaces}
 use Rattle.turn_lock.proofs.PlaceLists.{ArePlaces-range_with_len}
 use Rattle.std.specs.List.{range_with_len}
-use Rattle.shared_farm.specs.Answered.{GoesOn, IsGrown, own_places}
+use Rattle.shared_farm.specs.Answered.{FitRecord, GoesOn, IsGrown, own_places}
 
 -- a history after a decision begins with it, and so does one after commands
 after-begins : (H : List Entry) (d : Decision) → IsPrefix H (after H d)
@@ -83,6 +87,15 @@ settled first last pending (inr rose) same rises =
     (λ (up : first < last). absurd (omega (arith, up, same)))
     (λ (end : (first ≡ last_count) × (last ≡ last_count)). absurd (omega (arith, end.1, rises)))
     rose
+
+-- what fits one record
+pub FitRecord-nothing : (pending : List Entry) → pending ≡ [] → FitRecord pending
+FitRecord-nothing pending none = subst FitRecord (sym none) (omega arith)
+
+FitRecord-behind : (H pending : List Entry) → entries_size (H ++ pending) ≤ entries_size H + MAX_RECORD_BYTES
+    → FitRecord pending
+FitRecord-behind H pending within =
+    let both = sum_by-append (λ (x : Entry). what_size x.what) H pending in omega (arith, within, both)
 
 module _ {D : Type 0} where
   -- what a repair leaves begins with what there was
@@ -148,12 +161,34 @@ module _ {D : Type 0} where
   together-decided parts given (Err f) old new first last says cause =
       says-decided (all_asks parts) (Err f) old new first last says (cause_of-fault f first last cause)
 
+  -- and no more is pending than fits one record, where the asks do
+  pub says-fit : (asks : List Ask) (result : Result (List Answer) CallFault) (old new : StoreState D)
+      → BatchSays asks result old new → asks_size asks ≤ MAX_RECORD_BYTES → FitRecord old.pending
+      → FitRecord new.pending
+  says-fit asks (Ok answers) old new says fits had =
+      let is : IsAnswered asks answers old new = says in FitRecord-nothing new.pending is.decided
+  says-fit asks (Err (Refused refusal)) old new says fits had = absurd says
+  says-fit asks (Err (StoreFault before after)) old new says fits had = ⊎_elim
+      (λ (u : IsUnrepaired old new). subst FitRecord (sym u.pending) had)
+      (λ (u : IsUndecided asks old new).
+      FitRecord-behind new.history new.pending
+      (asks-fit new.history (new.history ++ new.pending) asks u.all fits))
+      says
+  says-fit asks (Err Memory) old new says fits had = FitRecord-nothing new.pending says.decided
+
+  pub together-fit : (parts given : List Part) (result : Result (Unit {0}) CallFault) (old new : StoreState D)
+      → TogetherSays parts given result old new → asks_size (all_asks parts) ≤ MAX_RECORD_BYTES
+      → FitRecord old.pending → FitRecord new.pending
+  together-fit parts given (Ok done) old new says fits had =
+      let is : IsGiven parts given old new = says in FitRecord-nothing new.pending is.decided
+  together-fit parts given (Err f) old new says fits had = says-fit (all_asks parts) (Err f) old new says fits had
+
   -- how a store goes on at a call
   pub goes-on_by : (count : D → ℕ) (old new : StoreState D) → IsLegal old.history → IsLegal new.history
       → IsPrefix old.history new.history → IsGrown old new
       → (new.pending ≡ []) ⊎ Rose (count old.disk) (count new.disk) → count old.disk ≤ count new.disk
-      → GoesOn count old new
-  goes-on_by count old new found legal longer grown decided never =
+      → FitRecord new.pending → GoesOn count old new
+  goes-on_by count old new found legal longer grown decided never fit =
       let begins = IsPrefix-length old.history grown.repaired (repaired-begins old grown.repaired grown.found) in
       let recorded = grown.recorded in
       record {
@@ -164,6 +199,7 @@ module _ {D : Type 0} where
         room = omega (arith, begins, recorded);
         settled = settled (count old.disk) (count new.disk) new.pending decided;
         never_falls = never;
+        fit = fit;
       }
 
   -- the places of what was recorded are those of what is new, past what the repair found

@@ -43,7 +43,8 @@ module _ {K O : Type 0} (lock : TableId) (jobs : Jobs K) where
     fits = omega (arith, fits);
   }
 
-  pub gathering-push : (own parts : List Part) (group : List (Helped K O)) (bytes : ℕ) (part : Part) (helped : Helped K O)
+  pub gathering-push : (own parts : List Part) (group : List (Helped K O)) (bytes : ℕ) (part : Part)
+      (helped : Helped K O)
       → IsGathering own parts group bytes → IsHelped lock jobs part helped
       → bytes + asks_size part.asks.items ≤ MAX_RECORD_BYTES
       → IsGathering own (parts ++ part ∷ []) (group ++ helped ∷ []) (bytes + asks_size part.asks.items)

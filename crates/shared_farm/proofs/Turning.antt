@@ -1,5 +1,5 @@
 -- What a caller knows after a turn, from what the lock and the store say.
-use Rattle.std.proofs.Common.{◌≡◌, ◌++◌, List, ℕ, ◌+◌, ◌-◌, ◌≤◌, ◌⊎◌, ◌∷◌, [], Some, refl, inl, inr, ⊎_elim, length, take, arith, sym, ap, ◌∙◌, subst, append-nil}
+use Rattle.std.proofs.Common.{◌≡◌, ◌++◌, Bool, List, ℕ, ◌+◌, ◌-◌, ◌<◌, ◌≤◌, ◌⊎◌, ◌∷◌, [], Some, false, refl, inl, inr, ⊎_elim, length, take, arith, sym, ap, ◌∙◌, subst, append-nil}
 use Rattle.std.specs.Prelude.{Result, Ok, Err}
 use Rattle.farm_store.specs.Answering.{BatchSays, IsUndecided, IsUnrepaired}
 use Rattle.farm_store.specs.declared.asking.CallFault.TheVariants.{Refused, StoreFault, Memory}
@@ -16,7 +16,7 @@ use Rattle.farm_store.specs.declared.asking.Ask.{Ask}
 use Rattle.farm_store.specs.declared.asking.CallFault.{CallFault}
 use Rattle.list_prefix.specs.Prefix.{IsPrefix}
 use Rattle.list_prefix.proofs.Prefixes.{IsPrefix-length, IsPrefix-trans}
-use Rattle.turn_lock.specs.Known.{Before, IsSettled, Known, MayRise, known_after}
+use Rattle.turn_lock.specs.Known.{AccountsFor, Before, IsSettled, Known, MayRise, known_after, stake_after}
 use Rattle.turn_lock.specs.Places.{ArePlaces}
 use Rattle.turn_lock.specs.declared.view.Taken.{Taken}
 use Rattle.turn_lock.proofs.PlaceLists.{ArePlaces-append, ArePlaces-widen}
@@ -26,7 +26,8 @@ use Rattle.past_moments.specs.Rows.{AreAmong, IsAmong}
 use Rattle.past_moments.specs.declared.row.Row.{Row}
 use Rattle.shared_farm.specs.Errands.{IsErrand}
 use Rattle.shared_farm.specs.Logs.{IsNewest, IsOver, LockedState}
-use Rattle.shared_farm.specs.Turns.{AreOwn, IsTurnBy, KeepsPass, StaysSettled, TurnSays}
+use Rattle.shared_farm.specs.Turns.{AreOwn, IsTurnBy, KeepsPass, StaysSettled, TurnSays, failed_by}
+use Rattle.shared_farm.proofs.Accounting.{IsTold, grown-accounts}
 use Rattle.shared_farm.proofs.Recorded.{ArePlaces-own_places, own-places}
 
 -- a pass keeps its rows at a turn
@@ -65,27 +66,31 @@ pub record IsTaken {D : Type 0} (count : D → ℕ) (old : Known) (held : Before
 
 -- a turn of a caller, in which a store has answered
 pub record IsServing {D : Type 0} (count : D → ℕ) (old : Known) (held : Before) (found left : StoreState D)
-    (own : List ℕ) : Type 0 where
+    (own : List ℕ) (failed : Bool) : Type 0 where
   pub held_is : held.pass ≡ old
+  pub some : 0 < old.stake.parts
   pub places : ArePlaces 0 (length old.seen) old.mine
   pub taken : IsTaken count old held found
   pub answered : GoesOn count found left
   pub own_is : own ≡ own_places left
+  pub told : IsTold left failed
 
 -- and which was then given back, or went on to another caller
 pub record IsServed {D : Type 0} (count : D → ℕ) (old new : Known) (held : Before) (found left : StoreState D)
-    (own : List ℕ) : Type 0 where
-  pub serving : IsServing count old held found left own
+    (own : List ℕ) (failed : Bool) : Type 0 where
+  pub serving : IsServing count old held found left own failed
   pub lock : TableId
   pub log : List Row
-  pub new_is : new ≡ known_after lock held left.history own (count left.disk) left.pending log
+  pub new_is : new ≡ known_after lock held left.history own (count left.disk) left.pending log failed
 
 -- what a turn may be given back with, or go on with
-pub record IsGivable {D : Type 0} (count : D → ℕ) (held : Before) (left : StoreState D) (own : List ℕ) : Type 0 where
+pub record IsGivable {D : Type 0} (count : D → ℕ) (held : Before) (left : StoreState D) (own : List ℕ) (failed : Bool)
+    : Type 0 where
   pub grown : IsPrefix held.taken.entries left.history
   pub faults : held.taken.count ≤ count left.disk
   pub settled : IsSettled (Some held.taken.pending) held.taken.count (count left.disk) left.pending
   pub places : ArePlaces (length held.taken.entries) (length left.history) own
+  pub accounts : AccountsFor held.taken left.history left.pending own failed
 
 module _ {D : Type 0} (count : D → ℕ) (old : Known) (held : Before) where
   -- a turn took the store that is about to answer
@@ -115,8 +120,9 @@ module _ {D : Type 0} (count : D → ℕ) (old : Known) (held : Before) where
 
 -- the turn may be given back once the store has answered
 pub serving-givable : {D : Type 0} {count : D → ℕ} {old : Known} {held : Before} {found left : StoreState D}
-    {own : List ℕ} → IsServing count old held found left own → IsGivable count held left own
-serving-givable {count = count} {held = held} {found = found} {left = left} s =
+    {own : List ℕ} {failed : Bool} → IsServing count old held found left own failed
+    → IsGivable count held left own failed
+serving-givable {count = count} {held = held} {found = found} {left = left} {failed = failed} s =
     let took = s.taken.took in
     record {
       grown = subst (λ (t : Taken). IsPrefix t.entries left.history) (sym took) s.answered.longer;
@@ -125,10 +131,13 @@ serving-givable {count = count} {held = held} {found = found} {left = left} s =
       places = subst (λ (l : List ℕ). ArePlaces (length held.taken.entries) (length left.history) l) (sym s.own_is)
           (subst (λ (t : Taken). ArePlaces (length t.entries) (length left.history) (own_places left)) (sym took)
           (ArePlaces-own_places found left s.answered.room));
+      accounts = subst (λ (l : List ℕ). AccountsFor held.taken left.history left.pending l failed) (sym s.own_is)
+          (subst (λ (t : Taken). AccountsFor t left.history left.pending (own_places left) failed) (sym took)
+          (grown-accounts count found left failed s.answered.grown s.told));
     }
 
 module _ {D : Type 0} {count : D → ℕ} {old new : Known} {held : Before} {found left : StoreState D} {own : List ℕ}
-    (s : IsServed count old new held found left own) where
+    {failed : Bool} (s : IsServed count old new held found left own failed) where
   abbrev seen_is : new.seen ≡ left.history
   seen_is = ap (λ (k : Known). k.seen) s.new_is
 
@@ -168,9 +177,9 @@ module _ {D : Type 0} {count : D → ℕ} {old new : Known} {held : Before} {fou
       )
 
   pub served-turn : {T : Type 0} (Says : (x y : StoreState D) → Type 0) (result : Result T CallFault)
-      → Says found left → HasCallCause result (count found.disk) (count left.disk)
+      → failed ≡ failed_by result → Says found left → HasCallCause result (count found.disk) (count left.disk)
       → IsTurnBy count Says result old new
-  served-turn Says result says cause = record {
+  served-turn Says result fails says cause = record {
     found = found;
     left = left;
     used = ap (λ (k : Known). k.uses) s.new_is ∙ ap (λ (k : Known). k.uses + 1) s.serving.held_is;
@@ -185,7 +194,17 @@ module _ {D : Type 0} {count : D → ℕ} {old new : Known} {held : Before} {fou
     pending = ap (λ (k : Known). k.pending) s.new_is;
     faults_seen = ap (λ (k : Known). k.faults) s.new_is;
     mine = mine_is;
+    stake = ap (λ (k : Known). k.stake) s.new_is
+        ∙ (ap (λ (k : Known). stake_after k.stake failed left.history left.pending) s.serving.held_is
+        ∙ ap (λ (b : Bool). stake_after old.stake b left.history left.pending) fails);
+    fit = s.serving.answered.fit;
   }
+
+  parts_is : new.stake.parts ≡ old.stake.parts
+  parts_is = ap (λ (k : Known). k.stake.parts) s.new_is ∙ ap (λ (k : Known). k.stake.parts) s.serving.held_is
+
+  lending_is : new.stake.lending ≡ old.stake.lending
+  lending_is = ap (λ (k : Known). k.stake.lending) s.new_is ∙ ap (λ (k : Known). k.stake.lending) s.serving.held_is
 
   pub served-longer : IsPrefix old.seen new.seen
   served-longer =
@@ -212,6 +231,7 @@ module _ {D : Type 0} {count : D → ℕ} {old new : Known} {held : Before} {fou
         ready = record {
           own = ap (λ (k : Known). k.lock) s.new_is ∙ same;
           free = ap (λ (k : Known). k.ready) s.new_is;
+          some = subst (λ (n : ℕ). 0 < n) (sym parts_is) s.serving.some;
         };
         settled = served-settled;
         longer = served-longer;
@@ -219,14 +239,20 @@ module _ {D : Type 0} {count : D → ℕ} {old new : Known} {held : Before} {fou
         places = served-places;
         faults = omega (arith, low, high, last);
         rows = rows-after old new held s.log (ap (λ (k : Known). k.rows) s.new_is) s.serving.held_is;
+        parts = parts_is;
+        lending = lending_is;
       }
 
 -- what is kept of a pass whose turn gave the store back as it was
 pub look-keeps : {D : Type 0} (count : D → ℕ) (old new : Known) (held : Before) (store : StoreState D) (own : List ℕ)
-    (lock : TableId) (log : List Row) → held.pass ≡ old → IsTaken count old held store → ArePlaces 0 (length old.seen) old.mine
-    → IsLegal store.history → own ≡ []
-    → new ≡ known_after lock held store.history own (count store.disk) store.pending log → KeepsPass lock old new
-look-keeps count old new held store own lock log held_is taken places legal none new_is =
+    (lock : TableId) (log : List Row) → held.pass ≡ old → IsTaken count old held store → ArePlaces 0 (length old.seen)
+    old.mine
+    → IsLegal store.history → own ≡ [] → 0 < old.stake.parts → (failed : Bool)
+    → new ≡ known_after lock held store.history own (count store.disk) store.pending log failed
+    → KeepsPass lock old new
+look-keeps count old new held store own lock log held_is taken places legal none some failed new_is =
+    let parts_is : new.stake.parts ≡ old.stake.parts =
+    ap (λ (k : Known). k.stake.parts) new_is ∙ ap (λ (k : Known). k.stake.parts) held_is in
     let seen_is : new.seen ≡ store.history = ap (λ (k : Known). k.seen) new_is in
     let faults_is : new.faults ≡ count store.disk = ap (λ (k : Known). k.faults) new_is in
     let mine_is : new.mine ≡ old.mine =
@@ -235,7 +261,11 @@ look-keeps count old new held store own lock log held_is taken places legal none
     let le = IsPrefix-length old.seen store.history taken.begins in
     let low = taken.faults in
     record {
-      ready = record { own = ap (λ (k : Known). k.lock) new_is; free = ap (λ (k : Known). k.ready) new_is };
+      ready = record {
+        own = ap (λ (k : Known). k.lock) new_is;
+        free = ap (λ (k : Known). k.ready) new_is;
+        some = subst (λ (n : ℕ). 0 < n) (sym parts_is) some;
+      };
       settled = λ nothing same rises.
           let none_then : store.pending ≡ [] =
           taken.settled nothing (same ∙ faults_is) (subst MayRise faults_is rises) in (
@@ -249,7 +279,17 @@ look-keeps count old new held store own lock log held_is taken places legal none
           (ArePlaces-widen 0 (length old.seen) 0 (length store.history) old.mine (omega arith) le places));
       faults = omega (arith, low, faults_is);
       rows = rows-after old new held log (ap (λ (k : Known). k.rows) new_is) held_is;
+      parts = parts_is;
+      lending = ap (λ (k : Known). k.stake.lending) new_is ∙ ap (λ (k : Known). k.stake.lending) held_is;
     }
+
+-- and a turn that only looked left nothing undecided
+pub look-stake : (new old : Known) (held : Before) (lock : TableId) (entries pending : List Entry) (own : List ℕ)
+    (faults : ℕ) (log : List Row) (failed : Bool) → failed ≡ false → held.pass ≡ old
+    → new ≡ known_after lock held entries own faults pending log failed → new.stake ≡ old.stake
+look-stake new old held lock entries pending own faults log failed none held_is new_is =
+    ap (λ (k : Known). k.stake) new_is
+    ∙ (ap (λ (b : Bool). stake_after held.pass.stake b entries pending) none ∙ ap (λ (k : Known). k.stake) held_is)
 
 module _ {D : Type 0} (lock : TableId) where
   -- what a call of a store came to with a batch is what its turn came to, whose record had no others

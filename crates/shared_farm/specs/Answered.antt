@@ -3,7 +3,9 @@ use Rattle.std.specs.Prelude.{◌≡◌, ◌≤◌, ◌+◌, ◌-◌, ℕ, List,
 use Rattle.std.specs.List.{range_with_len}
 use Rattle.farm_entry.specs.Legal.{IsLegal}
 use Rattle.farm_entry.specs.declared.entry.Entry.{Entry}
+use Rattle.farm_store.specs.Sizes.{entries_size}
 use Rattle.farm_store.specs.State.{IsRepaired, StoreState}
+use Rattle.farm_store.specs.declared.asking.TheConstants.{MAX_RECORD_BYTES}
 use Rattle.list_prefix.specs.Prefix.{IsPrefix}
 use Rattle.turn_lock.specs.Known.{MayRise}
 
@@ -18,8 +20,12 @@ pub record IsGrown {D : Type 0} (old new : StoreState D) : Type 0 where
   pub begins : IsPrefix repaired new.history
   pub recorded : length new.history ≡ length repaired + new.recorded
 
+-- these entries fit one record
+abbrev pub FitRecord : List Entry → Type 0
+FitRecord entries = entries_size entries ≤ MAX_RECORD_BYTES
+
 -- A legal history went on to a legal one, by what a repair found and what was recorded then. Where the disk didn't
--- fail, nothing is pending.
+-- fail, nothing is pending, and never more than one record has.
 pub record GoesOn {D : Type 0} (count : D → ℕ) (old new : StoreState D) : Type 0 where
   pub found : IsLegal old.history
   pub legal : IsLegal new.history
@@ -28,3 +34,4 @@ pub record GoesOn {D : Type 0} (count : D → ℕ) (old new : StoreState D) : Ty
   pub room : length old.history + new.recorded ≤ length new.history
   pub settled : count old.disk ≡ count new.disk → MayRise (count new.disk) → new.pending ≡ []
   pub never_falls : count old.disk ≤ count new.disk
+  pub fit : FitRecord new.pending

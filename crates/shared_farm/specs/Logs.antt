@@ -7,15 +7,15 @@ use Rattle.farm_store.specs.State.{StoreState}
 use Rattle.past_moments.specs.Rows.{IsAmong}
 use Rattle.past_moments.specs.declared.row.Row.{Row}
 use Rattle.turn_lock.specs.Known.{Known}
-use Rattle.shared_farm.specs.declared.turn_log.Noted.{Noted}
+use Rattle.shared_farm.specs.declared.turn_log.TurnLeft.{TurnLeft}
 
 -- the bytes stand for a history that begins with this one
 abbrev pub HoldsAll : List Entry → List ℕ → Type 0
 HoldsAll history bytes = (more : List Entry) × StandsFor (history ++ more) bytes
 
 -- what is kept of a turn, as a row
-abbrev pub row_of : {O : Type 0} → (at : O → ℕ) → Noted O → Row
-row_of at noted = record { entries = noted.entries; moment = at noted.over }
+abbrev pub row_of : {O : Type 0} → (at : O → ℕ) → TurnLeft O → Row
+row_of at left = record { entries = left.entries; moment = at left.over }
 
 -- what the lock of a farm holds, as contracts see it: the store, and what each turn left, the newest first
 pub record LockedState (D : Type 0) : Type 0 where

@@ -1,5 +1,5 @@
 -- What one turn at a shared farm came to.
-use Rattle.std.specs.Prelude.{◌≡◌, ◌≤◌, ◌<◌, ◌+◌, ◌-◌, ◌⊎◌, ◌++◌, ℕ, List, [], length, All, Option, Some, Result, Ok, Err}
+use Rattle.std.specs.Prelude.{◌≡◌, ◌≤◌, ◌<◌, ◌+◌, ◌-◌, ◌⊎◌, ◌++◌, ℕ, Bool, true, false, List, [], length, All, Option, Some, Result, Ok, Err}
 use Rattle.std.specs.List.{range_with_len}
 use Rattle.atomic_table.specs.Seated.{TableId}
 use Rattle.farm_types.specs.declared.moment.Moment.{Moment}
@@ -18,9 +18,9 @@ use Rattle.farm_store.specs.declared.asking.CallFault.{CallFault}
 use Rattle.farm_store.specs.declared.asking.CallFault.TheVariants as fault
 use Rattle.list_prefix.specs.Prefix.{IsPrefix}
 use Rattle.past_moments.specs.Rows.{AreAmong}
-use Rattle.turn_lock.specs.Known.{IsReady, IsSettled, Known, MayRise}
+use Rattle.turn_lock.specs.Known.{IsReady, IsSettled, Known, MayRise, stake_after}
 use Rattle.turn_lock.specs.Places.{ArePlaces}
-use Rattle.shared_farm.specs.Answered.{own_places}
+use Rattle.shared_farm.specs.Answered.{FitRecord, own_places}
 use Rattle.shared_farm.specs.Errands.{IsErrand, errands_asks}
 use Rattle.shared_farm.specs.declared.errand.Errand.{Errand}
 use Rattle.shared_farm.specs.declared.sharing.TheConstants.{MOST_PARTS}
@@ -43,10 +43,18 @@ TurnSays lock asks (Err (fault.StoreFault before after)) old new =
     IsUnrepaired old new ⊎ IsUndecidedWith lock asks old new
 TurnSays lock asks (Err fault.Memory) old new = IsUnanswered old new
 
+-- the disk failed in a call
+abbrev pub failed_by : {T : Type 0} → Result T CallFault → Bool
+failed_by (Ok answer) = false
+failed_by (Err (fault.Refused cause)) = false
+failed_by (Err (fault.StoreFault before after)) = true
+failed_by (Err fault.Memory) = false
+
 -- The pass was used once, and the store that its turn took had a legal history that begins with all that the caller
 -- had seen. Of that store and the one that was given back this holds, and the pass has then seen the latter. The places
 -- of the pass are those that it had and those of the entries that this turn recorded. A fault of the disk has counts
--- between those that the caller saw before and after, which are counts of a disk.
+-- between those that the caller saw before and after, which are counts of a disk. Where the disk failed, the pass has
+-- what is pending now as left undecided by its turn, which fits one record.
 pub record IsTurnBy {D T : Type 0} (count : D → ℕ) (Says : (found left : StoreState D) → Type 0)
     (result : Result T CallFault) (old new : Known) : Type 0 where
   pub found : StoreState D
@@ -63,6 +71,8 @@ pub record IsTurnBy {D T : Type 0} (count : D → ℕ) (Says : (found left : Sto
   pub pending : new.pending ≡ Some left.pending
   pub faults_seen : new.faults ≡ count left.disk
   pub mine : new.mine ≡ old.mine ++ own_places left
+  pub stake : new.stake ≡ stake_after old.stake (failed_by result) left.history left.pending
+  pub fit : FitRecord left.pending
 
 -- the turn answered one command at a moment, whose record nobody shares
 abbrev pub IsCall : {D : Type 0} → (D → ℕ) → Command → Moment → Result Reply CallFault → (old new : Known) → Type 0
@@ -91,6 +101,7 @@ pub record IsLook (old new : Known) : Type 0 where
   pub seen : new.seen ≡ new.last.entries
   pub faults : new.faults ≡ new.last.count
   pub pending : new.pending ≡ Some new.last.pending
+  pub stake : new.stake ≡ old.stake
 
 -- where the caller saw that nothing was pending, and the disk has not failed since then, nothing was pending when the
 -- turn began, and nothing is after it
@@ -101,7 +112,7 @@ StaysSettled old new =
 
 -- What is kept of a pass at its turn, whatever was done: it is ready again, has seen a legal history that begins with
 -- the one that it had seen, and a count of faults that hasn't fallen, its places lie in that history, and it keeps its
--- rows.
+-- rows, its parts of the lock, and what it lent and borrowed.
 pub record KeepsPass (lock : TableId) (old new : Known) : Type 0 where
   pub ready : IsReady lock new
   pub settled : StaysSettled old new
@@ -110,3 +121,5 @@ pub record KeepsPass (lock : TableId) (old new : Known) : Type 0 where
   pub places : ArePlaces 0 (length new.seen) new.mine
   pub faults : old.faults ≤ new.faults
   pub rows : AreAmong old.rows new.rows
+  pub parts : new.stake.parts ≡ old.stake.parts
+  pub lending : new.stake.lending ≡ old.stake.lending

@@ -1,21 +1,26 @@
 //! The shared farm.
-ghost use Rattle.std.specs.Prelude.{◌≡◌, ◌≤◌, ◌<◌, ◌↔◌, ◌+◌, ◌++◌, ◌∷◌, [], true, Some, IfOk, IfErr, IfSome, length, max};
+ghost use Rattle.std.specs.Prelude.{◌≡◌, ◌≤◌, ◌<◌, ◌↔◌, ◌+◌, ◌++◌, ◌∷◌, [], true, Some, None, IfOk, IfErr, IfSome, IsSome, length, max};
 ghost use Rattle.entry_codec.specs.LogPage.{log_page};
 ghost use Rattle.farm_store.specs.declared.asking.TheConstants.{MAX_BATCH};
 ghost use Rattle.list_prefix.specs.Prefix.{IsPrefix, longer};
-ghost use Rattle.turn_lock.specs.Known.{IsReady, both_pending, no_turn};
+ghost use Rattle.turn_lock.specs.Known.{IsOwned, IsReady, all_parts, both_pending, both_stakes, first_stake, no_turn};
+ghost use Rattle.turn_lock.specs.Known.{half_given, half_kept, stake_given, stake_kept};
+ghost use Rattle.turn_lock.specs.Loans.{HasOut};
 ghost use Rattle.turn_lock.specs.Places.{ArePlaces, both_places};
+ghost use Rattle.shared_farm.specs.Answered.{FitRecord};
 ghost use Rattle.shared_farm.specs.Errands.{IsErrand};
 ghost use Rattle.shared_farm.specs.Logs.{AreLogged, IsOver};
 ghost use Rattle.shared_farm.specs.Outcomes.{IsDone};
+ghost use Rattle.shared_farm.specs.Posted.{IsPicked};
 ghost use Rattle.shared_farm.specs.Rests.{CameBy};
 ghost use Rattle.shared_farm.specs.Turns.{AreOwn, EntersInTurn, IsCall, IsLook, IsTurn, KeepsPass};
 
 use crate::beginning::Beginning;
 use crate::errand::{Errands, FarmLock};
 use crate::group_wait::GroupWait;
-use crate::locked::Locked;
-use crate::reader::TotalsReader;
+use crate::locked::{Locked, has_failed};
+use crate::posted::PostedStore;
+use crate::reader::{TotalsMark, TotalsReader};
 use crate::sharing::{ask_alone, hand_in};
 use farm_disk::DatedDisk;
 use farm_entry::{Command, LeasedRun, Reply};
@@ -51,9 +56,12 @@ impl<D: DatedDisk, B: Beginning> Model for SharedFarm<D, B> {
 }
 
 impl<D: DatedDisk, B: Beginning> SharedFarm<D, B> {
-    /// The farm of a store, and a pass that has seen just its history. Running out of memory hands the store back.
+    /// The farm of a store, and a pass that has seen just its history, where no board is picked. Running out of memory
+    /// hands the store back.
     pub fn of(alloc: Global, store: Store<D>) -> Result<(SharedFarm<D, B>, Pass), Store<D>>
         requires came { IfSome B.begun (λ begun. CameBy D.Disk begun store) }
+        requires board { B.board ≡ None }
+        requires fit { FitRecord store.pending }
         ensures pass { IfOk result (λ made. made.1 ≡ record {
           lock = made.0;
           ready = true;
@@ -64,14 +72,47 @@ impl<D: DatedDisk, B: Beginning> SharedFarm<D, B> {
           last = no_turn;
           pending = Some store.pending;
           rows = record { entries = length store.history; moment = D.dated store.disk } ∷ [];
+          stake = first_stake store.history store.pending;
         }) }
         ensures back { IfErr result (λ same. same ≡ store) }
     {
-        let locked = match Locked::new(alloc, store) {
-            Ok(locked) => locked,
+        let posted = match PostedStore::of(alloc, store) {
+            Ok(posted) => posted,
             Err(store) => return Err(store),
         };
-        let locked = match Box::new(alloc, locked) {
+        match SharedFarm::<D, B>::share(alloc, posted) {
+            Ok((farm, pass, _)) => Ok((farm, pass)),
+            Err(store) => Err(store),
+        }
+    }
+
+    /// The farm of a store whose totals are posted, a pass that has seen just its history, and a mark of the totals
+    /// that has seen as much. Running out of memory hands the store back.
+    pub fn share(
+        alloc: Global,
+        posted: PostedStore<D>,
+    ) -> Result<(SharedFarm<D, B>, Pass, TotalsMark<B>), Store<D>>
+        requires came { IfSome B.begun (λ begun. CameBy D.Disk begun posted.store) }
+        requires board { IsPicked B.board posted.board }
+        requires fit { FitRecord posted.store.pending }
+        ensures pass { IfOk result (λ made. made.1 ≡ record {
+          lock = made.0;
+          ready = true;
+          seen = posted.store.history;
+          mine = [];
+          faults = D.count posted.store.disk;
+          uses = 0;
+          last = no_turn;
+          pending = Some posted.store.pending;
+          rows = record { entries = length posted.store.history; moment = D.dated posted.store.disk } ∷ [];
+          stake = first_stake posted.store.history posted.store.pending;
+        }) }
+        ensures mark { IfOk result (λ made. made.2 ≡ posted.store.history) }
+        ensures back { IfErr result (λ same. same ≡ posted.store) }
+    {
+        let mut posted = posted;
+        let mark = posted.mark::<B>();
+        let locked = match Box::new(alloc, Locked::new(posted)) {
             Ok(boxed) => boxed,
             Err(failed) => return Err(failed.value.into_store()),
         };
@@ -86,16 +127,23 @@ impl<D: DatedDisk, B: Beginning> SharedFarm<D, B> {
                         waits,
                     },
                     pass,
+                    mark,
                 ))
             }
             Err(locked) => Err(Box::into_inner(locked).into_store()),
         }
     }
 
-    /// Another pass, which has seen as much and has no calls of its own. It takes no memory.
+    /// Another pass, which has seen as much and has no calls of its own. It gets one of the pass's parts of the farm,
+    /// of which there are `all_parts` of `turn_lock`. It takes no memory.
     pub fn split(&self, pass: &mut Pass) -> Pass
         requires ready { IsReady self.now pass.old }
-        ensures same { pass.new ≡ record pass.old { uses = pass.old.uses + 1; last = no_turn } }
+        requires parts { 1 < pass.old.stake.parts }
+        ensures same { pass.new ≡ record pass.old {
+          uses = pass.old.uses + 1;
+          last = no_turn;
+          stake = stake_kept pass.old.seen pass.old.faults pass.old.stake;
+        } }
         ensures other { result ≡ record {
           lock = self.now;
           ready = true;
@@ -106,9 +154,35 @@ impl<D: DatedDisk, B: Beginning> SharedFarm<D, B> {
           last = no_turn;
           pending = pass.old.pending;
           rows = pass.old.rows;
+          stake = stake_given pass.old.seen pass.old.faults pass.old.stake;
         } }
     {
         self.lock.split(pass)
+    }
+
+    /// The same, where the other pass gets half of the parts, so that each of the two may be split again.
+    pub fn halve(&self, pass: &mut Pass) -> Pass
+        requires ready { IsReady self.now pass.old }
+        requires parts { 1 < pass.old.stake.parts }
+        ensures same { pass.new ≡ record pass.old {
+          uses = pass.old.uses + 1;
+          last = no_turn;
+          stake = half_kept pass.old.seen pass.old.faults pass.old.stake;
+        } }
+        ensures other { result ≡ record {
+          lock = self.now;
+          ready = true;
+          seen = pass.old.seen;
+          mine = [];
+          faults = pass.old.faults;
+          uses = 0;
+          last = no_turn;
+          pending = pass.old.pending;
+          rows = pass.old.rows;
+          stake = half_given pass.old.seen pass.old.faults pass.old.stake;
+        } }
+    {
+        self.lock.halve(pass)
     }
 
     /// Takes in what another pass knows: the longer of the two histories, which begins with both, the greater count,
@@ -127,6 +201,8 @@ impl<D: DatedDisk, B: Beginning> SharedFarm<D, B> {
         ensures last { pass.new.last ≡ no_turn }
         ensures pending { pass.new.pending ≡ both_pending pass.old.pending other.pending }
         ensures rows { pass.new.rows ≡ pass.old.rows ++ other.rows }
+        ensures stake { pass.new.stake ≡ both_stakes pass.old.stake other.stake }
+        ensures out { HasOut pass.new.stake.lending }
     {
         self.lock.join(pass, other);
     }
@@ -153,6 +229,7 @@ impl<D: DatedDisk, B: Beginning> SharedFarm<D, B> {
     {
         let mut turn = self.lock.turn(rt, pass);
         let result = turn.value.call(alloc, command, at);
+        turn.failed = has_failed(&result);
         turn.own = turn.value.own_places();
         self.lock.back(turn, pass);
         self.ring_next();
@@ -180,6 +257,7 @@ impl<D: DatedDisk, B: Beginning> SharedFarm<D, B> {
     {
         let mut turn = self.lock.turn(rt, pass);
         let result = turn.value.enter(alloc, command, at);
+        turn.failed = has_failed(&result);
         turn.own = turn.value.own_places();
         self.lock.back(turn, pass);
         self.ring_next();
@@ -190,7 +268,7 @@ impl<D: DatedDisk, B: Beginning> SharedFarm<D, B> {
     /// stored in one record. Callers who wait while turns are long share a record: whoever has the turn then answers
     /// their asks behind its own, each caller's at a turn of its own in the history, and stores them all at once. The
     /// asks come back as they are. Beside the answers it gives a moment of the disk that was over after the turn, by
-    /// which all that the pass has seen then stood.
+    /// which all that the pass has then seen stood.
     ///
     /// # Errors
     ///
@@ -224,7 +302,7 @@ impl<D: DatedDisk, B: Beginning> SharedFarm<D, B> {
     }
 
     /// A reader of totals, made in a turn that changes nothing: it has seen that turn's history, and so has the pass.
-    pub fn reader<R: Wait>(&self, rt: &R, pass: &mut Pass) -> Result<TotalsReader, Memory>
+    pub fn reader<R: Wait>(&self, rt: &R, pass: &mut Pass) -> Result<TotalsReader<B>, Memory>
         requires ready { IsReady self.now pass.old }
         ensures look { IsLook pass.old pass.new }
         ensures mine { pass.new.mine ≡ pass.old.mine }
@@ -236,6 +314,22 @@ impl<D: DatedDisk, B: Beginning> SharedFarm<D, B> {
         self.lock.back(turn, pass);
         self.ring_next();
         reader
+    }
+
+    /// Holds what readers of this farm have seen together against its history, in a turn that changes nothing. The
+    /// history that the pass has then seen begins with it.
+    pub fn meet<R: Wait>(&self, rt: &R, pass: &mut Pass, mark: TotalsMark<B>)
+        requires ready { IsReady self.now pass.old }
+        requires picked { IsSome B.board }
+        ensures look { IsLook pass.old pass.new }
+        ensures mine { pass.new.mine ≡ pass.old.mine }
+        ensures keeps { KeepsPass self.now pass.old pass.new }
+        ensures seen { IsPrefix mark pass.new.seen }
+    {
+        let mut turn = self.lock.turn(rt, pass);
+        turn.value.meet(mark);
+        self.lock.back(turn, pass);
+        self.ring_next();
     }
 
     /// The bytes of a log page: the spelling of the most entries of the history, from this one on, counted from 1, that
@@ -270,13 +364,16 @@ impl<D: DatedDisk, B: Beginning> SharedFarm<D, B> {
         (page, over)
     }
 
-    /// The store. Where a turn is out that was never given back, it waits and doesn't return.
+    /// The store. Where a turn is out that was never given back, it waits and doesn't return. Each entry of its history
+    /// was recorded for the pass, or was pending in what it left undecided, where it has all parts of the farm.
     pub fn close<R: Wait>(self, rt: &R, pass: Pass) -> Store<D>
         requires ready { IsReady self pass }
         ensures seen { IsPrefix pass.seen result.history }
         ensures faults { pass.faults ≤ D.count result.disk }
         ensures came { IfSome B.begun (λ begun. CameBy D.Disk begun result) }
         ensures logged { D.tells result.disk ≡ true → AreLogged result.history (D.told result.disk) pass.rows }
+        ensures owned { pass.stake.parts ≡ all_parts → IsOwned pass.mine pass.stake.undecided result.history }
+        ensures fit { FitRecord result.pending }
     {
         let SharedFarm {
             lock,

@@ -17,7 +17,10 @@
 //! `SharedFarm::close` gives the store back: its history begins with all that the pass has seen, and its disk's count
 //! of faults is at least what the pass knew of it. Where the call that shares the farm picks its [`Beginning`], it is
 //! known too what became of the store turn by turn, and so what a crash leaves at each moment; or that commands alone
-//! added to it, so that it isn't closed (`specs/Rests`).
+//! added to it, so that it isn't closed (`specs/Rests`). Where that call picks the board of the totals, too, all that
+//! readers have seen begins the history: their [`TotalsMark`] takes in what each has seen, and [`SharedFarm::meet`]
+//! holds it against the history in a turn. So that there is a board to pick, a [`PostedStore`] has it before the farm
+//! is shared.
 //!
 //! The crate stands on `farm_store` for the farm, on `turn_lock` for turns and passes, on `job_table` for errands, on
 //! `farm_board` for the totals, and on `entry_codec` for log pages. Contracts see a shared farm as the name of its
@@ -30,6 +33,7 @@ mod errand;
 mod farm;
 mod group_wait;
 mod locked;
+mod posted;
 mod reader;
 mod round;
 mod sharing;
@@ -37,5 +41,6 @@ mod turn_log;
 
 pub use beginning::Beginning;
 pub use farm::SharedFarm;
-pub use reader::TotalsReader;
+pub use posted::PostedStore;
+pub use reader::{TotalsMark, TotalsReader};
 pub use turn_lock::Pass;

@@ -1,5 +1,5 @@
 //! What the lock of a shared farm holds.
-ghost use Rattle.std.specs.Prelude.{◌≡◌, ◌≤◌, ◌<◌, ◌↔◌, ◌∷◌, [], true, IfErr, IfOk, IfSome, length, map};
+ghost use Rattle.std.specs.Prelude.{◌≡◌, ◌≤◌, ◌<◌, ◌↔◌, ◌∷◌, [], true, IfOk, IfSome, IsSome, length, map};
 ghost use Rattle.std.specs.Arc.{arc_value};
 ghost use Rattle.entry_codec.specs.LogPage.{log_page};
 ghost use Rattle.farm_disk.specs.Images.{moment};
@@ -13,13 +13,16 @@ ghost use Rattle.farm_store.specs.Together.{TogetherSays, all_asks};
 ghost use Rattle.farm_store.specs.declared.asking.TheConstants.{MAX_BATCH, MAX_RECORD_BYTES};
 ghost use Rattle.list_prefix.specs.Prefix.{IsPrefix};
 ghost use Rattle.past_moments.specs.Rows.{IsOlder};
-ghost use Rattle.shared_farm.specs.Answered.{GoesOn, own_places};
+ghost use Rattle.shared_farm.specs.Answered.{FitRecord, GoesOn, own_places};
 ghost use Rattle.shared_farm.specs.Logs.{AreLogged, IsNewest};
+ghost use Rattle.shared_farm.specs.Posted.{IsPicked};
 ghost use Rattle.shared_farm.specs.Rests.{CameBy};
+ghost use Rattle.shared_farm.specs.Turns.{failed_by};
 
 use crate::beginning::Beginning;
-use crate::reader::TotalsReader;
-use crate::turn_log::{Noted, TurnLog};
+use crate::posted::PostedStore;
+use crate::reader::{TotalsMark, TotalsReader};
+use crate::turn_log::{TurnLeft, TurnLog};
 use entry_codec::write_log_page;
 use farm_board::{Board, BoardPass};
 use farm_disk::DatedDisk;
@@ -35,7 +38,7 @@ use turn_lock::{Places, Stands};
 /// A store and the board of its totals, with the pass that posts them, and what each turn left. Between two calls the
 /// totals of the whole history are posted, and the row that was told last is of now. Where it is picked what the farm
 /// began with, the store came from that by turns: a lock that holds a store says no more of it than that there is one.
-/// Contracts see it as the store and the rows.
+/// And so it is with the board. No more is pending than fits one record. Contracts see it as the store and the rows.
 #[derive(Drop)]
 pub struct Locked<D: DatedDisk, B: Beginning> {
     store: Store<D>,
@@ -48,7 +51,9 @@ pub struct Locked<D: DatedDisk, B: Beginning> {
 impl<D: DatedDisk, B: Beginning> Model for Locked<D, B> {
     ghost use Rattle.std.specs.Prelude.{◌≡◌, true, IfSome};
     ghost use Rattle.std.specs.Arc.{arc_value};
+    ghost use Rattle.shared_farm.specs.Answered.{FitRecord};
     ghost use Rattle.shared_farm.specs.Logs.{AreLogged, IsNewest, LockedState};
+    ghost use Rattle.shared_farm.specs.Posted.{IsPicked};
     ghost use Rattle.shared_farm.specs.Rests.{CameBy};
 
     ghost Value = { LockedState D };
@@ -58,7 +63,8 @@ impl<D: DatedDisk, B: Beginning> Model for Locked<D, B> {
     ghost invariant = { λ l. (l.posting.board ≡ arc_value l.board) × (l.posting.posts ≡ true)
         × (l.posting.seen ≡ l.store.history) × IfSome B.begun (λ begun. CameBy D.Disk begun l.store)
         × (D.tells l.store.disk ≡ true → AreLogged l.store.history (D.told l.store.disk) l.log)
-        × IsNewest D.dated (record { store = l.store; log = l.log }) };
+        × IsNewest D.dated (record { store = l.store; log = l.log })
+        × IsPicked B.board (arc_value l.board) × FitRecord l.store.pending };
 }
 
 impl<D: DatedDisk, B: Beginning> Stands for Locked<D, B> {
@@ -72,28 +78,28 @@ impl<D: DatedDisk, B: Beginning> Stands for Locked<D, B> {
 }
 
 impl<D: DatedDisk, B: Beginning> Locked<D, B> {
-    /// A store, whose totals are posted. Running out of memory hands it back.
-    pub fn new(alloc: Global, store: Store<D>) -> Result<Locked<D, B>, Store<D>>
-        requires came { IfSome B.begun (λ begun. CameBy D.Disk begun store) }
-        ensures same { IfOk result (λ locked. locked.store ≡ store) }
-        ensures newest { IfOk result (λ locked. IsNewest D.dated locked) }
-        ensures back { IfErr result (λ same. same ≡ store) }
+    /// A store whose totals are posted.
+    pub fn new(posted: PostedStore<D>) -> Locked<D, B>
+        requires came { IfSome B.begun (λ begun. CameBy D.Disk begun posted.store) }
+        requires board { IsPicked B.board posted.board }
+        requires fit { FitRecord posted.store.pending }
+        ensures same { result.store ≡ posted.store }
+        ensures newest { IsNewest D.dated result }
     {
-        let Ok((board, posting)) = Board::of(alloc, store.totals(), store.history()) else {
-            return Err(store);
-        };
-        let Ok(board) = Arc::new(alloc, board) else {
-            return Err(store);
-        };
+        let PostedStore {
+            store,
+            board,
+            posting,
+        } = posted;
         let mut log = TurnLog::new();
         tell(&mut log, &store);
-        Ok(Locked {
+        Locked {
             store,
             board,
             posting,
             log,
             of: PhantomData,
-        })
+        }
     }
 
     /// Answers a command, and posts the totals.
@@ -205,7 +211,7 @@ impl<D: DatedDisk, B: Beginning> Locked<D, B> {
     }
 
     /// A reader that has seen the whole history.
-    pub fn reader(&mut self) -> Result<TotalsReader, Memory>
+    pub fn reader(&mut self) -> Result<TotalsReader<B>, Memory>
         ensures same { self.new ≡ self.old }
         ensures legal { IsLegal self.new.store.history }
         ensures seen { IfOk result (λ reader. reader ≡ self.new.store.history) }
@@ -215,9 +221,22 @@ impl<D: DatedDisk, B: Beginning> Locked<D, B> {
             Ok(mine) => Ok(TotalsReader {
                 pass: self.board.split(&mut self.posting),
                 board: mine,
+                of: PhantomData,
             }),
             Err(_) => Err(Memory),
         }
+    }
+
+    /// Holds what readers have seen against the history, which begins with it.
+    pub fn meet(&mut self, mark: TotalsMark<B>)
+        requires picked { IsSome B.board }
+        ensures same { self.new ≡ self.old }
+        ensures legal { IsLegal self.new.store.history }
+        ensures seen { IsPrefix mark self.new.store.history }
+    {
+        let _ = self.store.history();
+        let TotalsMark { pass, of: _ } = mark;
+        self.board.meet(&mut self.posting, pass);
     }
 
     /// The store again.
@@ -225,6 +244,7 @@ impl<D: DatedDisk, B: Beginning> Locked<D, B> {
         ensures same { result ≡ self.store }
         ensures came { IfSome B.begun (λ begun. CameBy D.Disk begun result) }
         ensures logged { D.tells result.disk ≡ true → AreLogged result.history (D.told result.disk) self.log }
+        ensures fit { FitRecord result.pending }
     {
         let Locked {
             store,
@@ -234,6 +254,16 @@ impl<D: DatedDisk, B: Beginning> Locked<D, B> {
             of: _,
         } = self;
         store
+    }
+}
+
+/// Whether the disk failed in a call.
+pub fn has_failed<T>(answer: &Result<T, CallFault>) -> bool
+    ensures { result ≡ failed_by answer.now }
+{
+    match answer {
+        Err(CallFault::StoreFault { .. }) => true,
+        _ => false,
     }
 }
 
@@ -255,7 +285,7 @@ fn tell<D: DatedDisk>(log: &mut TurnLog<D::Over>, store: &Store<D>)
     ensures stored { D.tells store.now.disk ≡ true
         → IsStored store.now.history store.now.pending (D.told store.now.disk) }
 {
-    log.tell(&Noted {
+    log.tell(&TurnLeft {
         entries: store.history().len() as u64,
         over: store.passed(),
     });

@@ -2,13 +2,13 @@
 ghost use Rattle.std.specs.Prelude.{◌≡◌, ◌≤◌, [], false, Some, length, take};
 ghost use Rattle.list_prefix.specs.Prefix.{IsPrefix};
 ghost use Rattle.past_moments.specs.Rows.{IsOlder};
-ghost use Rattle.turn_lock.specs.Known.{IsReady, IsSettled, known_after};
+ghost use Rattle.turn_lock.specs.Known.{AccountsFor, IsReady, IsSettled, known_after};
 ghost use Rattle.turn_lock.specs.Places.{ArePlaces};
 ghost use Rattle.shared_farm.specs.Rounds.{AreHelped, IsShared};
 
 use crate::beginning::Beginning;
 use crate::errand::{Errands, FarmLock, Helped, Outcome};
-use crate::locked::Locked;
+use crate::locked::{Locked, has_failed};
 use farm_disk::DatedDisk;
 use farm_store::Part;
 use std::alloc::Global;
@@ -38,8 +38,10 @@ pub fn share_out<D: DatedDisk, B: Beginning>(
     requires shared { IsShared turn.value.value.store shown parts.old.items }
     requires logged { IsOlder turn.before.log turn.value.value.log }
     requires helped { AreHelped lock.now errands.now parts.old.items group.old.items }
+    requires owned { AccountsFor turn.before.taken (take shown turn.value.value.store.history)
+        turn.value.value.store.pending turn.own turn.failed }
     ensures pass { pass.new ≡ known_after lock.now turn.before (take shown turn.value.value.store.history) turn.own
-        (D.count turn.value.value.store.disk) turn.value.value.store.pending turn.value.value.log }
+        (D.count turn.value.value.store.disk) turn.value.value.store.pending turn.value.value.log turn.failed }
     ensures all { group.new.items ≡ [] }
 {
     if group.is_empty() {
@@ -87,8 +89,10 @@ pub fn ask_each<D: DatedDisk, B: Beginning>(
     requires places { ArePlaces (length turn.before.taken.entries) (length turn.value.value.store.history) turn.own }
     requires logged { IsOlder turn.before.log turn.value.value.log }
     requires helped { AreHelped lock.now errands.now parts.old.items group.old.items }
+    requires owned { AccountsFor turn.before.taken turn.value.value.store.history turn.value.value.store.pending
+        turn.own turn.failed }
     ensures pass { pass.new ≡ known_after lock.now turn.before turn.value.value.store.history turn.own
-        (D.count turn.value.value.store.disk) turn.value.value.store.pending turn.value.value.log }
+        (D.count turn.value.value.store.disk) turn.value.value.store.pending turn.value.value.log turn.failed }
     ensures all { group.new.items ≡ [] }
 {
     if group.is_empty() {
@@ -107,6 +111,7 @@ pub fn ask_each<D: DatedDisk, B: Beginning>(
     let shown = turn.value.history().len();
     let mut turn = lock.hand_on(turn, pass, &mut next, shown);
     let result = turn.value.call_batch(alloc, &asks);
+    turn.failed = has_failed(&result);
     turn.own = turn.value.own_places();
     let over = turn.value.passed();
     ask_each(lock, errands, alloc, turn, &mut next, parts, group);

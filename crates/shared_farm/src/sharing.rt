@@ -1,5 +1,5 @@
 //! Batches of callers who share a record while turns are long.
-ghost use Rattle.std.specs.Prelude.{◌≡◌, ◌≤◌, ◌++◌, [], List, false, drop, length};
+ghost use Rattle.std.specs.Prelude.{◌≡◌, ◌<◌, ◌≤◌, ◌++◌, [], List, false, drop, length};
 ghost use Rattle.farm_store.specs.declared.asking.Part.{Part};
 ghost use Rattle.farm_store.specs.Sizes.{asks_size};
 ghost use Rattle.farm_store.specs.Together.{all_asks};
@@ -16,7 +16,7 @@ ghost use Rattle.shared_farm.specs.declared.sharing.TheConstants.{MOST_PARTS};
 use crate::beginning::Beginning;
 use crate::errand::{Errand, Errands, FarmLock, Helped, Outcome};
 use crate::group_wait::GroupWait;
-use crate::locked::Locked;
+use crate::locked::{Locked, has_failed};
 use crate::round::{ask_each, share_out};
 use farm_disk::DatedDisk;
 use farm_store::{Answers, Ask, CallFault, MAX_BATCH_BYTES, MAX_RECORD_BYTES, Part, most_bytes};
@@ -34,7 +34,7 @@ pub const MOST_PARTS: usize = 16;
 const MOST_LOOKS: u32 = 64;
 
 /// Asks a batch as an errand, which another caller may run. The asks come back as they are, and with the answers a
-/// moment that is over, by which all that the pass has seen then stood.
+/// moment that is over, by which all that the pass has then seen stood.
 pub fn hand_in<R: Wait, D: DatedDisk, B: Beginning>(
     rt: &R,
     lock: &FarmLock<D, B>,
@@ -174,6 +174,7 @@ pub fn ask_alone<R: Wait, D: DatedDisk, B: Beginning>(
 {
     let mut turn = lock.turn(rt, pass);
     let result = turn.value.call_batch(alloc, asks);
+    turn.failed = has_failed(&result);
     turn.own = turn.value.own_places();
     let over = turn.value.passed();
     lock.back(turn, pass);
@@ -301,6 +302,7 @@ fn share<D: DatedDisk, B: Beginning>(
     requires begins { IsJustTaken D.count turn.before turn.value.value.store }
     requires logged { IsOlder turn.before.log turn.value.value.log }
     requires nothing { turn.own ≡ [] }
+    requires part { 0 < turn.before.pass.stake.parts }
     ensures asks { result.0.items ≡ first_asks parts.items }
     ensures had { HadTurn D.count lock.now (first_asks parts.items) result.1 turn.before.pass pass.new }
     ensures over { IsOver (D.Over.at result.2) pass.new }
@@ -309,6 +311,7 @@ fn share<D: DatedDisk, B: Beginning>(
     let mut parts = parts;
     let mut group = group;
     let result = turn.value.call_together(alloc, &mut parts);
+    turn.failed = has_failed(&result);
     let start = turn.value.history().len() - turn.value.recorded();
     waits.note(errands, parts.len(), turn.value.recorded());
     let over = turn.value.passed();

@@ -8,7 +8,7 @@ use told_list::ToldList;
 
 /// What is kept of a turn: how many entries the history had after it, and a moment of the disk that was over then.
 #[derive(Drop)]
-pub(crate) struct Noted<O> {
+pub(crate) struct TurnLeft<O> {
     pub entries: u64,
     pub over: O,
 }
@@ -16,7 +16,7 @@ pub(crate) struct Noted<O> {
 /// What each turn left. Contracts see it as a list of rows, the newest first. It takes the bytes of a flag.
 #[derive(Drop)]
 pub(crate) struct TurnLog<O: Past> {
-    turns: ToldList<Noted<O>>,
+    turns: ToldList<TurnLeft<O>>,
 }
 
 impl<O: Past> Model for TurnLog<O> {
@@ -26,7 +26,7 @@ impl<O: Past> Model for TurnLog<O> {
 
     ghost Value = { List Row };
 
-    ghost view = { λ l. map (λ noted. row_of O.at noted) l.turns };
+    ghost view = { λ l. map (λ left. row_of O.at left) l.turns };
 }
 
 impl<O: Past> TurnLog<O> {
@@ -40,9 +40,9 @@ impl<O: Past> TurnLog<O> {
     }
 
     /// Tells what a turn left.
-    pub fn tell(&mut self, noted: &Noted<O>)
-        ensures { self.new ≡ row_of O.at noted.now ∷ self.old }
+    pub fn tell(&mut self, left: &TurnLeft<O>)
+        ensures { self.new ≡ row_of O.at left.now ∷ self.old }
     {
-        self.turns.tell(noted);
+        self.turns.tell(left);
     }
 }

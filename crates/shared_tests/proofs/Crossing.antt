@@ -1,31 +1,27 @@
--- A farm over a disk in memory may be lent to several threads.
+-- A farm over any disk that may be handed to another thread may be lent to several.
+use denote.RattleType.{RattleType}
 use denote.Param.Send.{IsSend, IsSync, sendable}
 use Rattle.std.proofs.Crossing.{crosses}
-use Rattle.farm_disk.specs.contracts.in_memory.calm_disk.CalmDisk as CalmDisk
-use Rattle.farm_disk.specs.contracts.in_memory.calm_disk.CalmDiskDatedDisk.TheImpl as dated
-use Rattle.farm_disk.specs.contracts.in_memory.calm_disk.CalmDiskDisk.TheImpl.{ghosts}
+use Rattle.farm_disk.specs.declared.dated.DatedDisk as dated
+use Rattle.farm_disk.specs.declared.disk.Disk.{Ghosts}
 use Rattle.past_moments.specs.contracts.passed.Passed as Passed
 use Rattle.past_moments.specs.contracts.passed.PassedPast.TheImpl as past
 use Rattle.std.specs.contracts.marker.Brand as Brand
 use Rattle.shared_farm.specs.contracts.farm.SharedFarm as SharedFarm
 use Rattle.shared_farm.specs.contracts.beginning.BrandBeginning.TheImpl as begun
-use Rattle.told_list.proofs.Crossing.{told_list-send}
-use Rattle.shared_farm.proofs.Crossing.{shared_farm-sync, along}
-
-calm_disk-send : IsSend CalmDisk.the_row
-calm_disk-send = search (told_list-send, sendable, crosses) depth 20
+use Rattle.shared_farm.proofs.Crossing.{shared_farm-sync}
+use Rattle.turn_lock.proofs.pass.Pass.TheSendSync as Pass
 
 pub passed-send : IsSend Passed.the_row
-passed-send = search (told_list-send, sendable, crosses) depth 20
+passed-send = search (sendable, crosses) depth 20
 
-brand-send : IsSend Brand.the_row
+pub brand-send : IsSend Brand.the_row
 brand-send = search (sendable, crosses) depth 20
 
-pub calm_farm-sync : IsSync (SharedFarm.the_row CalmDisk.the_row Brand.the_row Passed.the_row dated.ghosts ghosts
-    past.ghosts begun.ghosts)
-calm_farm-sync =
-    shared_farm-sync CalmDisk.the_row Brand.the_row Passed.the_row dated.ghosts ghosts past.ghosts begun.ghosts
-    calm_disk-send brand-send passed-send
+pub farm-sync : (D : RattleType) (over : dated.Ghosts D.Denot (Passed.the_row).Denot) (ghosts : Ghosts D.Denot)
+    → IsSend D → IsSync (SharedFarm.the_row D Brand.the_row Passed.the_row over ghosts past.ghosts begun.ghosts)
+farm-sync D over ghosts disk =
+    shared_farm-sync D Brand.the_row Passed.the_row over ghosts past.ghosts begun.ghosts disk brand-send passed-send
 
--- what a closure takes along to a thread
-pub ruleset lent = (calm_farm-sync, along)
+-- What a closure takes along to a thread. The set is short, since the closure's parts are searched for at once.
+pub ruleset lent = (farm-sync, Pass.the_send, sendable)

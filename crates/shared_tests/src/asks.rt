@@ -11,6 +11,39 @@ pub(crate) const LEASE_MS: u32 = 1_000;
 /// The first moment, in milliseconds since 1970-01-01.
 const START_MS: u64 = 100_000_000;
 
+/// What the searches differ in.
+pub(crate) struct Odds {
+    /// How many suspects there are.
+    suspects: u8,
+    /// How often the test fails at a sound commit, as numerator and denominator.
+    rate: (u32, u32),
+    /// How often the test passes with the culprit in.
+    miss: (u32, u32),
+    /// The share of the belief at which the search acts on a hypothesis.
+    bar: (u32, u32),
+    /// How many runs of the search may be out at once.
+    width: u32,
+}
+
+/// The odds of a search that tens of reports leave without a result.
+pub(crate) const LONG: Odds = Odds {
+    suspects: 2,
+    rate: (1, 2),
+    miss: (2, 5),
+    bar: (9_999, 10_000),
+    width: 8,
+};
+
+/// The odds of a search among four suspects, of which one run is out at once. The middle of its belief is as near to
+/// position 2 as to position 3, so the first run is at the smaller of the two.
+pub(crate) const SHORT: Odds = Odds {
+    suspects: 4,
+    rate: (1, 10),
+    miss: (0, 1),
+    bar: (9, 10),
+    width: 1,
+};
+
 /// The moment of what is asked at a history of so many entries. Each is later than all the leases of those entries, so
 /// that a run is always due: at one moment each of four callers has at most one call.
 pub(crate) fn moment(entries: u64) -> Result<Moment, MomentFault> {
@@ -57,35 +90,18 @@ fn suspects(alloc: Global, count: u8) -> Result<Suspects, AllocError> {
     Ok(Suspects::of(suspects))
 }
 
-/// The open of a search that tens of reports leave without a result.
-pub(crate) fn open(alloc: Global) -> Result<Command, AllocError> {
+/// The open of a search with these odds.
+pub(crate) fn open(alloc: Global, odds: &Odds) -> Result<Command, AllocError> {
     Ok(Command::Open(OpenAsk {
         key: key(0, 1),
         test: name(alloc, "t")?,
         base: CommitId::of([0; 20]),
-        suspects: suspects(alloc, 2)?,
+        suspects: suspects(alloc, odds.suspects)?,
         calm: 1,
-        rate: (1, 2),
-        miss: (2, 5),
-        bar: (9_999, 10_000),
-        width: 8,
-        reruns: 1,
-    }))
-}
-
-/// The open of a search among four suspects, of which one run is out at once. The middle of its belief is as near to
-/// position 2 as to position 3, so the first run is at the smaller of the two.
-pub(crate) fn open_four(alloc: Global) -> Result<Command, AllocError> {
-    Ok(Command::Open(OpenAsk {
-        key: key(0, 1),
-        test: name(alloc, "t")?,
-        base: CommitId::of([0; 20]),
-        suspects: suspects(alloc, 4)?,
-        calm: 1,
-        rate: (1, 10),
-        miss: (0, 1),
-        bar: (9, 10),
-        width: 1,
+        rate: odds.rate,
+        miss: odds.miss,
+        bar: odds.bar,
+        width: odds.width,
         reruns: 1,
     }))
 }

@@ -1,294 +1,160 @@
-//! Callers in threads.
+//! Callers in threads, over any disk that may be handed to another one.
+ghost use Rattle.std.specs.Prelude.{◌≡◌, ◌<◌, [], IfOk};
 ghost use Rattle.std.specs.Thread.{IsSync};
 ghost use Rattle.turn_lock.specs.Known.{IsReady};
 
-use crate::asks::{LEASE_MS, key, lease, moment, open};
-use crate::counts::{leases_of, reports};
-use farm_core::Farm;
-use farm_disk::CalmDisk;
-use farm_entry::{Command, Entry, Reply, Settings, What};
-use farm_store::{Answer, Ask, MAX_BATCH, Store};
-use farm_types::Moment;
-use plain_farm::first_illegal;
+use crate::asks::{LEASE_MS, LONG, moment, open};
+use crate::batches::{ask_all, sum};
+use crate::calls::{Came, call};
+use crate::leases::lease_all;
+use farm_disk::{DatedDisk, Disk};
+use farm_entry::{Command, Settings};
+use farm_store::{CreateFault, Store};
+use past_moments::Passed;
 use shared_farm::{Pass, SharedFarm, TotalsReader};
 use std::alloc::Global;
 use std::sync::Wait;
-use std::test::Fail;
 use std::thread;
 use std::thread::Threads;
-use weight_exact::Verdict;
 
-/// How many leases each caller asks for one by one, each nine times. With the reports it makes 2,002 calls.
-const LEASES: u64 = 218;
+/// What is asked of a farm, and by how many callers: a search is opened, of which each asks so many leases one by one,
+/// and then so many batches. Where none is asked for, no search is opened, and the farm is shown to each.
+#[derive(Clone, Copy)]
+pub(crate) struct Plan {
+    /// How many callers there are: at most four.
+    pub(crate) callers: u64,
+    /// How many leases each asks for one by one, each nine times. At each stride it reports the last one's run, eight
+    /// times.
+    pub(crate) leases: u64,
+    /// How many batches each asks, of two new leases and the first of them again: fewer than 1,000.
+    pub(crate) batches: u64,
+    /// How often a reader beside them looks.
+    pub(crate) reads: u64,
+}
 
-/// After how many of them it reports the last one's run, eight times.
-const STRIDE: u64 = 43;
+impl Plan {
+    /// Whether the farm is only shown.
+    fn shows(&self) -> bool {
+        self.leases == 0 && self.batches == 0
+    }
 
-/// How many leases the batch has with which each caller ends.
-const BATCH: u64 = 2;
+    /// What callers are told, as one number, since a closure for a thread takes a number along by a shorter proof than a
+    /// struct. Its digits are the leases, three of the batches, one of the callers, and one of the number of the caller
+    /// that is told, which is yet to be added.
+    fn orders(&self) -> u64 {
+        let asks = self.leases.saturating_mul(1_000);
+        let asks = asks.saturating_add(self.batches);
+        let orders = asks.saturating_mul(10).saturating_add(self.callers);
+        orders.saturating_mul(10)
+    }
+}
 
-/// How often the reader reads.
-const READS: u32 = 10_000;
-
-/// The farm of the tests.
-type Shared = SharedFarm<CalmDisk>;
-
-/// The run that a command hands out or reports, where it does.
-fn run_of<R: Wait>(
+/// How many entries the farm shows.
+fn show<D: DatedDisk<Over = Passed>, R: Wait>(
     rt: &R,
     alloc: Global,
-    farm: &Shared,
+    farm: &SharedFarm<D>,
     pass: &mut Pass,
-    command: &Command,
-    at: Moment,
-) -> Option<u32>
+) -> Option<u64>
     requires { IsReady farm.now pass.old }
     ensures { IsReady farm.entry.now pass.new }
 {
-    match farm.call(rt, alloc, pass, command, at) {
-        Ok(Reply::Leased { run, .. }) => Some(run),
-        Ok(Reply::Reported { run, .. }) => Some(run),
+    let Ok(at) = moment(0) else {
+        return None;
+    };
+    match call(rt, alloc, farm, pass, &Command::ShowFarm, at) {
+        Came::Shown(entries) => Some(entries),
         _ => None,
     }
 }
 
-/// Whether a command is answered four times with the run that it has to do with.
-fn is_again<R: Wait>(
+/// All that a caller asks by its orders, where there are as many callers. Answers how many entries it is shown, or how
+/// often the disk failed it, where each reply is as it should be.
+fn call_all<D: DatedDisk<Over = Passed>, R: Wait>(
     rt: &R,
     alloc: Global,
-    farm: &Shared,
-    pass: &mut Pass,
-    command: &Command,
-    at: Moment,
-    run: u32,
-) -> bool
-    requires { IsReady farm.now pass.old }
-    ensures { IsReady farm.entry.now pass.new }
-{
-    let first = run_of(rt, alloc, farm, pass, command, at);
-    let second = run_of(rt, alloc, farm, pass, command, at);
-    let third = run_of(rt, alloc, farm, pass, command, at);
-    let fourth = run_of(rt, alloc, farm, pass, command, at);
-    [first, second, third, fourth] == [Some(run); 4]
-}
-
-/// Whether a command is answered eight times with the run that it has to do with.
-fn is_repeated<R: Wait>(
-    rt: &R,
-    alloc: Global,
-    farm: &Shared,
-    pass: &mut Pass,
-    command: &Command,
-    at: Moment,
-    run: u32,
-) -> bool
-    requires { IsReady farm.now pass.old }
-    ensures { IsReady farm.entry.now pass.new }
-{
-    let first = is_again(rt, alloc, farm, pass, command, at, run);
-    let second = is_again(rt, alloc, farm, pass, command, at, run);
-    first && second
-}
-
-/// One lease, which is asked for again and again, and at each stride reported. Answers whether each reply is as it
-/// should be.
-fn step<R: Wait>(
-    rt: &R,
-    alloc: Global,
-    farm: &Shared,
-    pass: &mut Pass,
-    entries: u64,
-    caller: u64,
-    number: u64,
-) -> bool
-    requires { IsReady farm.now pass.old }
-    ensures { IsReady farm.entry.now pass.new }
-{
-    let Ok(at) = moment(entries) else {
-        return false;
-    };
-    let Ok(command) = lease(alloc, key(caller, number)) else {
-        return false;
-    };
-    let Some(run) = run_of(rt, alloc, farm, pass, &command, at) else {
-        return false;
-    };
-    let same = is_repeated(rt, alloc, farm, pass, &command, at, run);
-    if number % STRIDE != 0 {
-        return same;
-    }
-    let verdict = if number % (2 * STRIDE) == 0 {
-        Verdict::Fail
-    } else {
-        Verdict::Pass
-    };
-    is_repeated(
-        rt,
-        alloc,
-        farm,
-        pass,
-        &Command::Report { run, verdict },
-        at,
-        run,
-    ) && same
-}
-
-/// All single leases of a caller, each at a moment by the totals. Answers whether each step is as it should be.
-fn play<R: Wait>(
-    rt: &R,
-    alloc: Global,
-    farm: &Shared,
+    farm: &SharedFarm<D>,
     pass: Pass,
-    reader: TotalsReader,
-    caller: u64,
-) -> (Pass, bool)
+    orders: u64,
+) -> (Pass, Option<u64>)
     requires { IsReady farm.now pass }
     ensures { IsReady farm.entry.now result.0 }
 {
     let mut pass = pass;
-    let mut reader = reader;
-    let mut good = true;
-    for number in 1..=LEASES {
-        let entries = reader.totals().entries;
-        good = step(rt, alloc, farm, &mut pass, entries, caller, number) && good;
+    let caller = orders % 10;
+    let leases = orders / 100_000;
+    let batches = orders / 100 % 1_000;
+    if caller > orders / 10 % 10 {
+        return (pass, Some(0));
     }
-    (pass, good)
+    if leases == 0 && batches == 0 {
+        let shown = show(rt, alloc, farm, &mut pass);
+        return (pass, shown);
+    }
+    let (pass, good) = lease_all(rt, alloc, farm, pass, caller, leases);
+    let (pass, told) = ask_all(rt, alloc, farm, pass, caller, leases, batches);
+    (pass, if good { told } else { None })
 }
 
-/// The asks of a caller's batch: two new leases, and the first of them again.
-fn batch(alloc: Global, caller: u64, entries: u64) -> Option<Vec<Ask>> {
-    let at = moment(entries).ok()?;
-    let mut asks = Vec::new(alloc);
-    for number in [LEASES + 1, LEASES + 2, LEASES + 1] {
-        let command = lease(alloc, key(caller, number)).ok()?;
-        asks.push(Ask { command, at }).ok()?;
-    }
-    Some(asks)
-}
-
-/// Whether the first answer of three is a lease, and the third one the same.
-pub(crate) fn is_answered(answers: &[Answer]) -> bool {
-    match answers {
-        [first, second, third] => {
-            first == third
-                && matches!(first, Answer::Done(Reply::Leased { .. }))
-                && matches!(second, Answer::Done(Reply::Leased { .. }))
-        }
-        _ => false,
-    }
-}
-
-/// Whether a batch of leases is answered as it should be.
-fn ask_all<R: Wait>(
+/// Two callers, of whom the first has these orders.
+fn call_by_two<D: DatedDisk<Over = Passed> + Drop + Send, R: Threads + Wait + Sync>(
     rt: &R,
     alloc: Global,
-    farm: &Shared,
-    pass: &mut Pass,
-    asks: &mut Vec<Ask>,
-) -> bool
-    requires { IsReady farm.now pass.old }
-    ensures { IsReady farm.entry.now pass.new }
-{
-    if asks.is_empty() || asks.len() > MAX_BATCH {
-        return false;
-    }
-    let (answered, _) = farm.call_batch(rt, alloc, pass, asks);
-    match answered {
-        Ok(answers) => is_answered(answers.as_slice()),
-        Err(_) => false,
-    }
-}
-
-/// A reader, and the entries that it sees.
-fn seen<R: Wait>(rt: &R, farm: &Shared, pass: &mut Pass) -> Option<(TotalsReader, u64)>
-    requires { IsReady farm.now pass.old }
-    ensures { IsReady farm.entry.now pass.new }
-{
-    match farm.reader(rt, pass) {
-        Ok(mut reader) => {
-            let entries = reader.totals().entries;
-            Some((reader, entries))
-        }
-        Err(_) => None,
-    }
-}
-
-/// All that a caller asks. Answers whether each reply is as it should be.
-fn call_all<R: Wait>(rt: &R, alloc: Global, farm: &Shared, pass: Pass, caller: u64) -> (Pass, bool)
-    requires { IsReady farm.now pass }
-    ensures { IsReady farm.entry.now result.0 }
-{
-    let mut pass = pass;
-    let Some((reader, _)) = seen(rt, farm, &mut pass) else {
-        return (pass, false);
-    };
-    let (mut pass, good) = play(rt, alloc, farm, pass, reader, caller);
-    let Some((_, entries)) = seen(rt, farm, &mut pass) else {
-        return (pass, false);
-    };
-    let Some(mut asks) = batch(alloc, caller, entries) else {
-        return (pass, false);
-    };
-    let also = ask_all(rt, alloc, farm, &mut pass, &mut asks);
-    (pass, good && also)
-}
-
-/// Two callers.
-fn call_by_two<R: Threads + Wait + Sync>(
-    rt: &R,
-    alloc: Global,
-    farm: &Shared,
+    farm: &SharedFarm<D>,
     pass: Pass,
-    caller: u64,
-    next: u64,
-) -> (Pass, bool)
-    requires { IsReady farm.now pass }
+    orders: u64,
+) -> (Pass, Option<u64>)
+    requires { IsReady farm.now pass × (1 < pass.stake.parts) }
     ensures { IsReady farm.entry.now result.0 }
 {
     let mut pass = pass;
     let other = farm.split(&mut pass);
-    let ((mut first, good), (second, also)) = thread::join(
+    let next = orders.saturating_add(1);
+    let ((mut first, told), (second, also)) = thread::join(
         rt,
-        move || call_all(rt, alloc, farm, pass, caller),
+        move || call_all(rt, alloc, farm, pass, orders),
         move || call_all(rt, alloc, farm, other, next),
     );
     farm.join(&mut first, second);
-    (first, good && also)
+    (first, sum(told, also))
 }
 
-/// Four callers.
-fn call_by_four<R: Threads + Wait + Sync>(
+/// Four callers, by orders to which no number of a caller was added.
+fn call_by_four<D: DatedDisk<Over = Passed> + Drop + Send, R: Threads + Wait + Sync>(
     rt: &R,
     alloc: Global,
-    farm: &Shared,
+    farm: &SharedFarm<D>,
     pass: Pass,
-) -> (Pass, bool)
-    requires { IsReady farm.now pass }
+    orders: u64,
+) -> (Pass, Option<u64>)
+    requires { IsReady farm.now pass × (3 < pass.stake.parts) }
     ensures { IsReady farm.entry.now result.0 }
 {
     let mut pass = pass;
-    let other = farm.split(&mut pass);
-    let ((mut first, good), (second, also)) = thread::join(
+    let other = farm.halve(&mut pass);
+    let low = orders.saturating_add(1);
+    let high = orders.saturating_add(3);
+    let ((mut first, told), (second, also)) = thread::join(
         rt,
-        move || -> (Pass, bool)
-            requires { IsSync R.row × IsReady farm.now pass }
+        move || -> (Pass, Option<u64>)
+            requires { IsSync R.row × IsReady farm.now pass × (1 < pass.stake.parts) }
             ensures { IsReady farm.entry.now result.0 }
-        { call_by_two(rt, alloc, farm, pass, 1, 2) },
-        move || -> (Pass, bool)
-            requires { IsSync R.row × IsReady farm.now other }
+        { call_by_two(rt, alloc, farm, pass, low) },
+        move || -> (Pass, Option<u64>)
+            requires { IsSync R.row × IsReady farm.now other × (1 < other.stake.parts) }
             ensures { IsReady farm.entry.now result.0 }
-        { call_by_two(rt, alloc, farm, other, 3, 4) },
+        { call_by_two(rt, alloc, farm, other, high) },
     );
     farm.join(&mut first, second);
-    (first, good && also)
+    (first, sum(told, also))
 }
 
-/// Whether no count that a reader sees falls.
-fn read_often(reader: TotalsReader) -> bool {
+/// Whether no count that a reader sees falls, at so many looks.
+fn read_often(reader: TotalsReader, reads: u64) -> bool {
     let mut reader = reader;
     let mut good = true;
     let mut last = reader.totals();
-    for _ in 0..READS {
+    for _ in 0..reads {
         let now = reader.totals();
         good = good && last.entries <= now.entries && last.counted <= now.counted;
         last = now;
@@ -296,134 +162,119 @@ fn read_often(reader: TotalsReader) -> bool {
     good
 }
 
-/// Four callers, and a reader beside them.
-fn call_and_read<R: Threads + Wait + Sync>(
+/// The same of a reader of the caller's own.
+fn read_beside<D: DatedDisk<Over = Passed>, R: Wait>(
     rt: &R,
-    alloc: Global,
-    farm: &Shared,
+    farm: &SharedFarm<D>,
     pass: Pass,
-    reader: TotalsReader,
-) -> (Pass, bool)
-    requires { IsReady farm.now pass }
-    ensures { IsReady farm.entry.now result.0 }
-{
-    let ((pass, good), also) = thread::join(
-        rt,
-        move || -> (Pass, bool)
-            requires { IsSync R.row × IsReady farm.now pass }
-            ensures { IsReady farm.entry.now result.0 }
-        { call_by_four(rt, alloc, farm, pass) },
-        move || read_often(reader),
-    );
-    (pass, good && also)
-}
-
-/// A search that is opened, and then all calls. Answers whether each reply is as it should be.
-fn open_and_call<R: Threads + Wait + Sync>(
-    rt: &R,
-    alloc: Global,
-    farm: &Shared,
-    pass: Pass,
+    reads: u64,
 ) -> (Pass, bool)
     requires { IsReady farm.now pass }
     ensures { IsReady farm.entry.now result.0 }
 {
     let mut pass = pass;
-    let Some((reader, entries)) = seen(rt, farm, &mut pass) else {
+    let Ok(reader) = farm.reader(rt, &mut pass) else {
         return (pass, false);
     };
-    if !is_opened(rt, alloc, farm, &mut pass, entries) {
-        return (pass, false);
-    }
-    call_and_read(rt, alloc, farm, pass, reader)
+    (pass, read_often(reader, reads))
 }
 
-/// Whether a search is opened.
-fn is_opened<R: Wait>(rt: &R, alloc: Global, farm: &Shared, pass: &mut Pass, entries: u64) -> bool
-    requires { IsReady farm.now pass.old }
-    ensures { IsReady farm.entry.now pass.new }
-{
-    let Ok(at) = moment(entries) else {
-        return false;
-    };
-    let Ok(command) = open(alloc) else {
-        return false;
-    };
-    farm.call(rt, alloc, pass, &command, at).is_ok()
-}
-
-/// The store after all calls, where each reply was as it should be.
-fn played<R: Threads + Wait + Sync>(
+/// All callers, and a reader beside them.
+fn call_and_read<D: DatedDisk<Over = Passed> + Drop + Send, R: Threads + Wait + Sync>(
     rt: &R,
     alloc: Global,
-    store: Store<CalmDisk>,
-) -> Option<Store<CalmDisk>> {
+    farm: &SharedFarm<D>,
+    pass: Pass,
+    orders: u64,
+    reads: u64,
+) -> (Pass, Option<u64>)
+    requires { IsReady farm.now pass × (4 < pass.stake.parts) }
+    ensures { IsReady farm.entry.now result.0 }
+{
+    let mut pass = pass;
+    let other = farm.split(&mut pass);
+    let ((mut first, told), (second, good)) = thread::join(
+        rt,
+        move || -> (Pass, Option<u64>)
+            requires { IsSync R.row × IsReady farm.now pass × (3 < pass.stake.parts) }
+            ensures { IsReady farm.entry.now result.0 }
+        { call_by_four(rt, alloc, farm, pass, orders) },
+        move || read_beside(rt, farm, other, reads),
+    );
+    farm.join(&mut first, second);
+    (first, if good { told } else { None })
+}
+
+/// Whether a search is opened that tens of reports leave without a result.
+fn is_opened<D: DatedDisk<Over = Passed>, R: Wait>(
+    rt: &R,
+    alloc: Global,
+    farm: &SharedFarm<D>,
+    pass: &mut Pass,
+) -> bool
+    requires { IsReady farm.now pass.old }
+    ensures ready { IsReady farm.entry.now pass.new }
+    ensures parts { pass.new.stake.parts ≡ pass.old.stake.parts }
+{
+    let Ok(at) = moment(1) else {
+        return false;
+    };
+    let Ok(command) = open(alloc, &LONG) else {
+        return false;
+    };
+    matches!(call(rt, alloc, farm, pass, &command, at), Came::Opened(_))
+}
+
+/// A search that is opened, unless the farm is only shown, and then all callers, and a reader beside them.
+fn open_and_call<D: DatedDisk<Over = Passed> + Drop + Send, R: Threads + Wait + Sync>(
+    rt: &R,
+    alloc: Global,
+    farm: &SharedFarm<D>,
+    pass: Pass,
+    plan: Plan,
+) -> (Pass, Option<u64>)
+    requires { IsReady farm.now pass × (4 < pass.stake.parts) }
+    ensures { IsReady farm.entry.now result.0 }
+{
+    let mut pass = pass;
+    if !plan.shows() && !is_opened(rt, alloc, farm, &mut pass) {
+        return (pass, None);
+    }
+    call_and_read(rt, alloc, farm, pass, plan.orders(), plan.reads)
+}
+
+/// A store that was founded on a disk, whose leases last so many milliseconds.
+pub(crate) fn founded<D: Disk + Drop>(
+    alloc: Global,
+    disk: D,
+    lease_ms: u32,
+) -> Result<Store<D>, CreateFault>
+    ensures { IfOk result (λ store. store.pending ≡ []) }
+{
+    let Ok(settings) = Settings::of(lease_ms, 10, 0) else {
+        return Err(CreateFault::AlreadyBorn);
+    };
+    let Ok(at) = moment(0) else {
+        return Err(CreateFault::AlreadyBorn);
+    };
+    match Store::found(alloc, disk, settings, at) {
+        Ok(store) => Ok(store),
+        Err((_, fault)) => Err(fault),
+    }
+}
+
+/// The store that callers leave on a disk, where it is founded, and what they answer.
+pub(crate) fn played<D: DatedDisk<Over = Passed> + Drop + Send, R: Threads + Wait + Sync>(
+    rt: &R,
+    alloc: Global,
+    disk: D,
+    plan: Plan,
+) -> Result<(Store<D>, Option<u64>), CreateFault> {
+    let store = founded(alloc, disk, LEASE_MS)?;
     let Ok((farm, pass)) = SharedFarm::of(alloc, store) else {
-        return None;
+        return Err(CreateFault::Memory);
     };
-    let (pass, good) = open_and_call(rt, alloc, &farm, pass);
+    let (pass, told) = open_and_call(rt, alloc, &farm, pass, plan);
     let store = farm.close(rt, pass);
-    if good { Some(store) } else { None }
-}
-
-/// A store that was founded.
-fn founded(alloc: Global) -> Option<Store<CalmDisk>> {
-    let settings = Settings::of(LEASE_MS, 10, 0).ok()?;
-    let disk = CalmDisk::of(Vec::new(alloc));
-    Store::found(alloc, disk, settings, moment(0).ok()?).ok()
-}
-
-/// Whether a history is a founding, an open, the leases of each caller in the order of its calls, and the reports.
-fn is_whole(history: &[Entry]) -> bool {
-    let each = Some(LEASES + BATCH);
-    leases_of(history, 1) == each
-        && leases_of(history, 2) == each
-        && leases_of(history, 3) == each
-        && leases_of(history, 4) == each
-        && reports(history) == 4 * (LEASES / STRIDE)
-        && history.len() as u64 == 2 + 4 * (LEASES + BATCH + LEASES / STRIDE)
-}
-
-/// A farm that was founded as a history says, and has admitted each of its further entries.
-fn admitted(alloc: Global, history: &[Entry]) -> Option<Farm> {
-    let (first, rest) = history.split_first()?;
-    let What::Founded { settings } = &first.what else {
-        return None;
-    };
-    let mut farm = Farm::found(alloc, *settings, first.at).ok()?;
-    for entry in rest {
-        farm.admit(entry.copy().ok()?).ok()?;
-    }
-    Some(farm)
-}
-
-/// Whether another farm admits a history, entry by entry.
-fn is_admitted(alloc: Global, history: &[Entry]) -> bool {
-    match admitted(alloc, history) {
-        Some(farm) => farm.history() == history,
-        None => false,
-    }
-}
-
-/// Whether the plain program finds no entry that may not stand where it does.
-pub(crate) fn is_legal(alloc: Global, history: &[Entry]) -> bool {
-    match first_illegal(alloc, history) {
-        Ok(place) => place.is_none(),
-        Err(_) => false,
-    }
-}
-
-#[test]
-fn each_call_of_four_threads_stands_in_a_legal_history(rt: HostRuntime) -> Result<(), Fail> {
-    let alloc = rt.alloc();
-    let Some(store) = founded(alloc) else {
-        return Err(Fail::from("not founded"));
-    };
-    let Some(store) = played(&rt, alloc, store) else {
-        return Err(Fail::from("a wrong reply"));
-    };
-    assert!(rt; is_legal(alloc, store.history()));
-    assert!(rt; is_admitted(alloc, store.history()));
-    assert!(rt; is_whole(store.history()));
-    Ok(())
+    Ok((store, told))
 }

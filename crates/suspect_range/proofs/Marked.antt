@@ -1,5 +1,5 @@
 -- The marks of the commits below a position.
-use Rattle.std.proofs.Common.{◌≡◌, ℕ, ◌+◌, ◌<◌, add-one, true, false, Bool, List, length, take, get_or, sym, ap, subst, ◌∙◌, arith}
+use Rattle.std.proofs.Common.{◌≡◌, ℕ, ◌+◌, ◌<◌, add-one, true, false, List, length, take, get_or, sym, ap, subst, ◌∙◌, arith}
 use Rattle.std.proofs.lemmas.Bool.{false≢true}
 use Rattle.std.proofs.lemmas.List.{get_or-map, length-map, take_more}
 use Rattle.std.proofs.lemmas.List.Elements.{All-push}
@@ -13,7 +13,7 @@ use Rattle.suspect_range.specs.declared.suspect.Suspect.{Suspect}
 use Rattle.suspect_range.proofs.Repeats.{differs}
 
 -- marks that are kept are there
-pub marked-kept : (old new : List Bool) (commits : List CommitId) →
+pub marked-kept : (old new : List ℕ) (commits : List CommitId) →
     ((c : CommitId) → is_marked old c ≡ true → is_marked new c ≡ true) → AreMarked old commits → AreMarked new commits
 marked-kept old new commits kept all k d before = kept (get_or commits k d) (all k d before)
 
@@ -26,24 +26,24 @@ module _ (base : CommitId) (suspects : List Suspect) where
       ∙ get_or-map (λ (s : Suspect). s.commit) suspects i d base within
 
   -- one commit more
-  pub marked-more : (marks : List Bool) (i : ℕ) (d : Suspect) → i < length suspects →
-      AreMarked marks (take (i + 1) (commits_of base suspects)) → is_marked marks (get_or suspects i d).commit ≡ true →
-      AreMarked marks (take (i + 1 + 1) (commits_of base suspects))
-  marked-more marks i d within below here =
+  pub marked-more : (words : List ℕ) (i : ℕ) (d : Suspect) → i < length suspects →
+      AreMarked words (take (i + 1) (commits_of base suspects)) → is_marked words (get_or suspects i d).commit ≡ true →
+      AreMarked words (take (i + 1 + 1) (commits_of base suspects))
+  marked-more words i d within below here =
       let more = take_more (commits_of base suspects) (i + 1) base
       (omega (arith, within, length-map suspects (λ (s : Suspect). s.commit))) in
-      let last : is_marked marks (get_or (commits_of base suspects) (i + 1) base) ≡ true =
-      ap (is_marked marks) (commit-at i d within) ∙ here in
-      subst (AreMarked marks) (sym more)
-      (All-push (λ (c : CommitId). is_marked marks c ≡ true) (take (i + 1) (commits_of base suspects)) _ below last)
+      let last : is_marked words (get_or (commits_of base suspects) (i + 1) base) ≡ true =
+      ap (is_marked words) (commit-at i d within) ∙ here in
+      subst (AreMarked words) (sym more)
+      (All-push (λ (c : CommitId). is_marked words c ≡ true) (take (i + 1) (commits_of base suspects)) _ below last)
 
   -- a commit without its mark repeats none
-  pub unmarked-not_repeat : (marks : List Bool) (i : ℕ) (d : Suspect) → i < length suspects →
-      AreMarked marks (take (i + 1) (commits_of base suspects)) → is_marked marks (get_or suspects i d).commit ≡ false →
+  pub unmarked-not_repeat : (words : List ℕ) (i : ℕ) (d : Suspect) → i < length suspects →
+      AreMarked words (take (i + 1) (commits_of base suspects)) → is_marked words (get_or suspects i d).commit ≡ false →
       is_repeat base suspects (i + 1) ≡ false
-  unmarked-not_repeat marks i d within below none =
+  unmarked-not_repeat words i d within below none =
       let c : CommitId = commit_at base suspects (i + 1) in
-      let out : is_marked marks c ≡ false = ap (is_marked marks) (commit-at i d within) ∙ none in
+      let out : is_marked words c ≡ false = ap (is_marked words) (commit-at i d within) ∙ none in
       list_any_none (λ (earlier : CommitId). same_id earlier c) (take (i + 1) (commits_of base suspects)) (λ k e before.
       differs (get_or (take (i + 1) (commits_of base suspects)) k e) c (λ same.
-      false≢true (sym out ∙ ap (is_marked marks) (sym same) ∙ below k e before)))
+      false≢true (sym out ∙ ap (is_marked words) (sym same) ∙ below k e before)))

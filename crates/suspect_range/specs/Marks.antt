@@ -1,5 +1,6 @@
 -- The marks of commits.
-use Rattle.std.specs.Prelude.{◌≡◌, ℕ, ◌+◌, ◌*◌, ◌%◌, Bool, true, false, get_or, slice_index, List, All}
+use Rattle.std.specs.Prelude.{◌≡◌, ℕ, ◌+◌, ◌*◌, ◌/◌, ◌%◌, ◌==◌, Bool, true, get_or, slice_index, List, All}
+use Rattle.std.specs.Int.{bit_at}
 use Rattle.farm_types.specs.CommitId.{id_bytes}
 use Rattle.farm_types.specs.declared.commit_id.CommitId.{CommitId}
 use Rattle.suspect_range.specs.declared.marks.TheConstants.{MARKS}
@@ -8,9 +9,13 @@ use Rattle.suspect_range.specs.declared.marks.TheConstants.{MARKS}
 abbrev pub mark_of : CommitId → ℕ
 mark_of commit = (slice_index (id_bytes commit) 18 * 256 + slice_index (id_bytes commit) 19) % MARKS
 
-abbrev pub is_marked : List Bool → CommitId → Bool
-is_marked marks commit = get_or marks (mark_of commit) false
+-- whether a mark was put: the words have 64 each, from the lowest bit on
+abbrev pub is_put : List ℕ → ℕ → Bool
+is_put words mark = bit_at (get_or words (mark / 64) 0) (mark % 64) == 1
+
+abbrev pub is_marked : List ℕ → CommitId → Bool
+is_marked words commit = is_put words (mark_of commit)
 
 -- each of the commits has its mark
-abbrev pub AreMarked : List Bool → List CommitId → Type 0
-AreMarked marks commits = All (λ commit. is_marked marks commit ≡ true) commits
+abbrev pub AreMarked : List ℕ → List CommitId → Type 0
+AreMarked words commits = All (λ commit. is_marked words commit ≡ true) commits

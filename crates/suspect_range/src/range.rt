@@ -187,7 +187,7 @@ fn first_repeat(base: CommitId, suspects: &[Suspect]) -> Option<usize>
 /// Whether the commit of the suspect at this index is the base or an earlier suspect's, by the marks of those.
 fn repeats(below: &Marks, base: CommitId, suspects: &[Suspect], index: usize) -> bool
     requires within { index < length suspects.now }
-    requires marked { AreMarked below.now.marks (take (index + 1) (commits_of base suspects.now)) }
+    requires marked { AreMarked below.now.words (take (index + 1) (commits_of base suspects.now)) }
     ensures { result ≡ is_repeat base suspects.now (index + 1) }
 {
     if below.has(suspects[index].commit) {

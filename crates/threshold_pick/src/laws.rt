@@ -3,12 +3,10 @@
 ghost use Rattle.std.specs.Prelude.{◌≡◌, ℕ, ◌+◌, ◌*◌, ◌^◌, ◌<◌, ◌≤◌, List};
 ghost use Rattle.open_positions.specs.Open.{open_pick, open_plan};
 ghost use Rattle.open_positions.specs.Blocks.{is_hidden};
-ghost use Rattle.weight_exact.specs.Cumulative.{AreRising};
 ghost use Rattle.weight_exact.specs.Load.{floor};
 ghost use Rattle.weight_exact.specs.Plan.{pick, plan};
-ghost use Rattle.weight_exact.specs.Weights.{Setup, suspects, hypotheses, prior, total};
+ghost use Rattle.weight_exact.specs.Weights.{Setup, suspects, total};
 ghost use Rattle.weight_exact.specs.declared.run.Run.{Run};
-ghost use Rattle.threshold_pick.specs.Sums.{RiseAbove};
 ghost use Rattle.threshold_pick.specs.Picks.{IsPick, ArePicks, open_pick_in, open_plan_in};
 ghost use Rattle.threshold_pick.specs.Blocks.{is_hidden_in};
 ghost use Rattle.threshold_pick.specs.Cumulative.{AreCumulative};
@@ -39,22 +37,6 @@ pub fn hidden_hypotheses_are_told()
     ensures { (s : Setup) (runs : List Run) (sums skipped : List ℕ) →
         AreCumulative s runs sums → 1 ≤ total s runs →
         is_hidden_in s.bar_numerator s.bar_denominator sums skipped ≡ is_hidden s runs skipped }
-{}
-
-/// No such sum is less than an earlier one, as the search for the middle requires.
-pub fn sums_never_fall()
-    ensures { (s : Setup) (runs : List Run) (sums : List ℕ) →
-        AreCumulative s runs sums → 1 ≤ total s runs → AreRising sums }
-{}
-
-/// Such sums rise above the floor, as a pick requires: a hypothesis with a prior weight keeps a weight there, since
-/// only a pass that clears it could take the last of it.
-pub fn sums_rise_above_the_floor()
-    ensures { (s : Setup) (runs : List Run) (sums : List ℕ) →
-        AreCumulative s runs sums → 1 ≤ total s runs →
-        ((i : ℕ) → 1 ≤ i → i ≤ hypotheses s → 1 ≤ prior s i) →
-        1 ≤ s.factors.fail_in → 1 ≤ s.factors.fail_out → 1 ≤ s.factors.pass_out →
-        RiseAbove (floor s.factors runs) sums }
 {}
 
 /// What the cost of a pick says: it takes at most two steps more than the number of suspects has binary digits.

@@ -1,13 +1,12 @@
 -- The first run that is due along the order of turns is the soonest.
 use Rattle.std.proofs.Common.{◌≡◌, ◌≢◌, ℕ, true, List, [], ◌∷◌, Contains, Option, Some, None, refl, sym, ap, subst, inl, inr, ◌∙◌, ⊎_elim, arith}
-use Rattle.std.specs.Prelude.{◌↔◌}
 use Rattle.std.specs.Option.{option_and_then, option_or}
 use Rattle.std.proofs.lemmas.Bool.{cases_eq}
 use Rattle.std.proofs.lemmas.Option.{none-some}
 use Rattle.active_order.specs.Order.{has}
 use Rattle.active_order.proofs.Lists.{has-rest}
-use Rattle.decision_laws.specs.Turns.{ComesBefore}
-use Rattle.decision_laws.proofs.Turns.{the_turn}
+use Rattle.turn_laws.specs.Turns.{ComesBefore}
+use Rattle.turn_laws.proofs.Turns.{the_turn}
 use Rattle.farm_entry.specs.Due.{due, due_at, due_runs, next_run, soonest}
 use Rattle.farm_entry.specs.History.{last_lease, opening_numbered, openings}
 use Rattle.farm_entry.specs.Legal.{IsLegal}
@@ -193,10 +192,3 @@ next-if H m order (Some d) legal turns h =
 pub next-first : (H : List Entry) (m : ℕ) (order : List ℕ) → IsLegal H → IsTurnOrder H order →
     next_run H m ≡ first_due H m order
 next-first H m order legal turns = next-if H m order (first_due H m order) legal turns refl
-
-pub next-none : (H : List Entry) (m : ℕ) (order : List ℕ) → IsLegal H → IsTurnOrder H order →
-    (next_run H m ≡ None) ↔ ((search : ℕ) → has search order ≡ true → due_in_search H search m ≡ None)
-next-none H m order legal turns = (
-  λ none. none-along H m order (sym (next-first H m order legal turns) ∙ none),
-  λ none. none-next H m order legal turns none,
-)

@@ -1,4 +1,6 @@
 pub mod Along
 pub mod FromOn
+pub mod NeverLeased
 pub mod NextTurns
 pub mod Parts
+pub mod Turns

@@ -27,10 +27,10 @@ use Rattle.farm_laws.proofs.Made.{is_made}
 use Rattle.farm_laws.proofs.Numbered.{no_opening, number-at, opening-found, opening-there, openings-numbered}
 use Rattle.farm_laws.proofs.Opened.{opened-cases, opened-stays}
 use Rattle.farm_laws.proofs.Stepped.{Stepped, stepped}
-use Rattle.search_laws.specs.Steps.{IsAbout}
-use Rattle.search_laws.proofs.Counting.{about-one, about-opens_none}
-use Rattle.search_laws.proofs.NeverLeased.{never_leased}
-use Rattle.search_laws.proofs.OneMore.{last_lease-step, standing-same}
+use Rattle.farm_laws.specs.Steps.{IsAbout}
+use Rattle.farm_laws.proofs.Counting.{about-one, about-opens_none}
+use Rattle.turn_laws.proofs.NeverLeased.{never_leased}
+use Rattle.farm_laws.proofs.OneMore.{last_lease-step, standing-same}
 use Rattle.turn_laws.specs.TurnOrder.{AreTurns, IsOfActive}
 use Rattle.turn_laws.proofs.Along.{due-active}
 use Rattle.turn_laws.proofs.Parts.{has-either, has-left, kept-turns, not-both, one-has, snoc-here, snoc-once, snoc-turns, strike-snoc, strike-turns, struck-has, struck-other}

@@ -3,7 +3,7 @@ use Rattle.std.proofs.Common.{◌≡◌, ◌≢◌, ℕ, ◌⊎◌, Bool, true, 
 use Rattle.std.proofs.lemmas.Bool.{cases_Bool, cases_eq, true≢false}
 use Rattle.active_order.specs.Order.{has, strike, IsOnce}
 use Rattle.active_order.proofs.Lists.{has-here, has-rest, has-there, none-first, none-rest, other, same, strike-gone, strike-none}
-use Rattle.decision_laws.specs.Turns.{ComesBefore}
+use Rattle.turn_laws.specs.Turns.{ComesBefore}
 use Rattle.farm_entry.specs.History.{last_lease}
 use Rattle.farm_entry.specs.declared.entry.Entry.{Entry}
 use Rattle.turn_laws.specs.TurnOrder.{AreByTurns, AreTurns, IsTurnOrder}

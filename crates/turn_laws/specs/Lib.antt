@@ -1,1 +1,2 @@
 pub mod TurnOrder
+pub mod Turns

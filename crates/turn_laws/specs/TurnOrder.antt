@@ -2,7 +2,7 @@
 use Rattle.std.specs.Prelude.{ℕ, ◌≡◌, ◌<◌, ◌⊎◌, true, cond, nat_eq, List, [], ◌∷◌, Contains, Option, None, ⊤}
 use Rattle.std.specs.Option.{option_and_then, option_or}
 use Rattle.active_order.specs.Order.{has, IsOnce}
-use Rattle.decision_laws.specs.Turns.{ComesBefore}
+use Rattle.turn_laws.specs.Turns.{ComesBefore}
 use Rattle.farm_entry.specs.Due.{due}
 use Rattle.farm_entry.specs.History.{last_lease, opening_numbered, openings}
 use Rattle.farm_entry.specs.Standing.{is_active, standing}

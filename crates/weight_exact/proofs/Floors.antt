@@ -1,5 +1,5 @@
 -- One run more: what it does to each weight, to the floor, to the live runs and to the load.
-use Rattle.std.proofs.Common.{◌≡◌, ℕ, ◌+◌, ◌*◌, ◌<◌, ◌≤◌, max, Bool, true, false, if◌then◌else◌, nat_le, nat_lt, List, [], ◌∷◌, ◌++◌, length, filter, count_by, refl, sym, ap, ◌∙◌, arith, ⊎_elim, mul-zero, zero-mul, le-ltb, lt-ltb, le-leb, ltb-true, eq-zero-or-pos, append-nil}
+use Rattle.std.proofs.Common.{◌≡◌, ℕ, ◌+◌, ◌*◌, ◌<◌, ◌≤◌, max, Bool, true, false, if◌then◌else◌, nat_le, nat_lt, List, [], ◌∷◌, ◌++◌, length, filter, refl, sym, ap, ◌∙◌, arith, ⊎_elim, mul-zero, zero-mul, le-ltb, lt-ltb, le-leb, ltb-true, eq-zero-or-pos, append-nil}
 use Rattle.std.proofs.lemmas.Bool.{cases_lt, cases_Bool, and_parts, and_from}
 use Rattle.std.proofs.lemmas.List.{length_push}
 use Rattle.std.proofs.lemmas.List.Elements.{filter-append}
@@ -11,7 +11,6 @@ use Rattle.weight_exact.specs.declared.factors.Factors.{Factors}
 use Rattle.weight_exact.specs.declared.run.Run.{Run}
 use Rattle.weight_exact.specs.declared.run.Verdict.{Verdict}
 use Rattle.weight_exact.specs.declared.run.Verdict.TheVariants.{Pass, Fail}
-use Rattle.weight_exact.proofs.Likelihoods.{factor_fail_out, factor_pass_in, factor_pass_out, weight_push}
 
 -- no runs are no load
 pub load-none : (f : Factors) → load f [] ≡ 0
@@ -53,21 +52,6 @@ is_fail_above_below k r is below = let test : nat_lt k r.position ≡ false = le
 pub is_fail_above_pass : (k : ℕ) (r : Run) → r.verdict ≡ Pass → is_fail_above k r ≡ false
 is_fail_above_pass k r is = rw is
 
--- ---- a pass
-
--- where a broken test never passes, a pass clears the suspects up to its position
-pub weight_push_pass_in : (s : Setup) (runs : List Run) (r : Run) (i : ℕ) → s.factors.pass_in ≡ 0 → r.verdict ≡ Pass →
-    i ≤ r.position → weight s (runs ++ r ∷ []) i ≡ 0
-weight_push_pass_in s runs r i never is within =
-    let none : factor s.factors i r ≡ 0 = factor_pass_in s.factors i r is within ∙ never in
-    weight_push s runs r i ∙ (ap (λ n. weight s runs i * n) none ∙ mul-zero (weight s runs i))
-
--- and multiplies each hypothesis above by the number of a pass outside
-pub weight_push_pass_out : (s : Setup) (runs : List Run) (r : Run) (i : ℕ) → r.verdict ≡ Pass → r.position < i →
-    weight s (runs ++ r ∷ []) i ≡ weight s runs i * s.factors.pass_out
-weight_push_pass_out s runs r i is above =
-    weight_push s runs r i ∙ ap (λ n. weight s runs i * n) (factor_pass_out s.factors i r is above)
-
 -- ---- the floor clears
 
 -- a run multiplies the hypotheses that it clears by 0
@@ -102,21 +86,6 @@ likelihood-floor f runs i low within =
 pub weight-floor : (s : Setup) (runs : List Run) (i : ℕ) → 1 ≤ i → i ≤ floor s.factors runs → weight s runs i ≡ 0
 weight-floor s runs i low within =
     ap (λ n. prior s i * n) (likelihood-floor s.factors runs i low within) ∙ mul-zero (prior s i)
-
--- ---- a fail
-
--- a fail at or below the floor multiplies each hypothesis by the number of a fail outside: those up to it weigh 0
-pub weight_push_fail_below : (s : Setup) (runs : List Run) (r : Run) (i : ℕ) → r.verdict ≡ Fail →
-    r.position ≤ floor s.factors runs → 1 ≤ i → weight s (runs ++ r ∷ []) i ≡ weight s runs i * s.factors.fail_out
-weight_push_fail_below s runs r i is below low =
-    weight_push s runs r i ∙
-    ⊎_elim
-    (λ (above : floor s.factors runs < i).
-    ap (λ n. weight s runs i * n) (factor_fail_out s.factors i r is (omega arith)))
-    (λ (within : i ≤ floor s.factors runs).
-    let none : weight s runs i ≡ 0 = weight-floor s runs i low within in
-    rw (none, zero-mul (factor s.factors i r), zero-mul s.factors.fail_out))
-    (cases_lt (floor s.factors runs) i)
 
 -- ---- the floor after one run more
 
@@ -251,12 +220,6 @@ load_push_fail_below f runs r never is below = ap length (live_push_fail_below f
 pub load_push_pass_below : (f : Factors) (runs : List Run) (r : Run) → f.pass_in ≡ 0 → r.verdict ≡ Pass →
     r.position ≤ floor f runs → load f (runs ++ r ∷ []) ≡ load f runs
 load_push_pass_below f runs r never is below = ap length (live_push_pass_below f runs r never is below)
-
--- a pass above the floor leaves the number of fails above it
-pub load_push_pass_above : (f : Factors) (runs : List Run) (r : Run) → f.pass_in ≡ 0 → r.verdict ≡ Pass →
-    floor f runs ≤ r.position → load f (runs ++ r ∷ []) ≡ count_by (is_fail_above r.position) runs
-load_push_pass_above f runs r never is above =
-    ap length (live_push_pass_above f runs r never is above) ∙ length-filter (is_fail_above r.position) runs
 
 -- and no pass adds to the load
 pub load_push_pass-le : (f : Factors) (runs : List Run) (r : Run) → f.pass_in ≡ 0 → r.verdict ≡ Pass →

@@ -1,4 +1,3 @@
-pub mod Setups
 pub mod Likelihoods
 pub mod SumTo
 pub mod Reweighed
@@ -8,9 +7,6 @@ pub mod Shares
 pub mod Budgets
 pub mod FactorNumbers
 pub mod Plans
-pub mod PlainTable
-pub mod Scaled
-pub mod LiveWeights
 pub mod Powering
 pub mod Budgeting
 pub mod Priors

@@ -1,12 +1,12 @@
 -- The plan: its positions are the nearest, there is one nearest, and common factors cancel.
-use Rattle.std.proofs.Common.{◌≡◌, ℕ, zero, suc, ◌+◌, ◌*◌, ◌-◌, ◌<◌, ◌≤◌, true, false, nat_lt, List, [], ◌∷◌, ◌++◌, length, refl, sym, ap, ◌∙◌, ap₂, subst, slice_index, add-one, ext_get_or, arith, ⊎_elim, mul-one, mul_assoc, mul_comm, mul_right_comm, add-mul, mul-lt-mul_of_pos_right, lt_of_mul-lt-mul_right, ltb-true, ltb-false, lt-ltb, le-ltb}
+use Rattle.std.proofs.Common.{◌≡◌, ℕ, zero, suc, ◌+◌, ◌*◌, ◌-◌, ◌<◌, ◌≤◌, true, false, nat_lt, List, [], ◌∷◌, length, refl, sym, ap, ◌∙◌, ap₂, subst, slice_index, add-one, ext_get_or, arith, ⊎_elim, mul_comm, mul_right_comm, add-mul, mul-lt-mul_of_pos_right, lt_of_mul-lt-mul_right, ltb-true, ltb-false, lt-ltb, le-ltb}
 use Rattle.std.proofs.Math.Nat.{mul-sub}
 use Rattle.std.proofs.lemmas.Bool.{cases_Bool, cases_lt, cases_order}
 use Rattle.std.proofs.lemmas.List.{length_push, get_or_push, get_or_append_left}
 use Rattle.std.specs.Int.{abs_diff}
 use Rattle.weight_exact.specs.Weights.{Setup, cumulative, total, suspects}
 use Rattle.weight_exact.specs.Load.{floor}
-use Rattle.weight_exact.specs.Plan.{distance, IsNearest, nearest, pick, picks, plan}
+use Rattle.weight_exact.specs.Plan.{distance, IsNearest, nearest, pick, picks}
 use Rattle.weight_exact.specs.declared.run.Run.{Run}
 
 -- ---- the nearest position
@@ -92,32 +92,12 @@ pub IsNearest-is : (away : ℕ → ℕ) (low n i : ℕ) → low < n → IsNeares
 IsNearest-is away low n i some is =
     IsNearest_once away low n i (nearest away low (n - low - 1)) is (IsNearest-upto away low n some)
 
--- the j-th position of the plan is the nearest to its threshold
-pub IsNearest-pick : (s : Setup) (runs : List Run) (k j : ℕ) → floor s.factors runs < suspects s →
-    IsNearest (λ i. distance (total s runs) j k (cumulative s runs i))
-    (floor s.factors runs) (suspects s) (pick s runs k j)
-IsNearest-pick s runs k j some =
-    IsNearest-upto (λ i. distance (total s runs) j k (cumulative s runs i)) (floor s.factors runs) (suspects s) some
-
--- so it lies above the floor, at a suspect
-pub pick_above : (s : Setup) (runs : List Run) (k j : ℕ) → floor s.factors runs < suspects s →
-    floor s.factors runs < pick s runs k j
-pick_above s runs k j some = (IsNearest-pick s runs k j some).above
-
-pub pick_within : (s : Setup) (runs : List Run) (k j : ℕ) → floor s.factors runs < suspects s →
-    pick s runs k j ≤ suspects s
-pick_within s runs k j some = (IsNearest-pick s runs k j some).within
-
 -- ---- the positions of a plan
 
 pub length-picks : (s : Setup) (runs : List Run) (k n : ℕ) → length (picks s runs k n) ≡ n
 length-picks s runs k zero = refl
 length-picks s runs k (suc n) =
     omega (arith, length_push (picks s runs k n) (pick s runs k (suc n)), length-picks s runs k n)
-
--- a plan of width k has k positions
-pub length-plan : (s : Setup) (runs : List Run) (k : ℕ) → length (plan s runs k) ≡ k
-length-plan s runs k = length-picks s runs k k
 
 pub slice_index-picks : (s : Setup) (runs : List Run) (k n j : ℕ) → j < n →
     slice_index (picks s runs k n) j ≡ pick s runs k (j + 1)
@@ -131,11 +111,6 @@ slice_index-picks s runs k (suc n) j less =
     let here : j ≡ n = omega arith in
     rw (here, add-one n) (get_or_push (picks s runs k n) (pick s runs k (suc n)) 0 n (length-picks s runs k n)))
     (cases_lt j n)
-
--- the position at index j of a plan
-pub slice_index-plan : (s : Setup) (runs : List Run) (k j : ℕ) → j < k →
-    slice_index (plan s runs k) j ≡ pick s runs k (j + 1)
-slice_index-plan s runs k j less = slice_index-picks s runs k k j less
 
 -- ---- common factors
 
@@ -157,7 +132,7 @@ nearest-same away other low (suc more) agree =
     rw (tests, same)
 
 -- scaling keeps the difference
-abs_diff-mul : (x y k : ℕ) → abs_diff (x * k) (y * k) ≡ abs_diff x y * k
+pub abs_diff-mul : (x y k : ℕ) → abs_diff (x * k) (y * k) ≡ abs_diff x y * k
 abs_diff-mul x y k =
     let left : k * (x - y) ≡ k * x - k * y = mul-sub k x y in
     let right : k * (y - x) ≡ k * y - k * x = mul-sub k y x in
@@ -179,7 +154,7 @@ below_scaled a b c d m n some first second less =
     let scaled : a * m < b * m = mul-lt-mul_of_pos_right less some in
     lt_of_mul-lt-mul_right n (omega arith)
 
-test_scaled : (a b c d m n : ℕ) → 1 ≤ m → 1 ≤ n → a * m ≡ c * n → b * m ≡ d * n → nat_lt a b ≡ nat_lt c d
+pub test_scaled : (a b c d m n : ℕ) → 1 ≤ m → 1 ≤ n → a * m ≡ c * n → b * m ≡ d * n → nat_lt a b ≡ nat_lt c d
 test_scaled a b c d m n some_m some_n first second =
     ⊎_elim
     (λ (less : a < b). lt-ltb a b less ∙ sym (lt-ltb c d (below_scaled a b c d m n some_m first second less)))
@@ -206,23 +181,6 @@ nearest-scaled sums others whole other j k low more some_whole some_other same =
     (distance_scaled whole other j k (sums p) (others p) (same p above_p within_p))
     (distance_scaled whole other j k (sums q) (others q) (same q above_q within_q)))
 
--- a common positive factor of the sums and the total changes no position
-distance-mul_right : (whole j k x m : ℕ) → distance (whole * m) j k (x * m) ≡ distance whole j k x * m
-distance-mul_right whole j k x m =
-    rw (mul_right_comm x m (k + 1), ← (mul_assoc j whole m)) (abs_diff-mul (x * (k + 1)) (j * whole) m)
-
-pub nearest-mul_right : (sums : ℕ → ℕ) (whole j k low more m : ℕ) → 1 ≤ m →
-    nearest (λ i. distance (whole * m) j k (sums i * m)) low more
-    ≡ nearest (λ i. distance whole j k (sums i)) low more
-nearest-mul_right sums whole j k low more m some =
-    let a : ℕ → ℕ = λ i. distance (whole * m) j k (sums i * m) in
-    let b : ℕ → ℕ = λ i. distance whole j k (sums i) in
-    nearest-same a b low more
-    (λ p q above_p within_p above_q within_q.
-    test_scaled (a p) (a q) (b p) (b q) 1 m (omega arith) some
-    (mul-one (a p) ∙ distance-mul_right whole j k (sums p) m)
-    (mul-one (a q) ∙ distance-mul_right whole j k (sums q) m))
-
 -- so a position of the plan may be computed from any such sums
 pub pick-scaled : (s : Setup) (runs : List Run) (sums : ℕ → ℕ) (whole k j : ℕ) → floor s.factors runs < suspects s →
     1 ≤ whole → 1 ≤ total s runs →
@@ -243,16 +201,6 @@ pub IsNearest-scaled : (s : Setup) (runs : List Run) (sums : ℕ → ℕ) (whole
 IsNearest-scaled s runs sums whole k j i some some_whole some_total same is =
     IsNearest-is (λ i. distance whole j k (sums i)) (floor s.factors runs) (suspects s) i some is ∙
     sym (pick-scaled s runs sums whole k j some some_whole some_total same)
-
--- plans whose positions agree are equal
-pub picks-same : (s other : Setup) (runs more : List Run) (k n : ℕ) →
-    ((j : ℕ) → 1 ≤ j → j ≤ n → pick s runs k j ≡ pick other more k j) → picks s runs k n ≡ picks other more k n
-picks-same s other runs more k zero same = refl
-picks-same s other runs more k (suc n) same =
-    let front : picks s runs k n ≡ picks other more k n =
-    picks-same s other runs more k n (λ j low high. same j low (omega arith)) in
-    let last : pick s runs k (suc n) ≡ pick other more k (suc n) = same (suc n) (omega arith) (omega arith) in
-    ap₂ (λ xs x. xs ++ x ∷ []) front last
 
 -- one more position of a plan, as a list that is built up
 pub picks-is : (s : Setup) (runs : List Run) (k n : ℕ) (positions : List ℕ) → length positions ≡ n →

@@ -1,5 +1,5 @@
 -- Shares of the total weight: the total is positive, at most one hypothesis reaches the bar, and common factors cancel.
-use Rattle.std.proofs.Common.{◌≡◌, ◌-◌, ◌≢◌, ℕ, zero, suc, ◌+◌, ◌*◌, ◌<◌, ◌≤◌, Bool, true, false, List, All, Some, None, refl, sym, ap, ◌∙◌, ap₂, eq-zero-or-pos, arith, ⊎_elim, mul_assoc, mul_comm, mul_right_comm, le_of_mul-le-mul_right, ◌↔◌, mul-le-mul_right, mul-lt-mul_of_pos_right, le-leb, leb-true}
+use Rattle.std.proofs.Common.{◌≡◌, ◌-◌, ◌≢◌, ℕ, zero, suc, ◌+◌, ◌*◌, ◌<◌, ◌≤◌, Bool, true, false, List, All, Some, None, refl, sym, ap, ◌∙◌, eq-zero-or-pos, arith, ⊎_elim, mul_assoc, mul_comm, mul_right_comm, le_of_mul-le-mul_right, ◌↔◌, mul-le-mul_right, mul-lt-mul_of_pos_right, le-leb, leb-true}
 use Rattle.std.proofs.Math.Nat.{one-le-mul, mul-div-mul_right}
 use Rattle.std.proofs.lemmas.Bool.{cases_Bool, cases_eq, false≢true, false_from_ne_true}
 use Rattle.std.proofs.lemmas.List.{get_or_past}
@@ -185,16 +185,6 @@ at_bar-mul_right k t u whole w some =
       λ h. le_of_mul-le-mul_right (omega (arith, left, right)) some,
       λ h. omega (arith, left, right, mul-le-mul_right k h),
     )
-
-pub at_bar-mul_left : (k t u whole w : ℕ) → 1 ≤ k → (t * (k * whole) ≤ k * w * u) ↔ (t * whole ≤ w * u)
-at_bar-mul_left k t u whole w some = rw (mul_comm k w, mul_comm k whole) (at_bar-mul_right k t u whole w some)
-
--- weights that are the same part of their totals have one share
-pub share-scaled : (v whole w other : ℕ) → 1 ≤ whole → 1 ≤ other → v * other ≡ w * whole →
-    share v whole ≡ share w other
-share-scaled v whole w other some_whole some_other same =
-    sym (share-mul_right other v whole some_other) ∙
-    (ap₂ share same (mul_comm whole other) ∙ share-mul_right whole w other some_whole)
 
 -- and reach the bar together
 pub at_bar-scaled : (t u v whole w other : ℕ) → 1 ≤ whole → 1 ≤ other → v * other ≡ w * whole →

@@ -1,8 +1,7 @@
 -- What all hypotheses above the floor have in common, and so cancels from each share.
-use Rattle.std.specs.Prelude.{ℕ, ◌*◌, List, [], ◌∷◌, false, not, nat_le, if◌then◌else◌, filter}
+use Rattle.std.specs.Prelude.{ℕ, ◌*◌, List, [], ◌∷◌, false, not, if◌then◌else◌, filter}
 use Rattle.weight_exact.specs.Factors.{verdict_factor}
-use Rattle.weight_exact.specs.Load.{last_pass, may_miss, floor, is_fail_above, live}
-use Rattle.weight_exact.specs.Weights.{Setup, hypotheses, prior, likelihood, sum_to}
+use Rattle.weight_exact.specs.Load.{last_pass, may_miss, is_fail_above}
 use Rattle.weight_exact.specs.declared.factors.Factors.{Factors}
 use Rattle.weight_exact.specs.declared.run.Run.{Run}
 
@@ -18,12 +17,3 @@ likelihood_out f (r ∷ rs) = verdict_factor f r.verdict false * likelihood_out 
 -- the factor that the settled runs multiply each hypothesis above the floor by
 abbrev pub common : Factors → List Run → ℕ
 common f runs = likelihood_out f (settled f runs)
-
--- the weight of hypothesis i by the live runs alone: 0 up to the floor, and above it prior times likelihood
-abbrev pub live_weight : Setup → List Run → ℕ → ℕ
-live_weight s runs i =
-    if nat_le i (floor s.factors runs) then 0 else prior s i * likelihood s.factors i (live s.factors runs)
-
--- the sum of these weights
-abbrev pub live_total : Setup → List Run → ℕ
-live_total s runs = sum_to (live_weight s runs) (hypotheses s)

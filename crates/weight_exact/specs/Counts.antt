@@ -30,10 +30,6 @@ passes_in i runs = count_by (is_pass_in i) runs
 abbrev pub passes_out : ℕ → List Run → ℕ
 passes_out i runs = count_by (is_pass_out i) runs
 
--- how many runs of a list passed
-abbrev pub passes : List Run → ℕ
-passes runs = count_by (λ r. not (is_fail r.verdict)) runs
-
 -- whether a run failed at a position, and whether it passed there
 abbrev pub is_fail_at : (position : ℕ) → Run → Bool
 is_fail_at position r = is_fail r.verdict && r.position == position

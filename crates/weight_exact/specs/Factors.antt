@@ -41,7 +41,3 @@ factor f i r = verdict_factor f r.verdict (nat_le i r.position)
 -- the greatest of the four numbers
 abbrev pub greatest_factor : Factors → ℕ
 greatest_factor f = max (max f.fail_in f.fail_out) (max f.pass_in f.pass_out)
-
--- the plain table of a rate where a broken test never passes: b and a for a fail, 0 and b - a for a pass
-abbrev pub plain_factors : (a b : ℕ) → Factors
-plain_factors a b = record { fail_in = b; fail_out = a; pass_in = 0; pass_out = b - a }

@@ -6,7 +6,6 @@ pub mod Share
 pub mod Load
 pub mod Common
 pub mod Counts
-pub mod Plain
 pub mod Example
 pub mod Budget
 pub mod Plan

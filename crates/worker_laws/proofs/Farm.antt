@@ -23,7 +23,7 @@ use Rattle.farm_entry.specs.declared.lease.SkippedRun.{SkippedRun}
 use Rattle.farm_entry.specs.declared.reply.Reply.{Reply}
 use Rattle.farm_entry.proofs.Growing.{reports-grow, skips-grow}
 use Rattle.farm_laws.proofs.Induct.{IsLegal-push}
-use Rattle.decision_laws.proofs.Played.{decided-legal}
+use Rattle.history_laws.proofs.Played.{decided-legal}
 use Rattle.worker_core.specs.declared.tested.Tested.TheVariants.{Untestable, Verdict}
 use Rattle.worker_laws.specs.Given.{IsGiven}
 use Rattle.worker_laws.specs.Happenings.{Reach, answer_to, answered, decides, farm_is_asked, farm_takes, is_report, nothing_appended, nothing_sent, said_of, unasked}

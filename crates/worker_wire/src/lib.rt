@@ -10,7 +10,6 @@
 
 mod answer;
 mod body;
-pub mod laws;
 mod lines;
 mod members;
 mod object;

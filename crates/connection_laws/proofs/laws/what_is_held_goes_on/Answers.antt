@@ -7,4 +7,4 @@ pub returns : goal.returns
 returns g c start final taken put over whole h =
     let w = held-follows (progress_at start) final (GivenBy g.C.Clock c.args.clock.now g.D.Disk.count) g.S.Said.said
     taken put over whole h in
-    record { longer = w.seen; more = w.faults }
+    record { longer = w.seen; counted = w.totals; more = w.faults }

@@ -3,6 +3,7 @@ use Rattle.connection_laws.specs.Moments.{GivenBy}
 use Rattle.connection_laws.specs.Progress.{progress_from}
 use Rattle.connection_laws.specs.declared.served.Why.{Why}
 use Rattle.http_requests.specs.Items.{Items}
+use Rattle.farm_http.specs.Callers.{state_of}
 use Rattle.farm_http.specs.Connection.{GoesOn, work_left}
 use Rattle.link_io.specs.Links.{link_state}
 use Rattle.farm_http.proofs.Endings.{serves-further}
@@ -27,7 +28,7 @@ returns-in-Err-clause-serves g c =
     let start = progress_from caller.pass.seen caller.reader caller.pass.faults in
     let before = link_state g.L.Source g.L.Sink c.args.link.now in
     let e = c.every_input_has_items.ensures in
-    c.in-Err.ensures.goes_on start caller before c.loop-ended.invariant.serving c.requires.legal e.0 e.1
+    c.in-Err.ensures.goes_on start (state_of caller) before c.loop-ended.invariant.serving c.requires.legal e.0 e.1
     (subst (λ (l : List ℕ). Items l e.0 e.1) c.held.ensures e.2)
 
 pub returns-in-Err-clause-follows : goal.returns-in-Err-clause-follows
@@ -37,9 +38,9 @@ returns-in-Err-clause-follows g c =
     let before = link_state g.L.Source g.L.Sink c.args.link.now in
     let e = c.every_input_has_items.ensures in
     let f = serves-further (Err c.in-Err.fault) _ _ _ _ _ _ _ _ _
-    (c.in-Err.ensures.goes_on start caller before c.loop-ended.invariant.serving c.requires.legal e.0 e.1
+    (c.in-Err.ensures.goes_on start (state_of caller) before c.loop-ended.invariant.serving c.requires.legal e.0 e.1
     (subst (λ (l : List ℕ). Items l e.0 e.1) c.held.ensures e.2)) in
-    record { longer = f.within.seen; more = f.within.faults }
+    record { longer = f.within.seen; counted = f.within.totals; more = f.within.faults }
 
 pub returns-in-Err-clause-read : goal.returns-in-Err-clause-read
 returns-in-Err-clause-read g c =
@@ -48,7 +49,7 @@ returns-in-Err-clause-read g c =
     let before = link_state g.L.Source g.L.Sink c.args.link.now in
     let e = c.every_input_has_items.ensures in
     let f = serves-further (Err c.in-Err.fault) _ _ _ _ _ _ _ _ _
-    (c.in-Err.ensures.goes_on start caller before c.loop-ended.invariant.serving c.requires.legal e.0 e.1
+    (c.in-Err.ensures.goes_on start (state_of caller) before c.loop-ended.invariant.serving c.requires.legal e.0 e.1
     (subst (λ (l : List ℕ). Items l e.0 e.1) c.held.ensures e.2)) in
     f.counted
 
@@ -57,11 +58,11 @@ returns-in-Some-clause-serves g c =
     let caller = c.args.caller.now in
     let start = progress_from caller.pass.seen caller.reader caller.pass.faults in
     let before = link_state g.L.Source g.L.Sink c.args.link.now in
-    subst (λ (o : Option Why). GoesOn start (GivenBy g.C.Clock c.args.service.now.clock.now g.D.Disk.count) caller
-    before (work_left c.loop-ended.connection.received) (Ok o) c.serve_next.new.caller
+    subst (λ (o : Option Why). GoesOn start (GivenBy g.C.Clock c.args.service.now.clock.now g.D.Disk.count)
+    (state_of caller) before (work_left c.loop-ended.connection.received) (Ok o) (state_of c.serve_next.new.caller)
     (link_state g.L.Source g.L.Sink c.serve_next.new.link) c.serve_next.new.self.received
     c.serve_next.new.self.requests) c.in-Some.is
-    (c.in-Ok.ensures.goes_on start caller before c.loop-ended.invariant.serving c.requires.legal)
+    (c.in-Ok.ensures.goes_on start (state_of caller) before c.loop-ended.invariant.serving c.requires.legal)
 
 pub returns-in-Some-clause-follows : goal.returns-in-Some-clause-follows
 returns-in-Some-clause-follows g c =
@@ -69,12 +70,12 @@ returns-in-Some-clause-follows g c =
     let start = progress_from caller.pass.seen caller.reader caller.pass.faults in
     let before = link_state g.L.Source g.L.Sink c.args.link.now in
     let f = serves-further (Ok _) _ _ _ _ _ _ _ _ _
-    (subst (λ (o : Option Why). GoesOn start (GivenBy g.C.Clock c.args.service.now.clock.now g.D.Disk.count) caller
-    before (work_left c.loop-ended.connection.received) (Ok o) c.serve_next.new.caller
+    (subst (λ (o : Option Why). GoesOn start (GivenBy g.C.Clock c.args.service.now.clock.now g.D.Disk.count)
+    (state_of caller) before (work_left c.loop-ended.connection.received) (Ok o) (state_of c.serve_next.new.caller)
     (link_state g.L.Source g.L.Sink c.serve_next.new.link) c.serve_next.new.self.received
     c.serve_next.new.self.requests) c.in-Some.is
-    (c.in-Ok.ensures.goes_on start caller before c.loop-ended.invariant.serving c.requires.legal)) in
-    record { longer = f.within.seen; more = f.within.faults }
+    (c.in-Ok.ensures.goes_on start (state_of caller) before c.loop-ended.invariant.serving c.requires.legal)) in
+    record { longer = f.within.seen; counted = f.within.totals; more = f.within.faults }
 
 pub returns-in-Some-clause-read : goal.returns-in-Some-clause-read
 returns-in-Some-clause-read g c =
@@ -82,11 +83,11 @@ returns-in-Some-clause-read g c =
     let start = progress_from caller.pass.seen caller.reader caller.pass.faults in
     let before = link_state g.L.Source g.L.Sink c.args.link.now in
     let f = serves-further (Ok _) _ _ _ _ _ _ _ _ _
-    (subst (λ (o : Option Why). GoesOn start (GivenBy g.C.Clock c.args.service.now.clock.now g.D.Disk.count) caller
-    before (work_left c.loop-ended.connection.received) (Ok o) c.serve_next.new.caller
+    (subst (λ (o : Option Why). GoesOn start (GivenBy g.C.Clock c.args.service.now.clock.now g.D.Disk.count)
+    (state_of caller) before (work_left c.loop-ended.connection.received) (Ok o) (state_of c.serve_next.new.caller)
     (link_state g.L.Source g.L.Sink c.serve_next.new.link) c.serve_next.new.self.received
     c.serve_next.new.self.requests) c.in-Some.is
-    (c.in-Ok.ensures.goes_on start caller before c.loop-ended.invariant.serving c.requires.legal)) in
+    (c.in-Ok.ensures.goes_on start (state_of caller) before c.loop-ended.invariant.serving c.requires.legal)) in
     f.counted
 
 pub loop-ended-preserved : goal.loop-ended-preserved
@@ -95,10 +96,10 @@ loop-ended-preserved g c =
     let start = progress_from caller.pass.seen caller.reader caller.pass.faults in
     let before = link_state g.L.Source g.L.Sink c.args.link.now in
     let gone = subst (λ (o : Option Why). GoesOn start (GivenBy g.C.Clock c.args.service.now.clock.now g.D.Disk.count)
-    caller before (work_left c.loop-ended.connection.received) (Ok o) c.serve_next.new.caller
+    (state_of caller) before (work_left c.loop-ended.connection.received) (Ok o) (state_of c.serve_next.new.caller)
     (link_state g.L.Source g.L.Sink c.serve_next.new.link) c.serve_next.new.self.received
     c.serve_next.new.self.requests) c.in_default.is
-    (c.in-Ok.ensures.goes_on start caller before c.loop-ended.invariant.serving c.requires.legal) in
+    (c.in-Ok.ensures.goes_on start (state_of caller) before c.loop-ended.invariant.serving c.requires.legal) in
     record {
       ready = c.serve_next.ensures.ready;
       empty = c.in-Ok.ensures.empty;
@@ -113,8 +114,8 @@ loop-ended-smaller g c =
     let start = progress_from caller.pass.seen caller.reader caller.pass.faults in
     let before = link_state g.L.Source g.L.Sink c.args.link.now in
     let gone = subst (λ (o : Option Why). GoesOn start (GivenBy g.C.Clock c.args.service.now.clock.now g.D.Disk.count)
-    caller before (work_left c.loop-ended.connection.received) (Ok o) c.serve_next.new.caller
+    (state_of caller) before (work_left c.loop-ended.connection.received) (Ok o) (state_of c.serve_next.new.caller)
     (link_state g.L.Source g.L.Sink c.serve_next.new.link) c.serve_next.new.self.received
     c.serve_next.new.self.requests) c.in_default.is
-    (c.in-Ok.ensures.goes_on start caller before c.loop-ended.invariant.serving c.requires.legal) in
+    (c.in-Ok.ensures.goes_on start (state_of caller) before c.loop-ended.invariant.serving c.requires.legal) in
     gone.1

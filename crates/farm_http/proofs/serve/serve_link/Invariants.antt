@@ -2,6 +2,7 @@ use Rattle.std.proofs.Common.{◌≡◌, ◌≤◌, []}
 use Rattle.connection_laws.specs.Moments.{GivenBy}
 use Rattle.connection_laws.specs.Progress.{progress_from}
 use Rattle.farm_entry.specs.Legal.{IsLegal}
+use Rattle.farm_http.specs.Callers.{state_of}
 use Rattle.farm_http.specs.Connection.{IsServing, work_left}
 use Rattle.link_io.specs.Links.{link_state}
 use Rattle.turn_lock.specs.Known.{IsReady}
@@ -14,7 +15,7 @@ invariant-loop-ended g l = record {
   empty : l.connection.kept.out ≡ [];
   legal : IsLegal l.caller.reader;
   serving : IsServing (progress_from l.fn.caller.pass.seen l.fn.caller.reader l.fn.caller.pass.faults)
-      (GivenBy g.C.Clock l.service.clock.now g.D.Disk.count) l.fn.caller l.caller
+      (GivenBy g.C.Clock l.service.clock.now g.D.Disk.count) (state_of l.fn.caller) (state_of l.caller)
       (link_state g.L.Source g.L.Sink l.fn.link)
       (link_state g.L.Source g.L.Sink l.link) l.connection.received l.connection.requests;
   never_falls : g.L.Source.count l.fn.link ≤ g.L.Source.count l.link;

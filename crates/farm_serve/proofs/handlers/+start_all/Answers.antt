@@ -81,13 +81,13 @@ farm-sync g t c =
 
 -- and so may the lock round the network
 lock-sync : (g : _) (t : _) (c : goal.After-split_off-mine g t)
-    → IsSync (Mutex.the_row (Gate.the_row (param 3 g.row.N) (param 5 g.row.J) (param 7 g.row.D-Over)
+    → IsSync (Mutex.the_row (Gate.the_row (param 3 g.row.N) (param 2 g.row.B) (param 5 g.row.J) (param 7 g.row.D-Over)
     (param 8 g.row.N-End)
-    g.N.Network g.D.Over.Past g.N.End.Source g.N.End.Sink g.J.Naming g.J.Ledger))
+    g.N.Network g.D.Over.Past g.N.End.Source g.N.End.Sink g.B.Beginning g.J.Naming g.J.Ledger))
 lock-sync g t c =
-    let held = GateCrosses.the_send (param 3 g.row.N) (param 5 g.row.J) (param 7 g.row.D-Over)
-    (param 8 g.row.N-End) g.N.Network
-    g.D.Over.Past g.N.End.Source g.N.End.Sink g.J.Naming g.J.Ledger (network-send g t c) in
+    let held = GateCrosses.the_send (param 3 g.row.N) (param 2 g.row.B) (param 5 g.row.J) (param 7 g.row.D-Over)
+    (param 8 g.row.N-End) g.N.Network g.D.Over.Past g.N.End.Source g.N.End.Sink g.B.Beginning g.J.Naming g.J.Ledger
+    (network-send g t c) in
     search crosses depth 4
 
 pub spawn_with-requires-send-F : goal.spawn_with-requires-send-F

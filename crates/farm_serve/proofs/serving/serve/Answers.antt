@@ -1,17 +1,13 @@
-use Rattle.std.proofs.Common.{refl, rules}
+use Rattle.std.proofs.Common.{refl}
 use Rattle.connection_laws.specs.Moments.{MayGive}
-use Rattle.farm_serve.proofs.Crashes.{came-first}
 use Rattle.farm_serve.proofs.Ends.{completes, opened-ends}
 use Rattle.farm_serve.specs.Outside.{output_seen}
 use Rattle.farm_serve.proofs.serving.serve.Goals as goal
 
-pub serve_store-store-requires-clause-came : goal.serve_store-store-requires-clause-came
-serve_store-store-requires-clause-came g c = search (came-first g.D.Disk c.in-Ok.store, rules)
-
 pub returns-in-Ok-clause-ends : goal.returns-in-Ok-clause-ends
 returns-in-Ok-clause-ends g c =
     let opened = c.in-Ok.ensures in
-    let served = c.serve_store-store in
+    let served = c.serve_opened-store in
     opened-ends g.D.Disk (MayGive g.C.Clock c.args.clock.now) c.args.links c.args.disk c.into_disk.result
     c.faults-before.result c.in-Ok.store served.result.0 served.result.2 c.end-ending.result _ _
     (output_seen g.K.Sink c.args.output.now) (output_seen g.K.Sink c.end-ending.new.output) c.faults-before.ensures

@@ -10,10 +10,11 @@ abbrev pub ghosts-serve_farm-J-Naming : goal.ghosts-serve_farm-J-Naming
 ghosts-serve_farm-J-Naming g a = record {
   entry = record {
     lock = a.farm;
-    start = record { seen = a.pass.seen; faults = a.before };
+    first = a.pass.seen;
+    faults = a.before;
     told = g.N.Network.told a.network;
     count = g.N.Network.count a.network;
-    links = a.links;
+    links = a.with.now.links;
   };
-  gives = MayGive g.C.Clock a.clock.now;
+  gives = MayGive g.C.Clock a.with.now.clock.now;
 }

@@ -1,5 +1,5 @@
 use Rattle.std.proofs.Common.{◌≡◌, take}
-use Rattle.state_laws.specs.Seen.{seen}
+use Rattle.search_state.specs.Seen.{seen}
 use Rattle.farm_state.proofs.telling.retell.Given as goal
 
 abbrev pub invariant-loop-entry : goal.invariant-loop-entry

@@ -1,11 +1,13 @@
 -- What each end of storing new entries leaves, by the lemmas of `Ahead`.
-use Rattle.std.proofs.Common.{◌∙◌, ◌-◌, ℕ, List, length, take, drop, All, refl, sym, ap, subst}
+use Rattle.std.proofs.Common.{◌∙◌, ◌-◌, ◌≤◌, ℕ, List, length, take, drop, All, refl, sym, ap, subst}
 use Rattle.std.proofs.lemmas.List.{take_rest}
 use Rattle.std.proofs.lemmas.List.Elements.{All-take}
 use Rattle.std.specs.Prelude.{Ok, Err}
-use Rattle.entry_codec.specs.Grammar.{IsWithinLimits}
+use Rattle.entry_codec.specs.Grammar.{AreSpelled, IsWithinLimits}
+use Rattle.entry_codec.specs.Spelling.{spelling}
 use Rattle.farm_entry.specs.declared.entry.Entry.{Entry}
 use Rattle.farm_store.specs.Recorded.{Wrote}
+use Rattle.farm_store.specs.declared.asking.TheConstants.{MAX_RECORD_BYTES}
 use Rattle.farm_store.proofs.Ahead.{back-start, kept-missed, kept-stored, leaves-missed, leaves-stored, opened, within}
 use Rattle.farm_store.proofs.recording.record_from.Goals as goal
 
@@ -20,6 +22,14 @@ write_new-requires-clause-within g c =
     subst (λ (l : List Entry). All P (take (length l - start) (drop start l))) (sym c.history.ensures.value)
     (All-take P (length c.args.farm.now.history - start) (drop start c.args.farm.now.history)
     (within g.D.Disk.tells g.D.Disk.told start c.args.farm.now c.args.journal.now c.requires.ahead))
+
+pub write_new-requires-clause-fits : goal.write_new-requires-clause-fits
+write_new-requires-clause-fits g c =
+    let start = c.args.start in
+    let H = c.args.farm.now.history in
+    let same = ap (λ (l : List Entry). take (length l - start) (drop start l)) c.history.ensures.value
+    ∙ take_rest H start in
+    subst (λ (l : List Entry). AreSpelled l → length (spelling l) ≤ MAX_RECORD_BYTES) (sym same) c.requires.ahead.fits
 
 pub returns-in-Ok-clause-kept : goal.returns-in-Ok-clause-kept
 returns-in-Ok-clause-kept g c =

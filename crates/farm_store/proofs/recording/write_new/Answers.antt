@@ -12,9 +12,9 @@ returns-in_default-clause-wrote g c =
 
 pub append-requires-clause-payload : goal.append-requires-clause-payload
 append-requires-clause-payload g c =
-    record-fits c.args.entries.now c.deref.result.now c.in-Ok.ensures.readable
-    (c.deref.ensures.value ∙ c.in-Ok.ensures.spelled)
-    (some-test c.args.entries.now c.is_empty.result c.is_empty.ensures c.if-is_empty.false) c.requires.fits
+    record-fits c.args.entries.now c.deref.result.now (c.deref.ensures.value ∙ c.in-Ok.ensures.spelled)
+    (some-test c.args.entries.now c.is_empty.result c.is_empty.ensures c.if-is_empty.false)
+    (c.requires.fits c.in-Ok.ensures.readable)
 
 pub returns-in-Ok-append-clause-wrote : goal.returns-in-Ok-append-clause-wrote
 returns-in-Ok-append-clause-wrote g c =

@@ -1,125 +1,131 @@
--- What opening a begun journal again leaves.
-use Rattle.std.proofs.Common.{◌≡◌, ◌∷◌, [], ◌∙◌, inl, inr, List, ℕ, true, ap, refl, sym, subst, rules}
-use Rattle.farm_disk.specs.Images.{DiskState, IsSettled, LeavesOnly}
-use Rattle.farm_journal.specs.Layout.{opens}
-use Rattle.farm_journal.specs.Opened.{Misses}
-use Rattle.farm_journal.specs.State.{IsHeld}
-use Rattle.farm_journal.specs.declared.fault.OpeningFault.{OpeningFault}
-use Rattle.farm_store.proofs.Calls.{undecided-none}
-use Rattle.journal_follow.proofs.Admissions.{legal-some}
-use Rattle.journal_follow.proofs.Placing.{begun-again, begun-just, begun-moment, begun-not-damaged, store-first}
-use Rattle.journal_follow.proofs.Placing.{unborn-again, unopened-cause, unopened-none, unopened-repair, unopened-sound}
-use Rattle.journal_follow.specs.Inside.{IsBegunDisk}
-use Rattle.journal_follow.specs.Shown.{ShowsDecided}
-use Rattle.journal_follow.proofs.Showing.{with_pending}
-use Rattle.journal_follow.proofs.Syncs.{on-none}
+-- What opening a store again that was begun leaves, by the lemmas of `Placing`.
+use Rattle.std.proofs.Common.{◌≡◌, ◌∙◌, inl, inr, true, List, [], ◌++◌, ap, refl, subst, sym}
+use Rattle.std.specs.Prelude.{Err}
 use Rattle.std.proofs.lemmas.Bool.{both_ways}
+use Rattle.std.proofs.lemmas.List.{append-nil}
+use Rattle.farm_disk.specs.Images.{DiskState, IsSettled, LeavesOnly}
+use Rattle.farm_entry.specs.Legal.{IsLegal}
+use Rattle.farm_entry.specs.declared.entry.Entry.{Entry}
+use Rattle.farm_journal.specs.Opened.{OnRead, OpeningCause}
+use Rattle.farm_journal.specs.ReadsOnly.{ReadsOnly}
+use Rattle.farm_journal.specs.declared.fault.OpeningFault.{OpeningFault}
+use Rattle.farm_journal.specs.declared.layout.TheConstants.{FIRST_GATE}
+use Rattle.farm_store.specs.Opened.{IsMissedBy}
+use Rattle.farm_store.specs.State.{IsStored}
+use Rattle.journal_follow.specs.Inside.{Mends, on_disk}
+use Rattle.journal_follow.specs.declared.fault.FollowFault.TheVariants as fault
+use Rattle.journal_follow.proofs.Openings.{unborn-read}
+use Rattle.journal_follow.proofs.Placing.{begun-again, begun-decided, begun-just, begun-mends, begun-not_damaged}
+use Rattle.journal_follow.proofs.Showing.{just, with_pending}
 use Rattle.journal_follow.proofs.place.reopen.Goals as goal
 
-pub returns-then-is_just-clause-place : goal.returns-then-is_just-clause-place
-returns-then-is_just-clause-place g c =
-    let b = c.args.begun in
-    let just : c.in-Ok.payloads ≡ b.payload ∷ [] = search rules in
-    store-first g.D.Disk.tells g.D.Disk.told b.payload b.farm c.in-Ok.journal c.requires.0
-    (c.in-Ok.ensures.payloads ∙ just) c.in-Ok.ensures.idle
-    (λ t. subst (λ (l : List (List ℕ)). IsHeld l (g.D.Disk.told c.in-Ok.journal.disk)) just
-    (c.in-Ok.ensures.held (sym c.in-Ok.ensures.same ∙ t)))
+pub returns-then-is_history-clause-place : goal.returns-then-is_history-clause-place
+returns-then-is_history-clause-place g c =
+    let f = c.in-Ok.ensures in
+    let store = c.in-Ok.store in
+    record {
+      legal = subst IsLegal (sym (ap (λ (l : List Entry). store.history ++ l) f.decided ∙ append-nil store.history)) f.legal;
+      stored = λ t. subst (λ (l : List Entry). IsStored store.history l (g.D.Disk.told store.disk)) (sym f.decided)
+          (f.stored (sym f.same ∙ t));
+    }
 
-pub returns-then-is_just-clause-repairs : goal.returns-then-is_just-clause-repairs
-returns-then-is_just-clause-repairs g c =
-    (inr refl, undecided-none c.in-Ok.journal.pending c.args.begun.farm.ready c.in-Ok.ensures.idle)
+pub returns-then-is_history-clause-mends : goal.returns-then-is_history-clause-mends
+returns-then-is_history-clause-mends g c =
+    let f = c.in-Ok.ensures in
+    let store = c.in-Ok.store in
+    begun-decided g.D.Disk c.args.before c.args.begun.entries c.args.begun.disk store.disk
+    (with_pending store.history store.pending) c.requires.0 f.same c.requires.1 f.only f.never_falls
+    (inr (sym c.history.ensures.value ∙ c.is_history.ensures.0 c.if-is_history.true)) f.decided
 
-pub returns-then-is_just-clause-any_moment : goal.returns-then-is_just-clause-any_moment
-returns-then-is_just-clause-any_moment g c = λ t.
-    let b = c.args.begun in
-    begun-moment b.payload b.farm.history c.requires.0 (g.D.Disk.told b.disk) (g.D.Disk.told c.in-Ok.journal.disk)
-    (c.requires.1 t) (c.in-Ok.ensures.steps t)
+pub returns-else-is_history-clause-place : goal.returns-else-is_history-clause-place
+returns-else-is_history-clause-place g c = (
+  c.requires.0,
+  λ t.
+      let u = sym c.in-Ok.ensures.same ∙ (ap g.D.Disk.tells (sym c.into_disk-disk.ensures.disk) ∙ t) in
+      begun-again c.args.begun.entries (g.D.Disk.told c.args.begun.disk) (g.D.Disk.told c.into_disk-disk.result)
+      (c.requires.1 u)
+      (subst (λ (d : g.row.D.Denot). ReadsOnly (g.D.Disk.told c.args.begun.disk) (g.D.Disk.told d))
+      (sym c.into_disk-disk.ensures.disk) (c.in-Ok.ensures.only u)),
+)
 
-pub returns-else-is_just-clause-place : goal.returns-else-is_just-clause-place
-returns-else-is_just-clause-place g c =
-    let b = c.args.begun in (
-      c.requires.0,
-      λ t.
-          let u : g.D.Disk.tells b.disk ≡ true =
-          sym c.in-Ok.ensures.same ∙ (ap g.D.Disk.tells (sym c.into_disk-disk.ensures) ∙ t) in
-          subst (λ (d : DiskState). IsBegunDisk b.payload d) (sym (ap g.D.Disk.told c.into_disk-disk.ensures))
-          (begun-again b.payload b.farm.history c.requires.0 (g.D.Disk.told b.disk) (g.D.Disk.told c.in-Ok.journal.disk)
-          (c.requires.1 u) (c.in-Ok.ensures.steps u)),
-    )
+pub returns-else-is_history-clause-mends : goal.returns-else-is_history-clause-mends
+returns-else-is_history-clause-mends g c =
+    let f = c.in-Ok.ensures in
+    let store = c.in-Ok.store in
+    let H = c.args.begun.entries in
+    let a = c.args.begun.disk in
+    subst (λ (d : g.row.D.Denot). Mends c.args.before (Err (fault.Damaged FIRST_GATE))
+    (on_disk g.D.Disk.tells g.D.Disk.told g.D.Disk.count a [] H)
+    (on_disk g.D.Disk.tells g.D.Disk.told g.D.Disk.count d [] H)) (sym c.into_disk-disk.ensures.disk)
+    (begun-mends g.D.Disk c.args.before H a store.disk (fault.Damaged FIRST_GATE) c.requires.0 f.same c.requires.1 f.only
+    tt
+    (λ t. both_ways _ c.if-is_history.false (c.is_history.ensures.1 (c.history.ensures.value
+    ∙ begun-just H (g.D.Disk.told a) (g.D.Disk.told store.disk) (c.requires.1 t) (f.only t) store.history (f.answers t))))
+    tt f.never_falls)
 
-pub returns-else-is_just-clause-repairs : goal.returns-else-is_just-clause-repairs
-returns-else-is_just-clause-repairs g c =
-    (tt, legal-some c.args.begun.farm.history c.requires.0.legal, refl)
-
-pub returns-else-is_just-clause-any_moment : goal.returns-else-is_just-clause-any_moment
-returns-else-is_just-clause-any_moment g c = λ t.
-    let b = c.args.begun in
-    subst (λ (d : DiskState). LeavesOnly (g.D.Disk.told b.disk) d (ShowsDecided (with_pending [] b.farm.history)))
-    (sym (ap g.D.Disk.told c.into_disk-disk.ensures))
-    (begun-moment b.payload b.farm.history c.requires.0 (g.D.Disk.told b.disk) (g.D.Disk.told c.in-Ok.journal.disk)
-    (c.requires.1 t) (c.in-Ok.ensures.steps t))
-
-pub returns-else-is_just-clause-soundly : goal.returns-else-is_just-clause-soundly
-returns-else-is_just-clause-soundly g c = λ t.
-    let b = c.args.begun in
-    let just : c.in-Ok.payloads ≡ b.payload ∷ [] =
-    begun-just b.payload b.farm.history c.requires.0 (g.D.Disk.told b.disk) (g.D.Disk.told c.in-Ok.journal.disk)
-    (c.requires.1 t) (c.in-Ok.ensures.steps t) c.in-Ok.payloads (c.in-Ok.ensures.answers t) in
-    both_ways _ c.if-is_just.false (c.is_just.ensures.1 (just ∙ ap (λ (p : List ℕ). p ∷ []) (sym c.bytes.ensures)))
-
-pub returns-in-None-clause-place : goal.returns-in-None-clause-place
-returns-in-None-clause-place g c = λ t.
-    let b = c.args.begun in
-    let u : g.D.Disk.tells b.disk ≡ true = sym c.in-Err.ensures.same ∙ t in
-    let is = unopened-none c.in-Err.fault c.args.before (sym c.unopened.ensures ∙ c.in-None.is) in
-    let old = g.D.Disk.told b.disk in
+pub returns-in-Unborn-clause-place : goal.returns-in-Unborn-clause-place
+returns-in-Unborn-clause-place g c = λ t.
+    let u = sym c.in-Err.ensures.same ∙ t in
+    let old = g.D.Disk.told c.args.begun.disk in
     let new = g.D.Disk.told c.in-Err.disk in
-    unborn-again b.payload b.farm.history c.requires.0 old new (c.requires.1 u) (c.in-Err.ensures.steps u)
-    (subst (λ (f : OpeningFault). Misses (opens old.bytes) f) is (c.in-Err.ensures.answers u))
-    (on-none (Unit {0}) (Unit {0}) tt c.in-Err.fault (IsSettled new) is (c.in-Err.ensures.settled u))
+    unborn-read old new (c.in-Err.ensures.only u)
+    (subst (λ (f : OpeningFault). OnRead f (g.D.Disk.tells c.args.begun.disk ≡ true → IsSettled new)) c.in-Unborn.is
+    c.in-Err.ensures.settled u)
+    (subst (λ (f : OpeningFault). IsMissedBy old.bytes f) c.in-Unborn.is (c.in-Err.ensures.answers u))
 
-pub returns-in-None-clause-repairs : goal.returns-in-None-clause-repairs
-returns-in-None-clause-repairs g c = (inl refl, refl)
+pub returns-in-Unborn-clause-mends : goal.returns-in-Unborn-clause-mends
+returns-in-Unborn-clause-mends g c =
+    begun-decided g.D.Disk c.args.before c.args.begun.entries c.args.begun.disk c.in-Err.disk (just []) c.requires.0
+    c.in-Err.ensures.same c.requires.1 c.in-Err.ensures.only c.in-Err.ensures.never_falls (inl refl) refl
 
-pub returns-in-None-clause-any_moment : goal.returns-in-None-clause-any_moment
-returns-in-None-clause-any_moment g c = λ t.
-    let b = c.args.begun in
-    begun-moment b.payload b.farm.history c.requires.0 (g.D.Disk.told b.disk) (g.D.Disk.told c.in-Err.disk)
-    (c.requires.1 t) (c.in-Err.ensures.steps t)
+pub returns-in-StoreFault-clause-place : goal.returns-in-StoreFault-clause-place
+returns-in-StoreFault-clause-place g c = (
+  c.requires.0,
+  λ t.
+      let u = sym c.in-Err.ensures.same ∙ t in
+      begun-again c.args.begun.entries (g.D.Disk.told c.args.begun.disk) (g.D.Disk.told c.in-Err.disk) (c.requires.1 u)
+      (c.in-Err.ensures.only u),
+)
 
-pub returns-in-Some-clause-place : goal.returns-in-Some-clause-place
-returns-in-Some-clause-place g c =
-    let b = c.args.begun in (
-      c.requires.0,
-      λ t.
-          let u : g.D.Disk.tells b.disk ≡ true = sym c.in-Err.ensures.same ∙ t in
-          begun-again b.payload b.farm.history c.requires.0 (g.D.Disk.told b.disk) (g.D.Disk.told c.in-Err.disk)
-          (c.requires.1 u) (c.in-Err.ensures.steps u),
-    )
+pub returns-in-StoreFault-clause-mends : goal.returns-in-StoreFault-clause-mends
+returns-in-StoreFault-clause-mends g c =
+    let cause = subst (λ (f : OpeningFault). OpeningCause f (g.D.Disk.count c.args.begun.disk)
+    (g.D.Disk.count c.in-Err.disk)) c.in-StoreFault.is c.in-Err.ensures.cause in
+    begun-mends g.D.Disk c.args.before c.args.begun.entries c.args.begun.disk c.in-Err.disk
+    (fault.StoreFault c.args.before c.in-StoreFault.after) c.requires.0 c.in-Err.ensures.same c.requires.1
+    c.in-Err.ensures.only tt (λ t. tt) (refl, cause.1, cause.2) c.in-Err.ensures.never_falls
 
-pub returns-in-Some-clause-repairs : goal.returns-in-Some-clause-repairs
-returns-in-Some-clause-repairs g c =
-    let is = c.unopened.ensures in (
-      unopened-repair c.in-Err.fault c.args.before c.in-Some.fault (sym c.unopened.ensures ∙ c.in-Some.is),
-      legal-some c.args.begun.farm.history c.requires.0.legal,
-      refl,
-    )
+pub returns-in-Damaged-clause-place : goal.returns-in-Damaged-clause-place
+returns-in-Damaged-clause-place g c = (
+  c.requires.0,
+  λ t.
+      let u = sym c.in-Err.ensures.same ∙ t in
+      begun-again c.args.begun.entries (g.D.Disk.told c.args.begun.disk) (g.D.Disk.told c.in-Err.disk) (c.requires.1 u)
+      (c.in-Err.ensures.only u),
+)
 
-pub returns-in-Some-clause-any_moment : goal.returns-in-Some-clause-any_moment
-returns-in-Some-clause-any_moment g c = λ t.
-    let b = c.args.begun in
-    begun-moment b.payload b.farm.history c.requires.0 (g.D.Disk.told b.disk) (g.D.Disk.told c.in-Err.disk)
-    (c.requires.1 t) (c.in-Err.ensures.steps t)
+pub returns-in-Damaged-clause-mends : goal.returns-in-Damaged-clause-mends
+returns-in-Damaged-clause-mends g c =
+    begun-mends g.D.Disk c.args.before c.args.begun.entries c.args.begun.disk c.in-Err.disk
+    (fault.Damaged c.in-Damaged.at) c.requires.0 c.in-Err.ensures.same c.requires.1
+    c.in-Err.ensures.only tt (λ t.
+    begun-not_damaged c.args.begun.entries (g.D.Disk.told c.args.begun.disk) (g.D.Disk.told c.in-Err.disk)
+    (c.requires.1 t) (c.in-Err.ensures.only t) c.in-Damaged.at
+    (subst (λ (f : OpeningFault). IsMissedBy (g.D.Disk.told c.args.begun.disk).bytes f) c.in-Damaged.is
+    (c.in-Err.ensures.answers t)))
+    tt c.in-Err.ensures.never_falls
 
-pub returns-in-Some-clause-soundly : goal.returns-in-Some-clause-soundly
-returns-in-Some-clause-soundly g c = λ t.
-    let b = c.args.begun in
-    unopened-sound c.in-Err.fault c.args.before c.in-Some.fault (opens (g.D.Disk.told b.disk).bytes)
-    (sym c.unopened.ensures ∙ c.in-Some.is) (c.in-Err.ensures.answers t)
-    (begun-not-damaged b.payload b.farm.history c.requires.0 (g.D.Disk.told b.disk) (g.D.Disk.told c.in-Err.disk)
-    (c.requires.1 t) (c.in-Err.ensures.steps t))
+pub returns-in-Memory-clause-place : goal.returns-in-Memory-clause-place
+returns-in-Memory-clause-place g c = (
+  c.requires.0,
+  λ t.
+      let u = sym c.in-Err.ensures.same ∙ t in
+      begun-again c.args.begun.entries (g.D.Disk.told c.args.begun.disk) (g.D.Disk.told c.in-Err.disk) (c.requires.1 u)
+      (c.in-Err.ensures.only u),
+)
 
-pub returns-in-Some-clause-cause : goal.returns-in-Some-clause-cause
-returns-in-Some-clause-cause g c =
-    unopened-cause c.in-Err.fault c.args.before c.in-Some.fault (g.D.Disk.count c.args.begun.disk)
-    (g.D.Disk.count c.in-Err.disk) (sym c.unopened.ensures ∙ c.in-Some.is) c.in-Err.ensures.cause
+pub returns-in-Memory-clause-mends : goal.returns-in-Memory-clause-mends
+returns-in-Memory-clause-mends g c =
+    begun-mends g.D.Disk c.args.before c.args.begun.entries c.args.begun.disk c.in-Err.disk
+    fault.Memory c.requires.0 c.in-Err.ensures.same c.requires.1
+    c.in-Err.ensures.only tt (λ t. tt) tt c.in-Err.ensures.never_falls

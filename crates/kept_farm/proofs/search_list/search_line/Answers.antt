@@ -8,7 +8,7 @@ use Rattle.farm_entry.specs.Standing.{named_commit, standing}
 use Rattle.farm_entry.specs.declared.entry.Entry.{Entry}
 use Rattle.farm_entry.specs.declared.opening.Opening.{Opening}
 use Rattle.farm_entry.specs.declared.standing.Standing.{Standing}
-use Rattle.state_laws.specs.Seen.{seen}
+use Rattle.search_state.specs.Seen.{seen}
 use Rattle.search_state.specs.SearchView.{SearchView, standing_in}
 use Rattle.search_places.specs.SearchRows.{RowView, row_numbered}
 use Rattle.kept_farm.specs.Lines.{order_in_row}

@@ -3,7 +3,7 @@ use Rattle.threshold_pick.specs.CanPick.{CanPick}
 use Rattle.threshold_pick.specs.Picks.{open_pick_in}
 use Rattle.farm_entry.specs.Standing.{is_searching}
 use Rattle.farm_laws.proofs.Standings.{searching-at_bar}
-use Rattle.belief_laws.proofs.Beliefs.{can_pick, open_picked}
+use Rattle.farm_laws.proofs.Beliefs.{can_pick, open_picked}
 use Rattle.plain_farm.proofs.Histories.{opened_width}
 use Rattle.plain_farm.proofs.due_run.pick_of.Goals as goal
 

@@ -5,7 +5,7 @@ use Rattle.weight_exact.specs.Share.{basis_points}
 use Rattle.weight_exact.specs.Weights.{Setup, hypotheses}
 use Rattle.farm_entry.specs.History.{runs}
 use Rattle.farm_entry.specs.Setup.{setup_of}
-use Rattle.belief_laws.proofs.Beliefs.{hypotheses-of}
+use Rattle.farm_laws.proofs.Beliefs.{hypotheses-of}
 use Rattle.plain_farm.proofs.pages.shares_of.Goals as goal
 
 pub loop-before-preserved : goal.loop-before-preserved

@@ -1,7 +1,7 @@
 use Rattle.std.proofs.Common.{ℕ, List, sym, ap, subst, ◌∙◌}
 use Rattle.flake_rate.specs.Bar.{bar_denominator, bar_numerator}
 use Rattle.threshold_pick.specs.Blocks.{CanHalve, is_hidden_in}
-use Rattle.belief_laws.proofs.Beliefs.{can_halve, hidden-told}
+use Rattle.farm_laws.proofs.Beliefs.{can_halve, hidden-told}
 use Rattle.plain_farm.proofs.standings.hidden.Goals as goal
 
 pub is_hidden-requires : goal.is_hidden-requires

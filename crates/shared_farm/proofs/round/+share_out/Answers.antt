@@ -11,7 +11,7 @@ use Rattle.list_prefix.proofs.Prefixes.{IsPrefix-length, IsPrefix-trans}
 use Rattle.past_moments.proofs.Rows.{IsOlder-refl}
 use Rattle.past_moments.specs.Rows.{IsOlder}
 use Rattle.past_moments.specs.declared.row.Row.{Row}
-use Rattle.turn_lock.specs.Known.{Known, known_after}
+use Rattle.turn_lock.specs.Known.{AccountsFor, Known, known_after}
 use Rattle.turn_lock.specs.Places.{ArePlaces}
 use Rattle.shared_farm.specs.Rounds.{IsShared}
 use Rattle.shared_farm.specs.Outcomes.{HadTurn}
@@ -41,9 +41,18 @@ returns-then-is_empty-clause-pass g t c =
     let store = turn.value.value.store in
     subst (λ (l : List Entry). c.back.new.pass
     ≡ known_after c.args.lock.now turn.before l turn.own (g.D.Disk.count store.disk) store.pending
-    turn.value.value.log)
+    turn.value.value.log turn.failed)
     (sym (whole-shown c.args.lock.now c.args.errands.now store c.args.shown c.args.parts.now c.args.group.now
     c.is_empty.result c.requires.shared c.requires.helped c.is_empty.ensures c.if-is_empty.true)) c.back.ensures.pass
+
+pub back-requires-clause-owned : goal.back-requires-clause-owned
+back-requires-clause-owned g t c =
+    let turn = c.args.turn in
+    let store = turn.value.value.store in
+    subst (λ (l : List Entry). AccountsFor turn.before.taken l store.pending turn.own turn.failed)
+    (whole-shown c.args.lock.now c.args.errands.now store c.args.shown c.args.parts.now c.args.group.now
+    c.is_empty.result c.requires.shared c.requires.helped c.is_empty.ensures c.if-is_empty.true)
+    c.requires.owned
 
 -- the first errand with its part, and those of the others
 first : (g : _) (t : _) (c : After-remove-asks g t) → IsTakenFirst c.args.lock.now c.args.errands.now
@@ -110,7 +119,19 @@ share_out-requires g t c κs within =
                   own,
                   (
                     turn.ensures.out,
-                    (on.grown, (on.faults, (on.settled, (on.places, (on.shared, (older, f.others)))))),
+                    (
+                      on.grown,
+                      (
+                        on.faults,
+                        (
+                          on.settled,
+                          (
+                            on.places,
+                            (on.shared, (older, (f.others, on.accounts turn.result.failed))),
+                          ),
+                        ),
+                      ),
+                    ),
                   ),
                 ),
               ),
@@ -137,7 +158,8 @@ answer-requires-clause-says g t c =
     let log = turn.result.value.value.log in
     let H = turn.result.value.value.store.history in
     let new_is = subst (λ (x : StoreState g.row.D.Denot). new
-    ≡ known_after lock held (take part.end x.history) c.run-turn.result (count x.disk) x.pending log) now
+    ≡ known_after lock held (take part.end x.history) c.run-turn.result (count x.disk) x.pending log
+    turn.result.failed) now
     c.share_out.ensures.pass in
     let had = stored-had count (store_at store c.args.shown 0) store c.args.shown part later pass new held
     c.run-turn.result lock s turn.ensures.before
@@ -146,7 +168,9 @@ answer-requires-clause-says g t c =
       settled = turn.ensures.settled;
       begins = turn.ensures.seen;
       faults = turn.ensures.faults;
-    }) turn.ensures.mine c.run-turn.ensures log new_is in
+    }) turn.ensures.mine c.run-turn.ensures
+    (subst (λ (k : Known). 0 < k.stake.parts) (sym f.first.pass) f.first.errand.ready.some) turn.result.failed
+    turn.ensures.failed log new_is in
     let job = c.remove-taken.result.taken.job in
     record {
       asks = f.first.asks;

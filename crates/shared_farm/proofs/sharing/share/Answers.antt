@@ -1,8 +1,11 @@
 -- The turn of the one who asked for all, by the lemmas of `Members` and `Handing`.
-use Rattle.std.proofs.Common.{◌≡◌, ◌∷◌, ◌∙◌, ◌≤◌, ◌<◌, ◌-◌, ◌++◌, [], List, ℕ, Ok, Err, Vec, Global, length, take, drop, get_or, le_refl, map, ap, refl, sym, subst, arith}
+use Rattle.std.proofs.Common.{◌≡◌, ◌∷◌, ◌∙◌, ◌≤◌, ◌<◌, ◌-◌, ◌++◌, [], List, ℕ, Result, Ok, Err, Vec, Global, length, take, drop, get_or, le_refl, map, ap, refl, sym, subst, arith}
 use Rattle.farm_entry.specs.declared.entry.Entry.{Entry}
 use Rattle.farm_store.specs.Answering.{BatchSays}
-use Rattle.farm_store.specs.Together.{all_asks}
+use Rattle.farm_store.specs.Faults.{HasCallCause}
+use Rattle.farm_store.specs.State.{StoreState}
+use Rattle.farm_store.specs.Together.{TogetherSays, all_asks}
+use Rattle.farm_store.specs.declared.asking.CallFault.{CallFault}
 use Rattle.farm_store.specs.declared.asking.Ask.{Ask}
 use Rattle.farm_store.specs.declared.asking.Part.{Part}
 use Rattle.past_moments.proofs.Rows.{IsOlder-trans}
@@ -16,8 +19,10 @@ use Rattle.shared_farm.specs.Outcomes.{HadTurn}
 use Rattle.shared_farm.specs.Rounds.{first_asks}
 use Rattle.shared_farm.specs.declared.errand.Errand.{Errand}
 use Rattle.shared_farm.specs.declared.sharing.TheConstants.{MOST_PARTS}
+use Rattle.shared_farm.specs.Turns.{failed_by}
+use Rattle.shared_farm.proofs.Accounting.{failed-fault}
 use Rattle.shared_farm.proofs.Handing.{AreErrands, all-first, first-rest, first-same, helped-errands, helped-same, length-same, lent-back, rest-same}
-use Rattle.shared_farm.proofs.Members.{AreStored, IsOnward, failed-had, given-stored, shared-on, stored-had, stored-onward, take-begins}
+use Rattle.shared_farm.proofs.Members.{AreStored, IsOnward, failed-accounts, failed-had, given-stored, shared-on, stored-had, stored-onward, take-begins}
 use Rattle.shared_farm.proofs.Turning.{IsTaken, over-after, taken-found}
 use Rattle.shared_farm.proofs.sharing.share.Goals.{After-remove-asks, After-run-turn, In-Ok}
 use Rattle.shared_farm.proofs.sharing.share.Goals as goal
@@ -74,7 +79,14 @@ taken : (g : _) (c : After-remove-asks g)
 taken g c =
     let first = c.requires.begins in
     taken-found g.D.Disk.count c.args.turn.before.pass c.args.turn.before c.args.turn.value.value.store
-    c.deref_mut.result.now.store (ap (λ l. l.store) c.deref_mut.ensures.value) first.took first.settled first.seen first.faults
+    c.deref_mut.result.now.store (ap (λ l. l.store) c.deref_mut.ensures.value) first.took first.settled first.seen
+    first.faults
+
+-- what the call came to, by the arm that is gone on with
+says_of : {D : Type 0} (parts given : List Part) (result arm : Result (Unit {0}) CallFault) (old new : StoreState D)
+    → result ≡ arm → TogetherSays parts given result old new → TogetherSays parts given arm old new
+says_of parts given result arm old new is says =
+    subst (λ (r : Result (Unit {0}) CallFault). TogetherSays parts given r old new) is says
 
 -- the record was stored: the asks of the first part begin where the turn's own places do
 stored : (g : _) (c : In-Ok g)
@@ -92,8 +104,9 @@ stored g c is =
     (ap (λ (l : List Entry). length l) (c.history.ensures.value ∙ ap (λ l. l.store.history) c.deref.ensures))
     ∙ ap (λ (n : ℕ). length store.history - n) (c.recorded.ensures ∙ ap (λ l. l.store.recorded) c.deref-2.ensures) in
     subst (λ (l : List Part). AreStored count old store start l) is.whole
-    (given-stored count old store c.deref_mut-2.result.now gave.new.parts start c.in-Ok.ensures.says start_is
-    gave.ensures.goes_on)
+    (given-stored count old store c.deref_mut-2.result.now gave.new.parts start
+    (says_of c.deref_mut-2.result.now gave.new.parts gave.result (Ok c.in-Ok.field-0) old store c.in-Ok.is
+    gave.ensures.says) start_is gave.ensures.goes_on)
 
 -- and the turn may go on behind the first part
 onward : (g : _) (c : After-run-turn g) → AreStored g.D.Disk.count c.deref_mut.result.now.store
@@ -153,9 +166,12 @@ returns-in-Ok-clause-had g c =
     let known = c.args.turn.before.pass in
     let start = length c.history.result.now - c.recorded.result in
     subst (λ (l : List Ask). HadTurn count c.args.lock.now l (Ok part.answers) known c.share_out.new.pass) is.first
-    (stored-had count c.deref_mut.result.now.store c.call_together-result.new.self.store start part c.remove-asks.new.self.items
+    (stored-had count c.deref_mut.result.now.store c.call_together-result.new.self.store start part
+    c.remove-asks.new.self.items
     known c.share_out.new.pass c.args.turn.before c.run-turn.result c.args.lock.now (stored g at.In-Ok is) refl
-    (taken g at.After-remove-asks) c.requires.begins.places c.run-turn.ensures c.call_together-result.new.self.log c.share_out.ensures.pass)
+    (taken g at.After-remove-asks) c.requires.begins.places c.run-turn.ensures c.requires.part c.has_failed.result
+    (c.has_failed.ensures ∙ ap (λ r. failed_by r) c.in-Ok.is) c.call_together-result.new.self.log
+    c.share_out.ensures.pass)
 
 pub returns-clause-had : goal.returns-clause-had
 returns-clause-had g c =
@@ -172,19 +188,45 @@ returns-clause-had g c =
     let says : BatchSays (first_asks parts ++ errands_asks jobs) (Err f) old store =
     subst (λ (l : List Ask). BatchSays l (Err f) old store)
     (ap (λ (l : List Part). all_asks l) c.deref_mut-2.ensures.value ∙ sym (all-first parts)
-    ∙ ap (λ (l : List Ask). first_asks parts ++ l) errands.asks) c.in-Err.ensures.says in
+    ∙ ap (λ (l : List Ask). first_asks parts ++ l) errands.asks)
+    (says_of c.deref_mut-2.result.now gave.new.parts gave.result (Err f) old store c.in-Err.is gave.ensures.says) in
+    let first = g.D.Disk.count old.disk in
+    let last = g.D.Disk.count store.disk in
     failed-had g.D.Disk.count old store (first_asks parts) jobs f c.args.turn.before.pass c.ask_each.new.pass
     c.args.turn.before c.args.turn.own lock c.requires.own errands.each
-    (few_others parts jobs errands.count c.requires.some c.requires.few) says c.in-Err.ensures.cause
+    (few_others parts jobs errands.count c.requires.some c.requires.few) says
+    (subst (λ (r : Result (Unit {0}) CallFault). HasCallCause r first last) c.in-Err.is gave.ensures.cause)
     gave.ensures.goes_on refl (taken g (goal.at.returns-clause-had g c).After-remove-asks) c.requires.begins.places
-    c.requires.nothing gave.new.self.log c.ask_each.ensures.pass
+    c.requires.nothing c.requires.part c.has_failed.result
+    (c.has_failed.ensures ∙ ap (λ r. failed_by r) c.in-Err.is ∙ failed-fault f) gave.new.self.log
+    c.ask_each.ensures.pass
+
+pub share_out-requires-clause-owned : goal.share_out-requires-clause-owned
+share_out-requires-clause-owned g c κs within =
+    let at = goal.at.share_out-requires-clause-owned g c in
+    let b = at.After-remove-asks in
+    (onward g at.After-run-turn (stored g at.In-Ok (parted g b)) (taken g b)).accounts c.has_failed.result
+
+pub ask_each-requires-clause-owned : goal.ask_each-requires-clause-owned
+ask_each-requires-clause-owned g c κs within =
+    let gave = c.call_together-result in
+    let old = c.deref_mut.result.now.store in
+    let store = gave.new.self.store in
+    let f = c.in-Err.fault in
+    failed-accounts g.D.Disk.count old store (all_asks c.deref_mut-2.result.now) f c.args.turn.before.taken
+    c.args.turn.own c.has_failed.result
+    (says_of c.deref_mut-2.result.now gave.new.parts gave.result (Err f) old store c.in-Err.is gave.ensures.says)
+    gave.ensures.goes_on
+    (taken g (goal.at.ask_each-requires-clause-owned g c).After-remove-asks).took c.requires.nothing
+    (c.has_failed.ensures ∙ ap (λ r. failed_by r) c.in-Err.is ∙ failed-fault f)
 
 -- the turn's log only got newer rows
 told : (g : _) (c : After-remove-asks g) → IsOlder c.args.turn.before.log c.call_together-result.new.self.log
 told g c =
     let gave = c.call_together-result in
     let older : IsOlder c.args.turn.value.value.log gave.new.self.log =
-    subst (λ (l : List Row). IsOlder l gave.new.self.log) (ap (λ l. l.log) c.deref_mut.ensures.value) gave.ensures.told in
+    subst (λ (l : List Row). IsOlder l gave.new.self.log) (ap (λ l. l.log) c.deref_mut.ensures.value) gave.ensures.told
+    in
     IsOlder-trans c.args.turn.before.log c.args.turn.value.value.log gave.new.self.log c.requires.logged older
 
 pub share_out-requires-clause-logged : goal.share_out-requires-clause-logged
@@ -202,7 +244,8 @@ over : (g : _) (c : After-remove-asks g) (new : Known)
     → IsOver (g.D.Over.Past.at c.passed-over.result) new
 over g c new rows holds =
     let asked = c.passed-over in
-    over-after g.D.DatedDisk.dated (g.D.Over.Past.at asked.result) new c.call_together-result.new.self c.deref-4.result.now
+    over-after g.D.DatedDisk.dated (g.D.Over.Past.at asked.result) new c.call_together-result.new.self
+    c.deref-4.result.now
     c.args.turn.before.pass.rows c.deref-4.ensures asked.ensures.newest asked.ensures.over rows holds
 
 pub returns-in-Ok-clause-over : goal.returns-in-Ok-clause-over

@@ -10,4 +10,4 @@ abbrev pub invariant-loop-index : goal.invariant-loop-index
 invariant-loop-index l =
     (first_repeat l.base l.suspects
     ≡ find (is_repeat l.base l.suspects) (range_with_len (l.index + 1) (length l.suspects - l.index)))
-    × AreMarked l.below.marks (take (l.index + 1) (commits_of l.base l.suspects))
+    × AreMarked l.below.words (take (l.index + 1) (commits_of l.base l.suspects))

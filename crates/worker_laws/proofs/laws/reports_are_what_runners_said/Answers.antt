@@ -1,4 +1,4 @@
-use Rattle.farm_laws.proofs.OnceEach.{told-once}
+use Rattle.history_laws.proofs.OnceEach.{told-once}
 use Rattle.worker_laws.proofs.Happened.{ever-sound}
 use Rattle.worker_laws.proofs.laws.reports_are_what_runners_said.Goals as goal
 

@@ -4,7 +4,7 @@ use Rattle.farm_types.specs.Moment.{moment_ms}
 use Rattle.farm_entry.specs.History.{opening_numbered}
 use Rattle.farm_entry.specs.declared.entry.Entry.{Entry}
 use Rattle.farm_laws.specs.Laws.{IsNotBefore}
-use Rattle.state_laws.specs.Seen.{seen}
+use Rattle.search_state.specs.Seen.{seen}
 use Rattle.farm_state.proofs.DueRuns.{few-out}
 use Rattle.farm_state.proofs.state.FarmState.due_at.Goals as goal
 

@@ -2,7 +2,7 @@ use Rattle.std.proofs.Common.{[], ◌∷◌, sym, ap, subst, ◌∙◌}
 use Rattle.farm_entry.specs.Legal.{IsLegal}
 use Rattle.farm_entry.specs.declared.entry.Entry.{Entry}
 use Rattle.farm_entry.specs.declared.entry.What.TheVariants.{Founded}
-use Rattle.state_laws.specs.Seen.{all_seen}
+use Rattle.search_state.specs.Seen.{all_seen}
 use Rattle.farm_state.proofs.state.FarmState.found.Goals as goal
 
 pub invariant_of-result : goal.invariant_of-result

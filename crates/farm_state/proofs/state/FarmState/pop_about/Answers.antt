@@ -2,7 +2,7 @@ use Rattle.std.proofs.Common.{◌≡◌, ℕ, ◌-◌, List, length, set, get_or
 use Rattle.farm_entry.specs.History.{openings}
 use Rattle.farm_entry.specs.declared.entry.Entry.{Entry}
 use Rattle.search_state.specs.SearchView.{SearchView}
-use Rattle.state_laws.specs.Seen.{all_seen, seen}
+use Rattle.search_state.specs.Seen.{all_seen, seen}
 use Rattle.farm_state.proofs.Popping.{left-of}
 use Rattle.farm_state.proofs.Searches.{search-high, search-low}
 use Rattle.farm_state.proofs.state.FarmState.pop_about.Goals as goal

@@ -2,8 +2,8 @@ use Rattle.std.proofs.Common.{◌≡◌, List, [], ◌∷◌, ◌++◌, length, 
 use Rattle.std.specs.Vec.{vec_len}
 use Rattle.farm_entry.specs.declared.entry.Entry.{Entry}
 use Rattle.search_state.specs.SearchView.{opened}
-use Rattle.state_laws.specs.Seen.{all_seen}
-use Rattle.state_laws.proofs.AllStates.{opened-all}
+use Rattle.search_state.specs.Seen.{all_seen}
+use Rattle.search_state.proofs.AllStates.{opened-all}
 use Rattle.farm_state.proofs.Popping.{last-on, popped-end}
 use Rattle.farm_state.proofs.state.FarmState.pop_opening.Goals as goal
 

@@ -1,7 +1,7 @@
 use Rattle.std.proofs.Common.{List, ap, ◌∙◌}
 use Rattle.farm_entry.specs.declared.entry.Entry.{Entry}
-use Rattle.state_laws.specs.Seen.{all_seen}
-use Rattle.state_laws.proofs.AllStates.{quiet-all}
+use Rattle.search_state.specs.Seen.{all_seen}
+use Rattle.search_state.proofs.AllStates.{quiet-all}
 use Rattle.farm_state.proofs.Popping.{last-on}
 use Rattle.farm_state.proofs.state.FarmState.pop_quiet.Goals as goal
 

@@ -4,9 +4,9 @@ use Rattle.farm_entry.specs.declared.entry.Entry.{Entry}
 use Rattle.farm_laws.proofs.EntryParts.{cancelled-facts}
 use Rattle.farm_books.proofs.Entries.{entry-steps}
 use Rattle.search_state.specs.SearchView.{SearchView, cancelled}
-use Rattle.state_laws.specs.Seen.{all_seen, seen}
-use Rattle.state_laws.proofs.AllStates.{cancelled-all}
-use Rattle.state_laws.proofs.Changes.{cancelled-not_opened}
+use Rattle.search_state.specs.Seen.{all_seen, seen}
+use Rattle.search_state.proofs.AllStates.{cancelled-all}
+use Rattle.search_state.proofs.Changes.{cancelled-not_opened}
 use Rattle.farm_state.proofs.Searches.{IsSearchOf, search-high, search-low, search-of_opening, search-state}
 use Rattle.farm_state.proofs.state.FarmState.push_end.Goals as goal
 

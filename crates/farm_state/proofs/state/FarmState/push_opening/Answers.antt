@@ -6,8 +6,8 @@ use Rattle.farm_entry.specs.declared.entry.Entry.{Entry}
 use Rattle.farm_entry.specs.declared.opening.Opening.{Opening}
 use Rattle.farm_books.proofs.Entries.{entry-steps}
 use Rattle.search_state.specs.SearchView.{SearchView}
-use Rattle.state_laws.specs.Seen.{all_seen}
-use Rattle.state_laws.proofs.AllStates.{opened-all}
+use Rattle.search_state.specs.Seen.{all_seen}
+use Rattle.search_state.proofs.AllStates.{opened-all}
 use Rattle.farm_state.proofs.Searches.{opened-within}
 use Rattle.farm_state.proofs.state.FarmState.push_opening.Goals as goal
 

@@ -2,8 +2,8 @@ use Rattle.std.proofs.Common.{List, [], ◌∷◌, ◌++◌, sym, ap, subst, ◌
 use Rattle.farm_entry.specs.Legal.{IsLegal}
 use Rattle.farm_entry.specs.declared.entry.Entry.{Entry}
 use Rattle.farm_books.proofs.Entries.{entry-steps}
-use Rattle.state_laws.specs.Seen.{all_seen}
-use Rattle.state_laws.proofs.AllStates.{quiet-all}
+use Rattle.search_state.specs.Seen.{all_seen}
+use Rattle.search_state.proofs.AllStates.{quiet-all}
 use Rattle.farm_state.proofs.state.FarmState.push_quiet.Goals as goal
 
 pub invariant_of-self-2 : goal.invariant_of-self-2

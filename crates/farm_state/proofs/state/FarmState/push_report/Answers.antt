@@ -11,10 +11,10 @@ use Rattle.farm_laws.proofs.EntryParts.{reported-facts}
 use Rattle.farm_laws.proofs.Numbered.{lease-there}
 use Rattle.farm_books.proofs.Entries.{entry-steps}
 use Rattle.search_state.specs.SearchView.{IsPlaced, SearchView, after_report, fate_in}
-use Rattle.state_laws.specs.Seen.{all_seen, seen}
-use Rattle.state_laws.proofs.AllStates.{reported-all}
-use Rattle.state_laws.proofs.Asking.{report-ruled, reports-few, run-placed}
-use Rattle.state_laws.proofs.Changes.{report-not_opened}
+use Rattle.search_state.specs.Seen.{all_seen, seen}
+use Rattle.search_state.proofs.AllStates.{reported-all}
+use Rattle.search_state.proofs.Asking.{report-ruled, reports-few, run-placed}
+use Rattle.search_state.proofs.Changes.{report-not_opened}
 use Rattle.farm_state.proofs.Searches.{search-high, search-low, search-of_lease, search-state}
 use Rattle.farm_state.proofs.state.FarmState.push_report.Goals as goal
 

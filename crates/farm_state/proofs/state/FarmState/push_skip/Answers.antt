@@ -8,10 +8,10 @@ use Rattle.farm_laws.proofs.EntryParts.{skipped-facts}
 use Rattle.farm_laws.proofs.Numbered.{lease-there}
 use Rattle.farm_books.proofs.Entries.{entry-steps}
 use Rattle.search_state.specs.SearchView.{IsPlacedAt, SearchView, after_skip, skip_fate_in}
-use Rattle.state_laws.specs.Seen.{all_seen, seen}
-use Rattle.state_laws.proofs.AllStates.{skipped-all}
-use Rattle.state_laws.proofs.Asking.{skip-placed, skip-ruled}
-use Rattle.state_laws.proofs.Changes.{skip-not_opened}
+use Rattle.search_state.specs.Seen.{all_seen, seen}
+use Rattle.search_state.proofs.AllStates.{skipped-all}
+use Rattle.search_state.proofs.Asking.{skip-placed, skip-ruled}
+use Rattle.search_state.proofs.Changes.{skip-not_opened}
 use Rattle.farm_state.proofs.Searches.{search-high, search-low, search-of_lease, search-state}
 use Rattle.farm_state.proofs.state.FarmState.push_skip.Goals as goal
 

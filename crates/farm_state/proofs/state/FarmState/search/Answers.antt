@@ -4,7 +4,7 @@ use Rattle.std.proofs.lemmas.List.{length-map}
 use Rattle.farm_entry.specs.History.{opening_numbered, openings}
 use Rattle.farm_entry.specs.declared.entry.Entry.{Entry}
 use Rattle.search_state.specs.SearchView.{SearchView}
-use Rattle.state_laws.specs.Seen.{all_seen, seen}
+use Rattle.search_state.specs.Seen.{all_seen, seen}
 use Rattle.farm_state.proofs.Searches.{search-none, search-some}
 use Rattle.farm_state.proofs.state.FarmState.search.Goals as goal
 

@@ -1,7 +1,16 @@
--- What founding leaves, by the lemmas of `Foundings`.
-use Rattle.std.proofs.Common.{◌∙◌, sym}
-use Rattle.farm_store.specs.Founded.{founding}
-use Rattle.farm_store.proofs.Foundings.{first-moments, first-since, first-stored, founding-fits, founding-legal, founding-some, moments-start, since-start, store-founded}
+-- What founding leaves, as creating does with the history of a founding.
+use Rattle.std.proofs.Common.{◌≡◌, ◌≤◌, true, List, [], ap, length, subst, sym}
+use Rattle.std.specs.Prelude.{IfOk}
+use Rattle.entry_codec.specs.Spelling.{spelling}
+use Rattle.farm_disk.specs.Images.{LeavesOnly, LeavesSinceSync}
+use Rattle.farm_entry.specs.declared.entry.Entry.{Entry}
+use Rattle.farm_store.specs.Founded.{IsUnbornOr, disk_founded, founding}
+use Rattle.farm_store.specs.State.{IsStored, StoreState}
+use Rattle.farm_store.specs.declared.asking.TheConstants.{MAX_RECORD_BYTES}
+use Rattle.farm_core.specs.FarmView.{FarmView}
+use Rattle.farm_entry.specs.Legal.{IsLegal}
+use Rattle.farm_store.proofs.Calls.{on_ok-always}
+use Rattle.farm_store.proofs.Foundings.{founding-fits, moments-start, since-start}
 use Rattle.farm_store.proofs.store.Store.found.Goals as goal
 
 pub returns-in-Err-clause-since_sync : goal.returns-in-Err-clause-since_sync
@@ -11,43 +20,28 @@ pub returns-in-Err-clause-any_moment : goal.returns-in-Err-clause-any_moment
 returns-in-Err-clause-any_moment g c = λ t unborn each. moments-start (founding c.args.settings c.args.at) _ each
 
 pub create-requires : goal.create-requires
-create-requires g c = founding-fits c.args.settings c.args.at _ c.in-Ok.ensures.payload c.in-Ok.ensures.spelled
+create-requires g c =
+    subst (λ (l : List Entry). length (spelling l) ≤ MAX_RECORD_BYTES) (sym (ap (λ (f : FarmView). f.history) c.in-Ok.ensures)) (founding-fits c.args.settings c.args.at)
 
-pub invariant_of-result : goal.invariant_of-result
-invariant_of-result g c =
-    store-founded (founding c.args.settings c.args.at) (founding-some c.args.settings c.args.at)
-    (founding-legal c.args.settings c.args.at) _ c.in-Ok.ensures.payload c.in-Ok.ensures.spelled
-    g.D.Disk.tells g.D.Disk.told _ _ c.in-Ok.ensures.farm c.in-Ok-create.ensures.payload c.in-Ok-create.ensures.idle
-    (λ t. c.in-Ok-create.ensures.held (sym c.in-Ok-create.ensures.same ∙ t))
+pub returns-in-Ok-clause-history : goal.returns-in-Ok-clause-history
+returns-in-Ok-clause-history g c =
+    subst (λ (l : List Entry). IfOk c.create.result (λ (s : StoreState g.row.D.Denot). s.history ≡ l)) (ap (λ (f : FarmView). f.history) c.in-Ok.ensures)
+    c.create.ensures.history
 
-pub returns-in-Ok-create-clause-stored : goal.returns-in-Ok-create-clause-stored
-returns-in-Ok-create-clause-stored g c = λ t.
-    first-stored (founding c.args.settings c.args.at) (founding-some c.args.settings c.args.at)
-    (founding-legal c.args.settings c.args.at) _ c.in-Ok.ensures.payload c.in-Ok.ensures.spelled _
-    (c.in-Ok-create.ensures.held t)
+pub returns-in-Ok-clause-stored : goal.returns-in-Ok-clause-stored
+returns-in-Ok-clause-stored g c =
+    subst (λ (l : List Entry). IfOk c.create.result (λ (s : StoreState g.row.D.Denot). g.D.Disk.tells c.args.disk ≡ true
+    → IsStored l [] (g.D.Disk.told s.disk))) (ap (λ (f : FarmView). f.history) c.in-Ok.ensures) c.create.ensures.stored
 
-pub returns-in-Ok-create-clause-since_sync : goal.returns-in-Ok-create-clause-since_sync
-returns-in-Ok-create-clause-since_sync g c = λ t unborn.
-    first-since (founding c.args.settings c.args.at) (founding-some c.args.settings c.args.at)
-    (founding-legal c.args.settings c.args.at) _ c.in-Ok.ensures.payload c.in-Ok.ensures.spelled
-    (g.D.Disk.told c.args.disk) (g.D.Disk.told c.in-Ok-create.journal.disk)
-    (c.in-Ok-create.ensures.since_sync t unborn)
+pub returns-in-Ok-clause-since_sync : goal.returns-in-Ok-clause-since_sync
+returns-in-Ok-clause-since_sync g c = λ t unborn.
+    subst (λ (l : List Entry). LeavesSinceSync (g.D.Disk.told c.args.disk) (g.D.Disk.told (disk_founded c.create.result))
+    (IsUnbornOr l)) (ap (λ (f : FarmView). f.history) c.in-Ok.ensures) (c.create.ensures.since_sync t unborn)
 
-pub returns-in-Ok-create-clause-any_moment : goal.returns-in-Ok-create-clause-any_moment
-returns-in-Ok-create-clause-any_moment g c = λ t unborn each.
-    first-moments (founding c.args.settings c.args.at) (founding-some c.args.settings c.args.at)
-    (founding-legal c.args.settings c.args.at) _ c.in-Ok.ensures.payload c.in-Ok.ensures.spelled _ _
-    (c.in-Ok-create.ensures.any_moment t unborn each)
+pub returns-in-Ok-clause-any_moment : goal.returns-in-Ok-clause-any_moment
+returns-in-Ok-clause-any_moment g c = λ t unborn each.
+    subst (λ (l : List Entry). LeavesOnly (g.D.Disk.told c.args.disk) (g.D.Disk.told (disk_founded c.create.result))
+    (IsUnbornOr l)) (ap (λ (f : FarmView). f.history) c.in-Ok.ensures) (c.create.ensures.any_moment t unborn each)
 
-pub returns-in-Err-create-clause-since_sync : goal.returns-in-Err-create-clause-since_sync
-returns-in-Err-create-clause-since_sync g c = λ t unborn.
-    first-since (founding c.args.settings c.args.at) (founding-some c.args.settings c.args.at)
-    (founding-legal c.args.settings c.args.at) _ c.in-Ok.ensures.payload c.in-Ok.ensures.spelled
-    (g.D.Disk.told c.args.disk) (g.D.Disk.told c.in-Err-create.missed.0)
-    (c.in-Err-create.ensures.since_sync t unborn)
-
-pub returns-in-Err-create-clause-any_moment : goal.returns-in-Err-create-clause-any_moment
-returns-in-Err-create-clause-any_moment g c = λ t unborn each.
-    first-moments (founding c.args.settings c.args.at) (founding-some c.args.settings c.args.at)
-    (founding-legal c.args.settings c.args.at) _ c.in-Ok.ensures.payload c.in-Ok.ensures.spelled _ _
-    (c.in-Err-create.ensures.any_moment t unborn each)
+pub returns-in-Ok-clause-legal : goal.returns-in-Ok-clause-legal
+returns-in-Ok-clause-legal g c = on_ok-always c.create.result (IsLegal (founding c.args.settings c.args.at)) (tt, tt)

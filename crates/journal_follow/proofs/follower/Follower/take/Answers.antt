@@ -1,7 +1,7 @@
 -- What taking a page comes to, by its repair and what follows it.
 use Rattle.std.proofs.Common.{◌≡◌, ◌≢◌, ◌∙◌, [], Err, sym}
 use Rattle.journal_follow.specs.State.{IsSameDisk}
-use Rattle.journal_follow.proofs.Holding.{leaves-decided, leaves-then, on_memory-weaker, on_ok-weaker}
+use Rattle.journal_follow.proofs.Holding.{leaves-then, on_memory-weaker, on_ok-weaker}
 use Rattle.journal_follow.proofs.Takings.{came-on, came-unrepaired, cause-then, held-same}
 use Rattle.journal_follow.proofs.follower.Follower.take.Goals as goal
 
@@ -12,8 +12,7 @@ returns-in-Err-clause-takes g c =
 
 pub returns-in-Err-clause-any_moment : goal.returns-in-Err-clause-any_moment
 returns-in-Err-clause-any_moment g c = λ t.
-    leaves-decided c.args.self.now.held c.repair.new.self.held c.args.self.now.disk c.repair.new.self.disk
-    (c.repair.ensures.any_moment t)
+    c.repair.ensures.any_moment t
 
 pub returns-in-Err-clause-memory : goal.returns-in-Err-clause-memory
 returns-in-Err-clause-memory g c =

@@ -5,9 +5,8 @@ use Rattle.std.proofs.lemmas.Bool.Decides.{nat_tests}
 use Rattle.std.proofs.lemmas.List.{nil_from_length}
 use Rattle.entry_codec.specs.Spelling.{spelling}
 use Rattle.farm_entry.specs.declared.entry.Entry.{Entry}
-use Rattle.journal_follow.proofs.Advances.{spelling-part}
 use Rattle.journal_follow.proofs.Holding.{leaves-none, may-front}
-use Rattle.journal_follow.proofs.Placing.{spelling-long}
+use Rattle.journal_follow.proofs.Legals.{spelling-long, spelling-part}
 use Rattle.journal_follow.proofs.Takings.{came-missed, came-none, came-refused, came-stored, may-bounded}
 use Rattle.journal_follow.proofs.follower.Follower.take_decided.Goals as goal
 

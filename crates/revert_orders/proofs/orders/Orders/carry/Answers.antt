@@ -1,7 +1,8 @@
-use Rattle.std.proofs.Common.{◌≡◌, ◌∙◌, false, length, ap, sym, subst, arith}
-use Rattle.farm_rules.specs.Orders.{has_order}
-use Rattle.revert_orders.specs.Book.{Book, IsOnePerCommit}
+use Rattle.std.proofs.Common.{◌≡◌, ◌∙◌, false, length, ap, refl, sym, subst, arith}
+use Rattle.farm_rules.specs.Orders.{has_order, orders_of}
+use Rattle.revert_orders.specs.Book.{Book, IsOnePerCommit, ordered}
 use Rattle.revert_orders.specs.Chains.{orders_in}
+use Rattle.revert_orders.proofs.Days.{orders_of-same}
 use Rattle.revert_orders.proofs.Items.{IsOnePerCommit-push, length-orders_in}
 use Rattle.revert_orders.proofs.orders.Orders.carry.Goals as goal
 
@@ -26,4 +27,11 @@ invariant_of-self c =
         c.requires.few,
       );
       given_here = omega (arith, linked.len, c.self.invariant.given_here);
+      counted = omega (
+        arith,
+        c.count-before.ensures,
+        ap (λ (book : Book). orders_of c.args.carried.day book.orders) c.self.view_is,
+        orders_of-same c.args.carried.day (orders_in items) (ordered c.args.carried.commit c.args.carried.day) refl,
+        ap (orders_of c.args.carried.day) linked.orders,
+      );
     }

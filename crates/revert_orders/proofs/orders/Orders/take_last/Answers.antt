@@ -1,8 +1,22 @@
-use Rattle.std.proofs.Common.{subst, arith}
+use Rattle.std.proofs.Common.{ap, subst, arith}
+use Rattle.farm_rules.specs.Orders.{orders_of}
 use Rattle.revert_orders.specs.Book.{IsOnePerCommit, ordered}
 use Rattle.revert_orders.specs.Chains.{orders_in}
+use Rattle.revert_orders.proofs.Days.{orders_of-more}
 use Rattle.revert_orders.proofs.Items.{IsOnePerCommit-front}
 use Rattle.revert_orders.proofs.orders.Orders.take_last.Goals as goal
+
+pub overflow_sub-self : goal.overflow_sub-self
+overflow_sub-self c =
+    let last = c.unlink_last-last.result in
+    omega (
+      arith,
+      c.from.ensures,
+      c.self.invariant.counted,
+      ap (orders_of c.self.inside.last_day) c.unlink_last-last.ensures.orders,
+      orders_of-more c.self.inside.last_day (orders_in c.unlink_last-last.new.items.items)
+          (ordered last.commit last.day),
+    )
 
 pub invariant_of-self : goal.invariant_of-self
 invariant_of-self c =
@@ -16,4 +30,12 @@ invariant_of-self c =
           (subst IsOnePerCommit left.orders c.self.invariant.apart);
       few = omega (arith, left.len, c.self.invariant.few);
       given_here = omega (arith, left.len, c.saturating_sub-self-inside.ensures, c.self.invariant.given_here);
+      counted = omega (
+        arith,
+        c.from.ensures,
+        c.self.invariant.counted,
+        ap (orders_of c.self.inside.last_day) left.orders,
+        orders_of-more c.self.inside.last_day (orders_in c.unlink_last-last.new.items.items)
+            (ordered last.commit last.day),
+      );
     }

@@ -4,7 +4,7 @@ use Rattle.threshold_pick.specs.CanPick.{CanPick}
 use Rattle.threshold_pick.specs.Picks.{open_pick_in}
 use Rattle.farm_entry.specs.Setup.{setup_of}
 use Rattle.farm_entry.specs.declared.standing.Standing.TheVariants.{Searching}
-use Rattle.belief_laws.proofs.Beliefs.{belief-can_pick, belief-picks}
+use Rattle.farm_laws.proofs.Beliefs.{belief-can_pick, belief-picks}
 use Rattle.search_state.specs.SearchInside.{search_view}
 use Rattle.search_state.specs.SearchView.{SearchView, standing_in}
 use Rattle.search_state.proofs.Reclosed.{kept-belief, kept-searching}

@@ -4,7 +4,7 @@ use Rattle.weight_exact.specs.declared.factors.Factors.{Factors}
 use Rattle.weight_exact.specs.declared.run.Run.{Run}
 use Rattle.posterior.specs.StandsFor.{StandsFor}
 use Rattle.farm_entry.specs.Setup.{setup_of}
-use Rattle.belief_laws.proofs.Beliefs.{hypotheses-of}
+use Rattle.farm_laws.proofs.Beliefs.{hypotheses-of}
 use Rattle.search_state.specs.Begun.{IsBelieved}
 use Rattle.search_state.proofs.Reclosed.{begun-search, follows-along}
 use Rattle.search_state.proofs.state.SearchState.start.Goals as goal

@@ -1,5 +1,7 @@
-use Rattle.std.proofs.Common.{sym, subst}
+use Rattle.std.proofs.Common.{List, ap, sym, subst, ◌∙◌}
+use Rattle.farm_entry.specs.declared.entry.Entry.{Entry}
 use Rattle.past_moments.specs.Rows.{AreAmong}
+use Rattle.turn_lock.specs.Known.{IsOwned}
 use Rattle.shared_farm.specs.Logs.{LockedState}
 use Rattle.shared_farm.proofs.Logging.{logged-among}
 use Rattle.shared_farm.proofs.farm.SharedFarm.close.Goals as goal
@@ -11,3 +13,11 @@ returns-clause-logged g c = λ tell.
     logged-among store.history (g.D.Disk.told store.disk) c.args.pass.rows locked.log
     (subst (λ (l : LockedState g.row.D.Denot). AreAmong c.args.pass.rows l.log) (sym c.into_inner.ensures)
     c.close.ensures.rows) (c.into_store.ensures.logged tell)
+
+pub returns-clause-owned : goal.returns-clause-owned
+returns-clause-owned g c = λ all.
+    let pass = c.args.pass in
+    subst (λ (H : List Entry). IsOwned pass.mine pass.stake.undecided H)
+    (ap (λ (l : LockedState g.row.D.Denot). l.store.history) (sym c.into_inner.ensures)
+    ∙ ap (λ s. s.history) (sym c.into_store.ensures.same))
+    (c.close.ensures.owned all)

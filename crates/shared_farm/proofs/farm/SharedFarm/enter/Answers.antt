@@ -1,8 +1,9 @@
-use Rattle.std.proofs.Common.{List, ap, subst, sym, ◌∙◌}
+use Rattle.std.proofs.Common.{Bool, List, ap, subst, sym, ◌∙◌}
 use Rattle.farm_store.specs.Entering.{Enters}
 use Rattle.past_moments.specs.Rows.{IsOlder}
 use Rattle.past_moments.specs.declared.row.Row.{Row}
 use Rattle.shared_farm.specs.Answered.{own_places}
+use Rattle.shared_farm.proofs.Accounting.{IsTold, enter-told}
 use Rattle.shared_farm.proofs.Turning.{IsServed, IsServing, served-keeps, served-own, served-turn, serving-givable, taken-found}
 use Rattle.shared_farm.proofs.farm.SharedFarm.enter.Goals.{After-own_places-turn}
 use Rattle.shared_farm.proofs.farm.SharedFarm.enter.Goals as goal
@@ -10,16 +11,23 @@ use Rattle.shared_farm.proofs.farm.SharedFarm.enter.Goals as goal
 -- the turn of the caller, when the store has answered
 serving : (g : _) (c : After-own_places-turn g) → IsServing g.D.Disk.count c.args.pass.now
     c.turn-turn.result.before c.deref_mut.result.now.store c.enter-result.new.self.store c.own_places-turn.result
+    c.has_failed.result
 serving g c =
     let turn = c.turn-turn in
     record {
       held_is = turn.ensures.pass;
+      some = c.requires.ready.some;
       places = turn.ensures.places;
       taken = taken-found g.D.Disk.count c.args.pass.now turn.result.before turn.result.value.value.store
-          c.deref_mut.result.now.store (ap (λ l. l.store) c.deref_mut.ensures.value) turn.ensures.taken turn.ensures.settled turn.ensures.seen
+          c.deref_mut.result.now.store (ap (λ l. l.store) c.deref_mut.ensures.value) turn.ensures.taken
+          turn.ensures.settled turn.ensures.seen
           turn.ensures.faults;
       answered = c.enter-result.ensures.goes_on;
       own_is = c.own_places-turn.ensures ∙ ap (λ l. own_places l.store) c.deref.ensures;
+      told = subst (λ (b : Bool). IsTold c.enter-result.new.self.store b) (sym c.has_failed.ensures)
+          (enter-told c.args.command.now c.args.at c.enter-result.result c.deref_mut.result.now.store
+          c.enter-result.new.self.store
+          c.enter-result.ensures.says);
     }
 
 pub back-requires-clause-places : goal.back-requires-clause-places
@@ -35,9 +43,14 @@ back-requires-clause-logged g c =
     subst (λ (l : List Row). IsOlder l c.enter-result.new.self.log)
     (ap (λ l. l.log) c.deref_mut.ensures.value ∙ sym c.turn-turn.ensures.log) c.enter-result.ensures.told
 
+pub back-requires-clause-owned : goal.back-requires-clause-owned
+back-requires-clause-owned g c =
+    (serving-givable (serving g (goal.at.back-requires-clause-owned g c).After-own_places-turn)).accounts
+
 -- and when it was given back
 served : (g : _) (c : goal.After-ring_next g) → IsServed g.D.Disk.count c.args.pass.now c.back.new.pass
     c.turn-turn.result.before c.deref_mut.result.now.store c.enter-result.new.self.store c.own_places-turn.result
+    c.has_failed.result
 served g c = record {
   serving = serving g (goal.at.returns-clause-own g c).After-own_places-turn;
   lock = c.self.inside.lock;
@@ -48,7 +61,8 @@ served g c = record {
 pub returns-clause-turn : goal.returns-clause-turn
 returns-clause-turn g c =
     let answer = c.enter-result in
-    served-turn (served g c) (Enters c.args.command.now c.args.at answer.result) answer.result answer.ensures.says
+    served-turn (served g c) (Enters c.args.command.now c.args.at answer.result) answer.result c.has_failed.ensures
+    answer.ensures.says
     answer.ensures.cause
 
 pub returns-clause-own : goal.returns-clause-own

@@ -8,7 +8,8 @@ use Rattle.past_moments.proofs.Rows.{IsOlder-refl}
 use Rattle.past_moments.specs.Rows.{IsOlder}
 use Rattle.past_moments.specs.declared.row.Row.{Row}
 use Rattle.shared_farm.specs.Turns.{KeepsPass}
-use Rattle.shared_farm.proofs.Turning.{IsTaken, look-keeps, taken-found}
+use Rattle.shared_farm.proofs.Accounting.{looked-accounts}
+use Rattle.shared_farm.proofs.Turning.{IsTaken, look-keeps, look-stake, taken-found}
 use Rattle.shared_farm.proofs.farm.SharedFarm.reader.Goals as goal
 
 -- what the lock holds stands for, by its store
@@ -45,6 +46,8 @@ returns-clause-look g c =
       seen = ap (λ (k : Known). k.seen) new ∙ ap (λ (t : Taken). t.entries) (sym last);
       faults = ap (λ (k : Known). k.faults) new ∙ ap (λ (t : Taken). t.count) (sym last);
       pending = ap (λ (k : Known). k.pending) new ∙ ap (λ (t : Taken). Some t.pending) (sym last);
+      stake = look-stake c.back.new.pass c.args.pass.now c.turn-turn.result.before c.self.inside.lock _ _ _ _ _ _
+          c.turn-turn.ensures.failed c.turn-turn.ensures.pass new;
     }
 
 pub returns-clause-keeps : goal.returns-clause-keeps
@@ -58,10 +61,22 @@ returns-clause-keeps g c =
     turn.ensures.settled turn.ensures.seen turn.ensures.faults in
     subst (λ (lock : TableId). KeepsPass lock c.args.pass.now c.back.new.pass) c.self.view_is
     (look-keeps count c.args.pass.now c.back.new.pass turn.result.before left turn.result.own c.self.inside.lock _
-    turn.ensures.pass taken turn.ensures.places c.reader-reader.ensures.legal turn.ensures.own c.back.ensures.pass)
+    turn.ensures.pass taken turn.ensures.places c.reader-reader.ensures.legal turn.ensures.own c.requires.ready.some _
+    c.back.ensures.pass)
 
 pub back-requires-clause-logged : goal.back-requires-clause-logged
 back-requires-clause-logged g c =
     subst (λ (l : List Row). IsOlder c.turn-turn.result.before.log l)
     (c.turn-turn.ensures.log ∙ ap (λ l. l.log) (sym (c.reader-reader.ensures.same ∙ c.deref_mut.ensures.value)))
     (IsOlder-refl c.turn-turn.result.before.log)
+
+pub back-requires-clause-owned : goal.back-requires-clause-owned
+back-requires-clause-owned g c =
+    let turn = c.turn-turn.result in
+    let after = c.reader-reader.new.self.store in
+    let took = c.turn-turn.ensures.taken in
+    let same : after ≡ turn.value.value.store =
+    ap (λ l. l.store) (c.reader-reader.ensures.same ∙ c.deref_mut.ensures.value) in
+    looked-accounts turn.before.taken after.history after.pending turn.own turn.failed
+    (ap (λ (s : StoreState g.row.D.Denot). s.history) same ∙ sym (ap (λ (t : Taken). t.entries) took))
+    (ap (λ (s : StoreState g.row.D.Denot). s.pending) same ∙ sym (ap (λ (t : Taken). t.pending) took))

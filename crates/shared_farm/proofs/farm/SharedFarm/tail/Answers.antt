@@ -1,7 +1,6 @@
 use Rattle.std.proofs.Common.{List, length, arith, ap, subst, sym, ◌∙◌, ◌+◌, Some}
 use Rattle.atomic_table.specs.Seated.{TableId}
 use Rattle.farm_entry.specs.Legal.{IsLegal}
-use Rattle.farm_store.specs.State.{StoreState}
 use Rattle.list_prefix.proofs.Prefixes.{IsPrefix-equal}
 use Rattle.turn_lock.specs.Known.{Known}
 use Rattle.turn_lock.specs.declared.view.Taken.{Taken}
@@ -10,7 +9,8 @@ use Rattle.past_moments.specs.Rows.{IsOlder}
 use Rattle.past_moments.specs.declared.row.Row.{Row}
 use Rattle.shared_farm.specs.Logs.{LockedState}
 use Rattle.shared_farm.specs.Turns.{KeepsPass}
-use Rattle.shared_farm.proofs.Turning.{IsTaken, look-keeps, over-after}
+use Rattle.shared_farm.proofs.Accounting.{looked-accounts}
+use Rattle.shared_farm.proofs.Turning.{IsTaken, look-keeps, look-stake, over-after}
 use Rattle.shared_farm.proofs.farm.SharedFarm.tail.Goals as goal
 
 pub back-requires-clause-grown : goal.back-requires-clause-grown
@@ -28,6 +28,8 @@ returns-clause-look g c =
       seen = ap (λ (k : Known). k.seen) new ∙ ap (λ (t : Taken). t.entries) (sym last);
       faults = ap (λ (k : Known). k.faults) new ∙ ap (λ (t : Taken). t.count) (sym last);
       pending = ap (λ (k : Known). k.pending) new ∙ ap (λ (t : Taken). Some t.pending) (sym last);
+      stake = look-stake c.back.new.pass c.args.pass.now c.turn-turn.result.before c.self.inside.lock _ _ _ _ _ _
+          c.turn-turn.ensures.failed c.turn-turn.ensures.pass new;
     }
 
 pub returns-clause-keeps : goal.returns-clause-keeps
@@ -45,7 +47,7 @@ returns-clause-keeps g c =
     subst (λ (s : LockedState g.row.D.Denot). IsLegal s.store.history) c.deref.ensures c.tail-page.ensures.legal in
     subst (λ (lock : TableId). KeepsPass lock c.args.pass.now c.back.new.pass) c.self.view_is
     (look-keeps count c.args.pass.now c.back.new.pass turn.result.before store turn.result.own c.self.inside.lock _
-    turn.ensures.pass taken turn.ensures.places legal turn.ensures.own c.back.ensures.pass)
+    turn.ensures.pass taken turn.ensures.places legal turn.ensures.own c.requires.ready.some _ c.back.ensures.pass)
 
 pub back-requires-clause-logged : goal.back-requires-clause-logged
 back-requires-clause-logged g c =
@@ -59,3 +61,11 @@ returns-clause-over g c =
     c.deref-2.result.now c.turn-turn.result.before.pass.rows c.deref-2.ensures asked.ensures.newest asked.ensures.over
     (ap (λ (k : Known). k.rows) c.back.ensures.pass)
     (omega (arith, ap (λ (k : Known). length k.seen) c.back.ensures.pass))
+
+pub back-requires-clause-owned : goal.back-requires-clause-owned
+back-requires-clause-owned g c =
+    let turn = c.turn-turn.result in
+    let store = turn.value.value.store in
+    let took = c.turn-turn.ensures.taken in
+    looked-accounts turn.before.taken store.history store.pending turn.own turn.failed
+    (sym (ap (λ (t : Taken). t.entries) took)) (sym (ap (λ (t : Taken). t.pending) took))

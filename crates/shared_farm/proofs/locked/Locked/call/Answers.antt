@@ -1,13 +1,15 @@
-use Rattle.std.proofs.Common.{◌≡◌, ◌⊎◌, ◌∷◌, [], ap, subst, length, ◌∙◌}
+use Rattle.std.proofs.Common.{List, arith, ◌≡◌, ◌⊎◌, ◌∷◌, [], ap, subst, length, ◌∙◌}
 use Rattle.std.specs.Prelude.{OnOk}
 use Rattle.farm_store.specs.Answering.{as_batch}
 use Rattle.farm_store.specs.State.{StoreState}
+use Rattle.farm_store.specs.declared.asking.Ask.{Ask}
+use Rattle.farm_store.proofs.Sizes.{batch-size}
 use Rattle.fault_types.specs.Counts.{Rose}
 use Rattle.past_moments.specs.declared.row.Row.{Row}
-use Rattle.shared_farm.specs.Answered.{GoesOn}
+use Rattle.shared_farm.specs.Answered.{FitRecord, GoesOn}
 use Rattle.shared_farm.specs.Logs.{LockedState}
 use Rattle.shared_farm.proofs.ByCommands.{by-says}
-use Rattle.shared_farm.proofs.Recorded.{cause-as_batch, goes-on_by, says-decided, says-grown}
+use Rattle.shared_farm.proofs.Recorded.{cause-as_batch, goes-on_by, says-decided, says-fit, says-grown}
 use Rattle.shared_farm.proofs.Logging.{locked-logged}
 use Rattle.shared_farm.proofs.Resting.{came-on}
 use Rattle.shared_farm.proofs.locked.Locked.call.Goals as goal
@@ -25,12 +27,22 @@ decided g c =
     (as_batch c.call-result.result) old new first last e.says
     (cause-as_batch c.call-result.result first last e.cause)
 
+-- and no more than fits one record
+fit : (g : _) (c : goal.After-tell g) → FitRecord c.call-result.new.self.pending
+fit g c =
+    let e = c.call-result.ensures in
+    let asks : List Ask = record { command = c.args.command.now; at = c.args.at } ∷ [] in
+    says-fit asks (as_batch c.call-result.result) c.self.inside.store c.call-result.new.self e.says
+    (batch-size asks (omega arith)) c.self.invariant.7
+
 pub invariant_of-self : goal.invariant_of-self
 invariant_of-self g c =
     let e = c.call-result.ensures in
     let now = c.post.ensures.posted in
-    let logged = locked-logged g.D.Disk g.D.DatedDisk.dated (λ P. OnOk (as_batch c.call-result.result) P) c.self.inside.store c.call-result.new.self
-    c.self.inside.log c.tell.new.log e.keeps (decided g c) c.self.invariant.4 c.tell.ensures.told c.tell.ensures.moment in (
+    let logged = locked-logged g.D.Disk g.D.DatedDisk.dated (λ P. OnOk (as_batch c.call-result.result) P)
+    c.self.inside.store c.call-result.new.self
+    c.self.inside.log c.tell.new.log e.keeps (decided g c) c.self.invariant.4 c.tell.ensures.told
+    c.tell.ensures.moment in (
       ap (λ p. p.board) now,
       ap (λ p. p.posts) now,
       ap (λ p. p.seen) now,
@@ -40,6 +52,8 @@ invariant_of-self g c =
           (as_batch c.call-result.result) c.self.inside.store c.call-result.new.self e.says),
       logged.0,
       logged.1,
+      c.self.invariant.6,
+      fit g c,
     )
 
 pub returns-clause-goes_on : goal.returns-clause-goes_on
@@ -52,7 +66,7 @@ returns-clause-goes_on g c =
     (ap (λ (l : LockedState g.row.D.Denot). l.store) c.self.view_is)
     (goes-on_by count old new c.history.ensures.legal c.post.ensures.legal e.keeps.longer
     (says-grown (record { command = c.args.command.now; at = c.args.at } ∷ [])
-    (as_batch c.call-result.result) old new e.says) (decided g c) e.keeps.never_falls)
+    (as_batch c.call-result.result) old new e.says) (decided g c) e.keeps.never_falls (fit g c))
 
 pub returns-clause-told : goal.returns-clause-told
 returns-clause-told g c =

@@ -3,10 +3,11 @@ use Rattle.std.specs.Prelude.{OnOk}
 use Rattle.farm_store.specs.State.{StoreState}
 use Rattle.fault_types.specs.Counts.{Rose}
 use Rattle.past_moments.specs.declared.row.Row.{Row}
-use Rattle.shared_farm.specs.Answered.{GoesOn}
+use Rattle.shared_farm.specs.Answered.{FitRecord, GoesOn}
 use Rattle.shared_farm.specs.Logs.{LockedState}
+use Rattle.farm_store.proofs.Sizes.{batch-size}
 use Rattle.shared_farm.proofs.ByCommands.{by-says}
-use Rattle.shared_farm.proofs.Recorded.{goes-on_by, says-decided, says-grown}
+use Rattle.shared_farm.proofs.Recorded.{goes-on_by, says-decided, says-fit, says-grown}
 use Rattle.shared_farm.proofs.Logging.{locked-logged}
 use Rattle.shared_farm.proofs.Resting.{came-on}
 use Rattle.shared_farm.proofs.locked.Locked.call_batch.Goals as goal
@@ -22,12 +23,21 @@ decided g c =
     let last = g.D.Disk.count new.disk in
     says-decided c.args.asks.now c.call_batch-result.result old new first last e.says e.cause
 
+-- and no more than fits one record
+fit : (g : _) (c : goal.After-tell g) → FitRecord c.call_batch-result.new.self.pending
+fit g c =
+    let e = c.call_batch-result.ensures in
+    says-fit c.args.asks.now c.call_batch-result.result c.self.inside.store c.call_batch-result.new.self e.says
+    (batch-size c.args.asks.now c.requires.few) c.self.invariant.7
+
 pub invariant_of-self : goal.invariant_of-self
 invariant_of-self g c =
     let e = c.call_batch-result.ensures in
     let now = c.post.ensures.posted in
-    let logged = locked-logged g.D.Disk g.D.DatedDisk.dated (λ P. OnOk c.call_batch-result.result P) c.self.inside.store c.call_batch-result.new.self
-    c.self.inside.log c.tell.new.log e.keeps (decided g c) c.self.invariant.4 c.tell.ensures.told c.tell.ensures.moment in (
+    let logged = locked-logged g.D.Disk g.D.DatedDisk.dated (λ P. OnOk c.call_batch-result.result P)
+    c.self.inside.store c.call_batch-result.new.self
+    c.self.inside.log c.tell.new.log e.keeps (decided g c) c.self.invariant.4 c.tell.ensures.told
+    c.tell.ensures.moment in (
       ap (λ p. p.board) now,
       ap (λ p. p.posts) now,
       ap (λ p. p.seen) now,
@@ -37,6 +47,8 @@ invariant_of-self g c =
           c.call_batch-result.new.self e.says),
       logged.0,
       logged.1,
+      c.self.invariant.6,
+      fit g c,
     )
 
 pub returns-clause-goes_on : goal.returns-clause-goes_on
@@ -48,7 +60,7 @@ returns-clause-goes_on g c =
     subst (λ (s : StoreState g.row.D.Denot). GoesOn count s new)
     (ap (λ (l : LockedState g.row.D.Denot). l.store) c.self.view_is)
     (goes-on_by count old new c.history.ensures.legal c.post.ensures.legal e.keeps.longer
-    (says-grown c.args.asks.now c.call_batch-result.result old new e.says) (decided g c) e.keeps.never_falls)
+    (says-grown c.args.asks.now c.call_batch-result.result old new e.says) (decided g c) e.keeps.never_falls (fit g c))
 
 pub returns-clause-told : goal.returns-clause-told
 returns-clause-told g c =

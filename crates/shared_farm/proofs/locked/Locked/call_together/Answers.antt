@@ -3,10 +3,10 @@ use Rattle.std.specs.Prelude.{OnOk}
 use Rattle.farm_store.specs.State.{StoreState}
 use Rattle.fault_types.specs.Counts.{Rose}
 use Rattle.past_moments.specs.declared.row.Row.{Row}
-use Rattle.shared_farm.specs.Answered.{GoesOn}
+use Rattle.shared_farm.specs.Answered.{FitRecord, GoesOn}
 use Rattle.shared_farm.specs.Logs.{LockedState}
 use Rattle.shared_farm.proofs.ByCommands.{by-together}
-use Rattle.shared_farm.proofs.Recorded.{goes-on_by, together-decided, together-grown}
+use Rattle.shared_farm.proofs.Recorded.{goes-on_by, together-decided, together-fit, together-grown}
 use Rattle.shared_farm.proofs.Logging.{locked-logged}
 use Rattle.shared_farm.proofs.Resting.{came-on}
 use Rattle.shared_farm.proofs.locked.Locked.call_together.Goals as goal
@@ -23,12 +23,21 @@ decided g c =
     together-decided c.args.parts.now c.call_together-result.new.parts c.call_together-result.result old new
     first last e.says e.cause
 
+-- and no more than fits one record
+fit : (g : _) (c : goal.After-tell g) → FitRecord c.call_together-result.new.self.pending
+fit g c =
+    let e = c.call_together-result.ensures in
+    together-fit c.args.parts.now c.call_together-result.new.parts c.call_together-result.result
+    c.self.inside.store c.call_together-result.new.self e.says c.requires.fits c.self.invariant.7
+
 pub invariant_of-self : goal.invariant_of-self
 invariant_of-self g c =
     let e = c.call_together-result.ensures in
     let now = c.post.ensures.posted in
-    let logged = locked-logged g.D.Disk g.D.DatedDisk.dated (λ P. OnOk c.call_together-result.result P) c.self.inside.store c.call_together-result.new.self
-    c.self.inside.log c.tell.new.log e.keeps (decided g c) c.self.invariant.4 c.tell.ensures.told c.tell.ensures.moment in (
+    let logged = locked-logged g.D.Disk g.D.DatedDisk.dated (λ P. OnOk c.call_together-result.result P)
+    c.self.inside.store c.call_together-result.new.self
+    c.self.inside.log c.tell.new.log e.keeps (decided g c) c.self.invariant.4 c.tell.ensures.told
+    c.tell.ensures.moment in (
       ap (λ p. p.board) now,
       ap (λ p. p.posts) now,
       ap (λ p. p.seen) now,
@@ -38,6 +47,8 @@ invariant_of-self g c =
           c.self.inside.store c.call_together-result.new.self e.says),
       logged.0,
       logged.1,
+      c.self.invariant.6,
+      fit g c,
     )
 
 pub returns-clause-goes_on : goal.returns-clause-goes_on
@@ -50,7 +61,7 @@ returns-clause-goes_on g c =
     (ap (λ (l : LockedState g.row.D.Denot). l.store) c.self.view_is)
     (goes-on_by count old new c.history.ensures.legal c.post.ensures.legal e.keeps.longer
     (together-grown c.args.parts.now c.call_together-result.new.parts c.call_together-result.result old new e.says)
-    (decided g c) e.keeps.never_falls)
+    (decided g c) e.keeps.never_falls (fit g c))
 
 pub returns-clause-told : goal.returns-clause-told
 returns-clause-told g c =

@@ -1,11 +1,11 @@
-use Rattle.std.proofs.Common.{arith, subst, sym, ap, ◌∙◌, ◌≡◌, ◌≤◌, ◌∷◌, [], List, ℕ, length, take, Option, Some, None}
+use Rattle.std.proofs.Common.{arith, subst, sym, ap, ◌∙◌, ◌≡◌, ◌≤◌, ◌<◌, ◌∷◌, [], List, ℕ, length, take, Option, Some, None}
 use mathlib.Core.Option.{none}
 use Rattle.atomic_table.specs.Table.{Allows, step, Me, rest}
 use Rattle.farm_entry.specs.declared.entry.Entry.{Entry}
 use Rattle.list_prefix.specs.Prefix.{IsPrefix}
 use Rattle.past_moments.specs.Rows.{IsOlder}
 use Rattle.past_moments.specs.declared.row.Row.{Row}
-use Rattle.turn_lock.specs.Known.{Before, IsSettled}
+use Rattle.turn_lock.specs.Known.{Before, AccountsFor, IsSettled}
 use Rattle.turn_lock.specs.Places.{ArePlaces}
 use Rattle.turn_lock.specs.Rule.{IsKept}
 use Rattle.turn_lock.specs.Steps.{Notes, Meets}
@@ -24,7 +24,8 @@ load-requires g c =
     let old = c.before-2.inside.seat in
     let held = c.before-2.invariant in
     let turn = c.args.turn in
-    let home : Home g.row.T.Denot = record { value = turn.value; own = turn.own; shown = c.args.shown } in
+    let home : Home g.row.T.Denot =
+    record { value = turn.value; own = turn.own; shown = c.args.shown; failed = turn.failed } in
     let me : seat.me ≡ (old.me.0, (0, Some home) ∷ []) =
     c.exchange-empty.ensures.3 ∙ ap (λ l. (old.me.0, (0, Some home) ∷ rest l)) held.hands in
     let taken : turn.before.taken ≡ held.taken =
@@ -38,7 +39,8 @@ load-requires g c =
           (Notes t.entries t.count t.pending t.log (step n 1 0 0 none) seat.me))
           (sym c.self.invariant.1)
           (subst
-          (λ (m : Me (Option (Home g.row.T.Denot)) View). Allows (IsKept t.entries t.count t.pending t.log) 1 seat.id m 1
+          (λ (m : Me (Option (Home g.row.T.Denot)) View). Allows (IsKept t.entries t.count t.pending t.log) 1 seat.id
+          m 1
           (λ k. k)
           (Notes t.entries t.count t.pending t.log (step 1 1 0 0 none) m))
           (sym me)
@@ -49,7 +51,9 @@ load-requires g c =
           c.requires.settled)
           (subst (λ (o : Taken). ArePlaces (length o.entries) (length now) turn.own) taken c.requires.places)
           (subst (λ (l : List Row). IsOlder l (t.log turn.value)) (ap (λ (b : Before). b.log) (sym c.before-2.view_is))
-          c.requires.logged))),
+          c.requires.logged)
+          (subst (λ (o : Taken). AccountsFor o now (t.pending turn.value) turn.own turn.failed) taken c.requires.owned)
+          held.some)),
     )
 
 pub exchange-home-requires : goal.exchange-home-requires
@@ -84,7 +88,8 @@ join_seat-requires g c =
       omega (arith, c.self.invariant.0),
       takes_over t.entries t.count t.pending t.log seat.id seat.me.0 other.id other.me.0
           (idle-idle_again other.me next.seen next.mine next.faults next.uses next.last next.pending next.rows
-          c.take_seat.ensures.me),
+          next.stake c.take_seat.ensures.me)
+          (ap (λ m. m.0.mine) c.split_seat-other.ensures.2) (ap (λ m. m.0.stake) c.split_seat-other.ensures.2),
     )
 
 pub load-requires-2 : goal.load-requires-2
@@ -132,6 +137,10 @@ invariant_of-result g c =
       taken_is = ap (λ m. m.0.taken) met ∙ ap (λ m. m.0.taken) joined ∙ ap (λ m. m.0.taken) split
           ∙ ap (λ m. m.0.taken) given ∙ ap (λ m. m.0.taken) noted;
       joined = ap (λ m. m.0.joined) met ∙ ap (λ m. m.0.joined) joined ∙ ap (λ m. m.0.joined) c.take_seat.ensures.me;
+      some = subst (λ (n : ℕ). 0 < n)
+          (sym (ap (λ m. m.0.stake.parts) met ∙ ap (λ m. m.0.stake.parts) joined
+          ∙ ap (λ m. m.0.stake.parts) c.take_seat.ensures.me))
+          c.requires.next.some;
       hands = ap (λ m. m.1) met ∙ ap (λ m. m.1) joined ∙ ap (λ m. m.1) split ∙ ap (λ m. m.1) given
           ∙ ap (λ m. (0, None) ∷ rest m.1) noted;
     }

@@ -1,0 +1,17 @@
+pub mod Adding
+pub mod Apart
+pub mod Caused
+pub mod Culprits
+pub mod Held
+pub mod Leases
+pub mod NeverAgain
+pub mod OnceEach
+pub mod Own
+pub mod Parts
+pub mod Past
+pub mod Played
+pub mod Respelled
+pub mod Sides
+pub mod Suspects
+pub mod Verified
+pub mod Views

@@ -1,7 +1,0 @@
-use Rattle.std.proofs.Common.{◌≡◌, [], take}
-use Rattle.farm_rules.specs.Due.{struck}
-use Rattle.run_plan.proofs.due.due_search.Given as goal
-
--- No entry before this index is left
-abbrev pub invariant-loop-index : goal.invariant-loop-index
-invariant-loop-index l = struck (take l.index l.plan) l.outstanding ≡ []

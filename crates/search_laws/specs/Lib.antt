@@ -1,3 +1,0 @@
-pub mod Inserted
-pub mod Stands
-pub mod Steps

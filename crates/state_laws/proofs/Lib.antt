@@ -1,4 +1,0 @@
-pub mod Reading
-pub mod Asking
-pub mod Changes
-pub mod AllStates

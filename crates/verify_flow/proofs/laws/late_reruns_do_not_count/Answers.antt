@@ -1,6 +1,0 @@
-use Rattle.std.proofs.Common.{[]}
-use Rattle.verify_flow.proofs.Noted.{after_reruns-in_time}
-use Rattle.verify_flow.proofs.laws.late_reruns_do_not_count.Goals as goal
-
-pub returns : goal.returns
-returns c = λ culprit asked noted. after_reruns-in_time culprit asked [] noted

@@ -1,3 +1,0 @@
-pub mod Verification
-pub mod StandsFor
-pub mod Answer

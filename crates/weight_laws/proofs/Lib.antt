@@ -1,0 +1,6 @@
+pub mod FactorNumbers
+pub mod Floors
+pub mod Likelihoods
+pub mod PlainTable
+pub mod Plans
+pub mod Shares
