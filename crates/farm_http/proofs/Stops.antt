@@ -20,10 +20,3 @@ on_read-put (Err WriteFault) P Q fault cause is =
     let same : WriteFault ≡ fault = cc in subst (λ (f : ServeFault). OnReadFault f Q) same tt
 on_read-put (Err Memory) P Q fault cause is =
     let same : Memory ≡ fault = cc in subst (λ (f : ServeFault). OnReadFault f Q) same tt
-
--- the link failed where a put did
-pub on_link-put : {T : Type 0} (result : Result T ServeFault) (P : Type 0) → OnPutFault result P → OnLinkFault result P
-on_link-put (Ok done) P cause = tt
-on_link-put (Err ReadFault) P cause = absurd cause
-on_link-put (Err WriteFault) P cause = cause
-on_link-put (Err Memory) P cause = tt

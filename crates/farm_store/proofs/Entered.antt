@@ -57,21 +57,6 @@ entered-refused H ask x is = record {
 pub refused-after : (H : List Entry) (d : Decision) (x : Refusal) → d ≡ decision.Refuse x → H ≡ after H d
 refused-after H d x is = sym (ap (after H) is)
 
--- the cause of a fault stays
-cause-run : (a : Result Reply CallFault) (first last : ℕ) → HasCallCause (run_given a) first last
-    → HasCallCause a first last
-cause-run (Ok r) first last cause = tt
-cause-run (Err (fault.Refused x)) first last cause = tt
-cause-run (Err (fault.StoreFault before after)) first last cause = cause
-cause-run (Err fault.Memory) first last cause = tt
-
-pub enters-cause : {D : Type 0} (q : Command) (m : Moment) (result : Result (Option LeasedRun) CallFault)
-    {old new : StoreState D} (e : Enters q m result old new) (first last : ℕ)
-    → HasCallCause result first last → HasCallCause e.answer first last
-enters-cause q m result e first last cause =
-    cause-run e.answer first last
-    (subst (λ (r : Result (Option LeasedRun) CallFault). HasCallCause r first last) e.gives cause)
-
 module _ {D : Type 0} (q : Command) (m : Moment) (old new : StoreState D) where
   -- what a command came to of whose answer this was given
   abbrev Given : Result (Option LeasedRun) Refusal → Type 0

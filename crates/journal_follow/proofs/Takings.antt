@@ -248,9 +248,6 @@ module _ (from : ℕ) (page past : List Entry) (old : Held) (one : 1 ≤ from) (
               (append_assoc (take n page) stuck.before (stuck.entry ∷ [])) both))));
         }
 
-  decided-by : (new : Held) (pending : List Entry) → new ≡ with_pending old.history pending → IsDecided old new.history
-  decided-by new pending same = inl (ap (λ (h : Held). h.history) same)
-
   pub came-missed : (tells : Bool) (place : ℕ) (new : Held) (f : FollowFault) → place ≡ length old.history → past ≢ []
       → Stores tells place past old.history (Err f) new → CameTo from page old new (Err f)
   came-missed tells place new (fault.Foreign p) at more stores =

@@ -17,10 +17,6 @@ module _ (p : ℕ → Bool) where
       → find p (range_with_len (i + 1) (n - i)) ≡ cond (p (i + 1)) (Some (i + 1)) (find p (range_with_len (i + 1 + 1) (n - (i + 1))))
   find-next i n within = let more : n - i ≡ suc (n - (i + 1)) = omega arith in rw more refl
 
-  -- no position is left
-  pub find-end : (i n : ℕ) → n ≤ i → find p (range_with_len (i + 1) (n - i)) ≡ None
-  find-end i n past = let end : n - i ≡ 0 = omega arith in rw end refl
-
   -- where none is found, each fails
   fails-from_none : (a n : ℕ) → find p (range_with_len a n) ≡ None → (k : ℕ) → a ≤ k → k < a + n → p k ≡ false
   fails-from_none a zero none k low high = absurd (omega arith)
