@@ -121,28 +121,39 @@ class Driver:
         self.finder: Optional[Finder] = None
 
     def drive(self) -> None:
-        """Goes on with the search to its end. What it starts ends with it, however it ends."""
+        """Goes on with the search to its end. What it starts ends with it, however it ends: its end is noted once
+        nothing of it is left."""
         self.signals = Signals()
         self.guard = Guard()
         self.crew = Crew(self.signals, self.guard, self.numbers["timeout"])
+        has_ended = False
         try:
-            self._check()
-            self._hunt()
-        except Ended as end:
-            standing, reason = end.args
-            self.search.add("ended", status=3, standing=standing, reason=reason)
+            end = self._end()
+            has_ended = True
         except NoAnswer as fault:
             self.search.add("stopped", reason=str(fault))
             raise
         finally:
-            self._clean_up()
+            self._clean_up(has_ended)
+        self.search.add("ended", **end)
 
-    def _clean_up(self) -> None:
+    def _end(self) -> dict[str, Any]:
+        """The search's end, with the status that the tool ends with."""
+        try:
+            self._check()
+            attempt = self._hunt()
+        except Ended as end:
+            standing, reason = end.args
+            return {"status": 3, "standing": standing, "reason": reason}
+        status = {"confirmed": 0, "no culprit": 1}.get(attempt.standing, 3)
+        return {"status": status, "standing": attempt.standing, "reason": reason_of(self.search, attempt)}
+
+    def _clean_up(self, has_ended: bool) -> None:
         self.progress.clear()
         self.crew.drop(self.crew.jobs.values())
         if self.finder:
             self.finder.close()
-        if self.story.end or not self.numbers["keep_build"]:
+        if has_ended or not self.numbers["keep_build"]:
             self.home.remove_trees(self.plan)
         self.guard.close()
 
@@ -151,6 +162,7 @@ class Driver:
     def _check(self) -> None:
         """Runs GOOD and BAD once each, and GOOD again as long as flakes may explain that it failed."""
         while self.numbers["check"]:
+            self._look_at_ends()
             running = {job.position for job in self.crew.jobs.values()}
             due = [position for position in (0, len(self.plan["suspects"]))
                    if position not in running and self._is_unchecked(position)]
@@ -160,6 +172,13 @@ class Driver:
                 return
             for job in self._wait():
                 self._checked(job)
+
+    def _look_at_ends(self) -> None:
+        """Ends the search where neither GOOD nor BAD can be tested."""
+        skipped = {check["position"] for check in self.story.checks if check["verdict"] == "skip"}
+        if {0, len(self.plan["suspects"])} <= skipped:
+            output = self.search.output(self.story.checks[-1]["label"])
+            raise Ended("untestable", skipped_at_both(self.plan, output))
 
     def _is_unchecked(self, position: int) -> bool:
         verdicts = [check["verdict"] for check in self.story.checks if check["position"] == position]
@@ -171,8 +190,6 @@ class Driver:
                         status=job.status, label=job.label)
         if verdict == "skip":
             self.progress.note(f"check: {skipped_at(self.plan, job)}")
-            if {0, len(self.plan["suspects"])} <= set(self.story.untestable):
-                raise Ended("untestable", skipped_at_both(self.plan, job))
         if job.position and verdict == "pass":
             self.progress.note(f"check: {passed_at_bad(self.plan)}")
         if job.position == 0 and verdict == "fail":
@@ -185,8 +202,9 @@ class Driver:
 
     # -- the search
 
-    def _hunt(self) -> None:
-        """Makes the program's searches: the first one, and one more as long as reruns contradict what was named."""
+    def _hunt(self) -> Attempt:
+        """Makes the program's searches: the first one, and one more as long as reruns contradict what was named. It
+        gives the last of them, which has ended."""
         self.finder = Finder(self.program, self.search.journal, self.story.at, self.signals.check)
         attempt = self.story.attempts[-1] if self.story.attempts else self._open(1)
         self._settle(attempt)
@@ -196,8 +214,7 @@ class Driver:
             self.progress.note(f"a rerun contradicted {name}: one more search, in which it is as likely as all others")
             attempt = self._open(attempt.number + 1)
             self._search(attempt)
-        status = {"confirmed": 0, "no culprit": 1}.get(attempt.standing, 3)
-        self.search.add("ended", status=status, standing=attempt.standing, reason=reason_of(self.search, attempt))
+        return attempt
 
     def _search(self, attempt: Attempt) -> None:
         while attempt.standing in ACTIVE:

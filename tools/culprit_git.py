@@ -42,20 +42,21 @@ class Commit(NamedTuple):
 class Repository:
     """The repository that the tool was started in, or that of a folder: `common` is its folder for git, `prefix` where
     the user stands in his work tree. `inside` is the environment of what runs in a run's work tree, `outside` that of
-    other commands."""
+    other commands. Each command holds the files `held` open, and so the lock, where this process is killed before it
+    ends."""
 
     def __init__(self, folder: Optional[str] = None) -> None:
+        self.held: tuple[int, ...] = ()
         self.inside = {name: value for name, value in os.environ.items() if name not in PLACES}
         env = dict(os.environ) if folder is None else self.inside
         lines = self._ask(["git", "rev-parse", "--git-common-dir", "--show-prefix"], env, folder).split("\n")
         self.common, self.prefix = os.path.realpath(os.path.join(folder or "", lines[0])), lines[1]
         self.outside = {**self.inside, "GIT_DIR": self.common}
 
-    @staticmethod
-    def _ask(words: Sequence[str], env: dict[str, str], folder: Optional[str] = None) -> str:
+    def _ask(self, words: Sequence[str], env: dict[str, str], folder: Optional[str] = None) -> str:
         try:
             ended = subprocess.run(words, stdin=subprocess.DEVNULL, capture_output=True, check=False, env=env,
-                                   cwd=folder)
+                                   cwd=folder, pass_fds=self.held)
         except FileNotFoundError as fault:
             raise NoAnswer("git isn't on PATH") from fault
         if ended.returncode != 0:

@@ -35,7 +35,7 @@ def failed_at_good(plan: Plan, fails: int, job: Job) -> str:
         "  Does it need a build, a submodule (--submodules) or a file that isn't committed? A run starts afresh.",
         "  Does it test your own folder, by a whole path in a variable or by what pip install -e left?",
         "  Does it pass over all that is below a folder .git, as jest does? --trees FOLDER lets it run elsewhere.",
-        "  Does it flake more often than that? --flakes says so, and --no-check goes on all the same.", *_wrote(job)])
+        "  Does it flake more often than that? --flakes says so, and --no-check goes on all the same.", *_wrote(job.output)])
 
 
 def skipped_at(plan: Plan, job: Job) -> str:
@@ -48,17 +48,17 @@ def skipped_at(plan: Plan, job: Job) -> str:
             "passes there. The search takes it for sound, and can't confirm the first commit behind it")
 
 
-def skipped_at_both(plan: Plan, job: Job) -> str:
-    """What it means that neither end can be tested, with the last lines that the command wrote."""
+def skipped_at_both(plan: Plan, output: str) -> str:
+    """What it means that neither end can be tested, with the last lines that the command wrote into a file."""
     return "\n".join([
         f"neither GOOD ({plan['good']['short']}) nor BAD ({plan['bad']['short']}) can be tested.",
         "  Does the command end with 125 everywhere? A run starts afresh, with what is committed and nothing else.",
-        "  Else give other ends, or --no-check, which goes on all the same.", *_wrote(job)])
+        "  Else give other ends, or --no-check, which goes on all the same.", *_wrote(output)])
 
 
-def _wrote(job: Job) -> list[str]:
-    with open(job.output, "rb") as file:
-        file.seek(max(0, os.path.getsize(job.output) - 4_000))
+def _wrote(output: str) -> list[str]:
+    with open(output, "rb") as file:
+        file.seek(max(0, os.path.getsize(output) - 4_000))
         wrote = [plain(line) for line in file.read().decode("utf-8", "replace").splitlines()[-10:]]
     return ["The last lines that it wrote:" if wrote else "It wrote nothing.", *(f"  | {line}" for line in wrote)]
 

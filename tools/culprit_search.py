@@ -228,20 +228,21 @@ class Home:
             return 0
 
     def lock(self) -> None:
-        """Keeps others from working here until this process and its guard have ended."""
+        """Keeps others from working here until this process, its guard and its commands of git have ended."""
         os.makedirs(self.folder, exist_ok=True)
         file = os.open(os.path.join(self.folder, "lock"), os.O_RDWR | os.O_CREAT | os.O_CLOEXEC, 0o666)
-        for _ in range(50):
+        for _ in range(300):
             try:
                 fcntl.flock(file, fcntl.LOCK_EX | fcntl.LOCK_NB)
                 os.ftruncate(file, 0)
                 os.pwrite(file, f"{os.getpid()}\n".encode("ascii"), 0)
+                self.repository.held = (file,)
                 return
             except BlockingIOError:
                 owner = os.pread(file, 20, 0).decode("ascii", "replace").strip()
                 if is_alive(owner):
                     break
-                time.sleep(0.1)  # it was killed, and its guard ends its runs
+                time.sleep(0.1)  # it was killed, and its guard ends its runs, or git takes a work tree of it away
         raise NoAnswer(f"another git culprit works in this repository (process {owner})")
 
     def create(self, plan: Plan, program: str) -> Search:
@@ -269,10 +270,11 @@ class Home:
         return os.path.join(self.trees(plan), f"culprit-{slot}")
 
     def remove_tree(self, tree: str) -> None:
-        """Takes a work tree away, where it is there, with what git holds of it."""
-        if os.path.lexists(tree) and not self.repository.says("worktree", "remove", "--force", "--force", tree):
+        """Takes a work tree away, and what git holds of it, also where one of the two is there alone."""
+        words = ("worktree", "remove", "--force", "--force", tree)
+        if not self.repository.says(*words) and os.path.lexists(tree):
             erase(tree)
-            self.repository.says("worktree", "remove", "--force", "--force", tree)
+            self.repository.says(*words)
 
     def empty_submodules(self, tree: str) -> None:
         """Empties the folders of submodules that were checked out in a work tree, as they are in a new one."""
@@ -285,11 +287,14 @@ class Home:
 
     def remove_trees(self, plan: Plan) -> None:
         """Takes all work trees of a search away."""
-        trees = self.trees(plan)
+        trees = os.path.realpath(self.trees(plan))
+        known = self.repository.git("worktree", "list", "--porcelain").split("\n")
+        paths = {line[len("worktree "):] for line in known if line.startswith(f"worktree {trees}{os.sep}")}
         if os.path.isdir(trees):
-            for name in os.listdir(trees):
-                self.remove_tree(os.path.join(trees, name))
-            erase(trees)
+            paths.update(os.path.join(trees, name) for name in os.listdir(trees))
+        for path in sorted(paths):
+            self.remove_tree(path)
+        erase(trees)
 
 
 def is_alive(process: str) -> bool:

@@ -106,6 +106,35 @@ os.kill(os.getppid(), signal.SIGKILL)
                 self.assert_once()
                 self.assert_clean()
 
+    def test_a_kill_as_a_work_tree_is_taken_away(self) -> None:
+        self.make(6, 4)
+        whole = self.search()
+        real = shutil.which("git")
+        kills = {"before": "kill -9 $PPID; exit 1",
+                 "half": "rm -r \"$tree\"; kill -9 $PPID; exit 1",
+                 "by another": f"kill -9 $PPID; sleep 1; exec '{real}' \"$@\""}
+        for name, does in kills.items():
+            for words in (("--json", "--jobs", "2"), ("--keep-build",), ("--keep-build", "--no-check")):
+                with self.subTest(name=name, words=words):
+                    shutil.rmtree(os.path.join(self.repo, ".git", "culprit"))
+                    path, once = os.path.join(self.folder, "bin"), os.path.join(self.folder, "once")
+                    os.mkdir(path)
+                    with open(os.path.join(path, "git"), "w", encoding="utf-8") as file:
+                        file.write(f"""#!/bin/sh
+for tree; do :; done
+case "$*" in *" worktree remove "*) [ -d "$tree" ] && mkdir '{once}' 2>/dev/null && {{ {does}; }};; esac
+exec '{real}' "$@"
+""")
+                    os.chmod(os.path.join(path, "git"), 0o755)
+                    killed = self.shell("good..main", *words, env={**ENV, "PATH": path + os.pathsep + ENV["PATH"]})
+                    self.assertEqual(killed.status, -signal.SIGKILL)
+                    ended = self.culprit("--resume", "--json")
+                    self.assertEqual(ended.status, 0, ended.err)
+                    self.assertEqual(ended.report["culprit"], whole["culprit"])
+                    self.assert_clean()
+                    shutil.rmtree(path)
+                    os.rmdir(once)
+
     def test_kills_at_any_time_with_two_jobs(self) -> None:
         self.make(12, 8)
         test = self.note(f"sleep 0.0$((CULPRIT_POSITION % 7)); {IS_OK}")
