@@ -4,7 +4,7 @@ ghost use Rattle.entry_codec.specs.LogPage.{log_page};
 ghost use Rattle.farm_store.specs.declared.asking.TheConstants.{MAX_BATCH};
 ghost use Rattle.list_prefix.specs.Prefix.{IsPrefix, longer};
 ghost use Rattle.turn_lock.specs.Known.{IsOwned, IsReady, all_parts, both_pending, both_stakes, first_stake, no_turn};
-ghost use Rattle.turn_lock.specs.Known.{half_given, half_kept, stake_given, stake_kept};
+ghost use Rattle.turn_lock.specs.Known.{stake_given, stake_kept};
 ghost use Rattle.turn_lock.specs.Loans.{HasOut};
 ghost use Rattle.turn_lock.specs.Places.{ArePlaces, both_places};
 ghost use Rattle.shared_farm.specs.Answered.{FitRecord};
@@ -158,31 +158,6 @@ impl<D: DatedDisk, B: Beginning> SharedFarm<D, B> {
         } }
     {
         self.lock.split(pass)
-    }
-
-    /// The same, where the other pass gets half of the parts, so that each of the two may be split again.
-    pub fn halve(&self, pass: &mut Pass) -> Pass
-        requires ready { IsReady self.now pass.old }
-        requires parts { 1 < pass.old.stake.parts }
-        ensures same { pass.new ≡ record pass.old {
-          uses = pass.old.uses + 1;
-          last = no_turn;
-          stake = half_kept pass.old.seen pass.old.faults pass.old.stake;
-        } }
-        ensures other { result ≡ record {
-          lock = self.now;
-          ready = true;
-          seen = pass.old.seen;
-          mine = [];
-          faults = pass.old.faults;
-          uses = 0;
-          last = no_turn;
-          pending = pass.old.pending;
-          rows = pass.old.rows;
-          stake = half_given pass.old.seen pass.old.faults pass.old.stake;
-        } }
-    {
-        self.lock.halve(pass)
     }
 
     /// Takes in what another pass knows: the longer of the two histories, which begins with both, the greater count,

@@ -20,7 +20,8 @@
 //! added to it, so that it isn't closed (`specs/Rests`). Where that call picks the board of the totals, too, all that
 //! readers have seen begins the history: their [`TotalsMark`] takes in what each has seen, and [`SharedFarm::meet`]
 //! holds it against the history in a turn. So that there is a board to pick, a [`PostedStore`] has it before the farm
-//! is shared.
+//! is shared. Where the pass that closes has all parts of the farm, each entry behind the first history is at one of
+//! its places, or was pending as a turn failed (`IsOwned` of `turn_lock`).
 //!
 //! The crate stands on `farm_store` for the farm, on `turn_lock` for turns and passes, on `job_table` for errands, on
 //! `farm_board` for the totals, and on `entry_codec` for log pages. Contracts see a shared farm as the name of its

@@ -119,6 +119,32 @@ fn call_by_two<D: DatedDisk<Over = Passed> + Drop + Send, R: Threads + Wait + Sy
     (first, sum(told, also))
 }
 
+/// Three callers, of whom the first has these orders.
+fn call_by_three<D: DatedDisk<Over = Passed> + Drop + Send, R: Threads + Wait + Sync>(
+    rt: &R,
+    alloc: Global,
+    farm: &SharedFarm<D>,
+    pass: Pass,
+    orders: u64,
+) -> (Pass, Option<u64>)
+    requires { IsReady farm.now pass × (2 < pass.stake.parts) }
+    ensures { IsReady farm.entry.now result.0 }
+{
+    let mut pass = pass;
+    let other = farm.split(&mut pass);
+    let next = orders.saturating_add(1);
+    let ((mut last, told), (first, also)) = thread::join(
+        rt,
+        move || -> (Pass, Option<u64>)
+            requires { IsSync R.row × IsReady farm.now pass × (1 < pass.stake.parts) }
+            ensures { IsReady farm.entry.now result.0 }
+        { call_by_two(rt, alloc, farm, pass, next) },
+        move || call_all(rt, alloc, farm, other, orders),
+    );
+    farm.join(&mut last, first);
+    (last, sum(told, also))
+}
+
 /// Four callers, by orders to which no number of a caller was added.
 fn call_by_four<D: DatedDisk<Over = Passed> + Drop + Send, R: Threads + Wait + Sync>(
     rt: &R,
@@ -131,22 +157,19 @@ fn call_by_four<D: DatedDisk<Over = Passed> + Drop + Send, R: Threads + Wait + S
     ensures { IsReady farm.entry.now result.0 }
 {
     let mut pass = pass;
-    let other = farm.halve(&mut pass);
+    let other = farm.split(&mut pass);
     let low = orders.saturating_add(1);
-    let high = orders.saturating_add(3);
-    let ((mut first, told), (second, also)) = thread::join(
+    let next = orders.saturating_add(2);
+    let ((mut last, told), (first, also)) = thread::join(
         rt,
         move || -> (Pass, Option<u64>)
-            requires { IsSync R.row × IsReady farm.now pass × (1 < pass.stake.parts) }
+            requires { IsSync R.row × IsReady farm.now pass × (2 < pass.stake.parts) }
             ensures { IsReady farm.entry.now result.0 }
-        { call_by_two(rt, alloc, farm, pass, low) },
-        move || -> (Pass, Option<u64>)
-            requires { IsSync R.row × IsReady farm.now other × (1 < other.stake.parts) }
-            ensures { IsReady farm.entry.now result.0 }
-        { call_by_two(rt, alloc, farm, other, high) },
+        { call_by_three(rt, alloc, farm, pass, next) },
+        move || call_all(rt, alloc, farm, other, low),
     );
-    farm.join(&mut first, second);
-    (first, sum(told, also))
+    farm.join(&mut last, first);
+    (last, sum(told, also))
 }
 
 /// Whether no count that a reader sees falls, at so many looks.

@@ -146,14 +146,15 @@ Trades-split v u w lender kept given = record {
       let s = weigh-append f more v.stake.lending.lent in
       omega (arith, a, b, c, d, s);
   first = subst (λ (l : Lending). l.keys ≡ 0 → l.lent ≡ []) (sym kept)
-      (λ bare. no_key (nat_lt 0 v.stake.lending.keys) v.seen v.faults v.stake.lending.keys v.stake.lending.lent refl bare
+      (λ bare.
+      no_key (nat_lt 0 v.stake.lending.keys) v.seen v.faults v.stake.lending.keys v.stake.lending.lent refl bare
       ∙ lender bare);
   second = λ _. ap (λ (l : Lending). l.lent) given;
 }
 
 -- what a seat lent and borrowed moves to another one
-pub Trades-moved : (v w x y : View) → IsLender v → v.stake.lending ≡ y.stake.lending → w.stake.lending ≡ spent.stake.lending
-    → x.stake.lending ≡ spent.stake.lending → Trades v w x y
+pub Trades-moved : (v w x y : View) → IsLender v → v.stake.lending ≡ y.stake.lending
+    → w.stake.lending ≡ spent.stake.lending → x.stake.lending ≡ spent.stake.lending → Trades v w x y
 Trades-moved v w x y lender same none gone = record {
   keys =
       let e : keys_of v ≡ keys_of y = ap (λ (l : Lending). l.keys) same in
