@@ -153,7 +153,10 @@ pub(crate) fn serve<R: Wait>(
 /// How many records a farm's disk has, and how many entries stand in the last one, unless out of memory.
 pub(crate) fn records(alloc: Global, disk: Option<CalmDisk>) -> Option<(usize, usize)> {
     let (_, payloads) = Journal::open_on(alloc, disk?).ok()?;
-    let payloads = payloads.as_slice();
-    let entries = read_entries(alloc, payloads.last()?.bytes()).ok()?;
-    Some((payloads.len(), entries.len()))
+    let count = payloads.len();
+    if count == 0 {
+        return None;
+    }
+    let entries = read_entries(alloc, payloads.at(count - 1)).ok()?;
+    Some((count, entries.len()))
 }

@@ -7,6 +7,7 @@ pub mod Once
 pub mod Openings
 pub mod Public
 pub mod OpeningSteps
+pub mod Parts
 pub mod Run
 pub mod Scan
 pub mod Upgrade

@@ -13,7 +13,7 @@ in_order (newest ∷ older) = in_order older ++ newest ∷ []
 
 -- these payloads were found, and told in their order, and their closed gate
 pub record IsFound (ps : List (List ℕ)) (found : Found) : Type 0 where
-  pub payloads : found.payloads.items ≡ ps
+  pub payloads : found.payloads ≡ ps
   pub told : in_order found.past ≡ ps
   pub gate : found.gate ≡ gate_of ps
 

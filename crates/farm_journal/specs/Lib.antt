@@ -8,5 +8,6 @@ pub mod Layout
 pub mod Mended
 pub mod Opened
 pub mod Outcome
+pub mod Parts
 pub mod ReadsOnly
 pub mod State

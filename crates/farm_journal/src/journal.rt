@@ -49,18 +49,15 @@ use crate::layout::{FIRST_GATE, VERSION_1};
 use crate::mending::{Repaired, mend};
 use crate::opening::read_whole;
 use crate::payload::Payload;
+use crate::payloads::Payloads;
 use crate::reading::{Found, Missed, find};
 use crate::storing::store;
 use farm_disk::{DatedDisk, Disk};
-use item_list::ItemList;
 use past_moments::Past;
 use std::alloc::Global;
 use std::marker::Model;
 use std::mem;
 use told_list::ToldList;
-
-/// The payloads of a journal, in the order in which they were appended.
-pub type Payloads = ItemList<Payload>;
 
 /// A journal: payloads on a disk, each of which stays once it was acknowledged, wherever a crash comes.
 ///
@@ -200,7 +197,7 @@ impl<D: Disk> Journal<D> {
                     piece: Vec::new(alloc),
                     last: Payload::of(Vec::new(alloc)),
                 };
-                Ok((journal, Payloads::of(payloads)))
+                Ok((journal, payloads))
             }
             Err(Missed::Unborn) => Err((disk, OpeningFault::Unborn)),
             Err(Missed::Damaged(at)) => Err((disk, OpeningFault::Damaged(at))),

@@ -5,8 +5,7 @@
 //! closed gate with a closed gate behind it, syncing, opening the gate and syncing. So a crash at any moment leaves the
 //! payloads from before, or these and the new one, whatever it makes of the bytes that were being written.
 //!
-//! The crate stands on `farm_disk` and the base crates `past_moments`, `told_list` and `item_list`. The layers above
-//! may use
+//! The crate stands on `farm_disk` and the base crates `past_moments` and `told_list`. The layers above may use
 //! - `Journal`: `create`, `open_on`, `append`, `repair`, and what it tells of itself;
 //! - `Payload` and `Payloads`, and the limits of the layout;
 //! - `laws`, on what the definitions come to.
@@ -24,12 +23,14 @@ mod layout;
 mod mending;
 mod opening;
 mod payload;
+mod payloads;
 mod reading;
 mod storing;
 mod upgrading;
 
 pub use fault::{CreateFault, JournalFault, OpeningFault};
-pub use journal::{Journal, Payloads};
+pub use journal::Journal;
 pub use layout::{FIRST_GATE, GATE_LIMIT, MAGIC, MAX_PAYLOAD, VERSION_1, VERSION_2};
 pub use mending::Repaired;
 pub use payload::Payload;
+pub use payloads::Payloads;

@@ -1,8 +1,7 @@
 //! The bytes of one record.
-ghost use Rattle.std.specs.Prelude.{◌≡◌, IfOk, OnOk};
+ghost use Rattle.std.specs.Prelude.{◌≡◌, OnOk};
 
 use farm_disk::Memory;
-use std::alloc::Global;
 use std::marker::Model;
 
 /// The payload of a record, which contracts see as its bytes.
@@ -25,15 +24,6 @@ impl Payload {
         ensures { result ≡ bytes.items }
     {
         Payload { bytes }
-    }
-
-    /// A copy of these bytes.
-    pub fn copy_of(alloc: Global, bytes: &[u8]) -> Result<Payload, Memory>
-        ensures { IfOk result (λ payload. payload ≡ bytes.now) }
-    {
-        Ok(Payload {
-            bytes: bytes.to_vec(alloc)?,
-        })
     }
 
     /// Makes it these bytes, in the room that it has where they fit.

@@ -9,13 +9,14 @@ use crate::disk_calls::DiskFault;
 use crate::fault::OpeningFault;
 use crate::layout::{FIRST_GATE, MAGIC, MAX_PAYLOAD};
 use crate::payload::Payload;
+use crate::payloads::Payloads;
 use std::alloc::Global;
 use told_list::ToldList;
 
 /// What was found: the payloads, the same for contracts alone, and the offset of the closed gate.
 #[derive(Drop)]
 pub(super) struct Found {
-    pub(super) payloads: Vec<Payload>,
+    pub(super) payloads: Payloads,
     pub(super) past: ToldList<Payload>,
     pub(super) gate: u64,
 }
@@ -101,8 +102,9 @@ fn scan(alloc: Global, bytes: &[u8]) -> Result<Found, Missed>
     requires { FIRST_GATE ≤ length bytes.now }
     ensures { Scans result bytes.now }
 {
-    let mut payloads = Vec::new(alloc);
+    let mut payloads = Payloads::none(alloc);
     let mut past = ToldList::new();
+    let mut payload = Payload::of(Vec::new(alloc));
     let mut at = FIRST_GATE as usize;
     'gates: while at < bytes.len() {
         if bytes[at] == 0 {
@@ -115,9 +117,10 @@ fn scan(alloc: Global, bytes: &[u8]) -> Result<Found, Missed>
         let Some(length) = whole_length(&bytes[at + 1..]) else {
             return Err(Missed::Damaged(at as u64));
         };
-        let payload = Payload::copy_of(alloc, &bytes[at + 5..at + 5 + length])?;
+        let record = &bytes[at + 5..at + 5 + length];
+        payload.set(record)?;
         past.tell(&payload);
-        payloads.push(payload)?;
+        payloads.push(record)?;
         at += 5 + length;
     }
     Err(Missed::Damaged(at as u64))

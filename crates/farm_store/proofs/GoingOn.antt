@@ -1,6 +1,6 @@
 -- Payloads that go on with a history, one after the other.
-use Rattle.std.proofs.Common.{Bool, true, false, true≢false, ◌≡◌, ◌≢◌, inl, inr, ℕ, ◌+◌, ◌*◌, ◌≤◌, ◌<◌, List, [], ◌∷◌, ◌++◌, length, take, drop, get_or, All, refl, sym, ◌∙◌, ap, subst, arith}
-use Rattle.std.specs.Prelude.{◌==◌, IfErr, IfOk, Result, Ok, Err, remove}
+use Rattle.std.proofs.Common.{Bool, true, false, true≢false, ◌≡◌, ◌≢◌, inl, inr, ℕ, zero, suc, ◌+◌, ◌*◌, ◌≤◌, ◌<◌, List, [], ◌∷◌, ◌++◌, length, take, drop, get_or, All, refl, sym, ◌∙◌, ap, subst, arith}
+use Rattle.std.specs.Prelude.{◌==◌, IfErr, Result, Ok, Err, Option, Some, None, is_some, remove, slice_get}
 use Rattle.std.proofs.lemmas.Bool.Decides.{nat_tests}
 use Rattle.std.proofs.lemmas.List.{append_assoc, length-append, take-append-drop, take_all, take_more, drop_more}
 use Rattle.std.proofs.lemmas.List.Elements.{All-get_or}
@@ -9,11 +9,9 @@ use Rattle.entry_codec.specs.Spelling.{spelling}
 use Rattle.entry_codec.specs.declared.limits.TheConstants.{MAX_ENTRY_BYTES}
 use Rattle.entry_codec.proofs.ListLaws.{spelling-injective}
 use Rattle.farm_core.specs.FarmFaults.{IsHalted, IsUnfit}
-use Rattle.farm_core.specs.FarmView.{FarmView}
 use Rattle.farm_core.specs.declared.farm.AdmitFault.{AdmitFault}
 use Rattle.farm_core.specs.declared.farm.AdmitFault.TheVariants.{Illegal, Memory}
 use Rattle.farm_entry.specs.Legal.{IsLegal}
-use Rattle.farm_journal.specs.declared.fault.OpeningFault.{OpeningFault}
 use Rattle.farm_entry.specs.declared.entry.Entry.{Entry}
 use Rattle.farm_entry.specs.declared.limits.TheConstants.{MAX_ENTRIES}
 use Rattle.farm_laws.proofs.Bounds.{entries-bounded}
@@ -21,7 +19,7 @@ use Rattle.farm_laws.proofs.Induct.{IsLegal-first}
 use Rattle.farm_journal.specs.Layout.{gate_of, IsPayload}
 use Rattle.farm_journal.specs.declared.layout.TheConstants.{FIRST_GATE}
 use Rattle.farm_journal.proofs.Scan.{gate_of-push}
-use Rattle.farm_store.specs.Admitted.{GoesOn, IsMisfit, IsMissed}
+use Rattle.farm_store.specs.Admitted.{GoesOn, IsMisfit}
 use Rattle.farm_store.specs.Damage.{IsUnfitAt}
 use Rattle.farm_store.specs.StoreInside.{Keeps}
 use Rattle.farm_store.proofs.Spellings.{keeps-first, keeps-push, spelling-nonempty, spells-none}
@@ -163,6 +161,22 @@ begun-whole payload entries rest H K e own is split begun then legal = record {
   legal = subst IsLegal (sym then) legal;
 }
 
+-- what there is, or something else
+abbrev or_else : List ℕ → Option (List ℕ) → List ℕ
+or_else other None = other
+or_else other (Some p) = p
+
+-- what stands at an index
+pub at-get_or : (ps : List (List ℕ)) (i : ℕ) (p : List ℕ) → slice_get ps i ≡ Some p → p ≡ get_or ps i p
+at-get_or [] i p is = refl
+at-get_or (q ∷ ps) zero p is = sym (ap (or_else p) is)
+at-get_or (q ∷ ps) (suc i) p is = at-get_or ps i p is
+
+-- the first of all
+pub at-first : (ps : List (List ℕ)) (p : List ℕ) → slice_get ps 0 ≡ Some p → ps ≡ p ∷ drop 1 ps
+at-first [] p is = absurd (true≢false (sym (ap (λ (o : Option (List ℕ)). is_some o) is)))
+at-first (q ∷ ps) p is = ap (λ (x : List ℕ). x ∷ ps) (ap (or_else p) is)
+
 -- all payloads were read
 pub grown-all : (before payloads : List (List ℕ)) (i : ℕ) (H : List Entry) (gate : ℕ)
     → Grown before (take i payloads) H gate → length payloads ≤ i → Keeps (before ++ payloads) H
@@ -195,15 +209,6 @@ pub if-misfit : (payload : List ℕ) (H entries K : List Entry) (r : Result (Uni
     → payload ≡ spelling entries → IfErr r (IsHalted H entries K) → IfErr r (IsMisfit payload H)
 if-misfit payload H entries K (Ok done) own is halted = tt
 if-misfit payload H entries K (Err m) own is halted = misfit-on payload H entries K m own is halted
-
--- what further payloads came to, of all of them
-pub if-grown : (ps qs : List (List ℕ)) (r : Result FarmView OpeningFault) → ps ≡ qs
-    → IfOk r (λ farm. Keeps ps farm.history) → IfOk r (λ farm. Keeps qs farm.history)
-if-grown ps qs r same kept = subst (λ (l : List (List ℕ)). IfOk r (λ farm. Keeps l farm.history)) same kept
-
-pub if-missed : (ps qs : List (List ℕ)) (r : Result FarmView OpeningFault) → ps ≡ qs → IfErr r (IsMissed ps)
-    → IfErr r (IsMissed qs)
-if-missed ps qs r same missed = subst (λ (l : List (List ℕ)). IfErr r (IsMissed l)) same missed
 
 -- the gate behind the first record
 pub first-gate : (p : List ℕ) → 21 + length p ≡ gate_of (p ∷ [])

@@ -1,6 +1,6 @@
 //! The farm of the payloads of a journal, and of entries that came from elsewhere.
 
-ghost use Rattle.std.specs.Prelude.{◌≡◌, ◌≢◌, ◌++◌, ◌∷◌, [], ℕ, List, All, IfOk, IfErr, OnOk};
+ghost use Rattle.std.specs.Prelude.{◌≡◌, ◌≢◌, ◌≤◌, [], All, length, take, IfOk, IfErr, OnOk};
 ghost use Rattle.entry_codec.specs.Grammar.{AreSpelled};
 ghost use Rattle.entry_codec.specs.Spelling.{spelling};
 ghost use Rattle.farm_entry.specs.Legal.{IsLegal};
@@ -11,45 +11,42 @@ ghost use Rattle.farm_store.specs.StoreInside.{Keeps};
 use entry_codec::{CodecFault, read_entries};
 use farm_core::{AdmitFault, Farm};
 use farm_entry::Entry;
-use farm_journal::{FIRST_GATE, OpeningFault, Payload};
+use farm_journal::{FIRST_GATE, OpeningFault, Payloads};
 use farm_types::Memory;
 use std::alloc::Global;
 
 /// The farm whose history these payloads spell, or the gate of the first record that doesn't fit.
-pub fn farm_of(alloc: Global, payloads: &[Payload]) -> Result<Farm, OpeningFault>
+pub fn farm_of(alloc: Global, payloads: &Payloads) -> Result<Farm, OpeningFault>
     requires { All IsPayload payloads.now }
     ensures farm { IfOk result (λ farm. Keeps payloads.now farm.history) }
     ensures missed { IfErr result (IsMissed payloads.now) }
 {
-    let Some((first, others)) = payloads.split_first() else {
+    if payloads.len() == 0 {
         return Err(OpeningFault::Damaged(FIRST_GATE));
-    };
-    match begin(alloc, first.bytes()) {
-        Ok(farm) => grow(
-            alloc,
-            farm,
-            FIRST_GATE + 5 + first.bytes().len() as u64,
-            others,
-        ),
+    }
+    let first = payloads.at(0);
+    match begin(alloc, first) {
+        Ok(farm) => grow(alloc, farm, FIRST_GATE + 5 + first.len() as u64, payloads),
         Err(AdmitFault::Illegal) => Err(OpeningFault::Damaged(FIRST_GATE)),
         Err(AdmitFault::Memory) => Err(OpeningFault::Memory),
     }
 }
 
-/// The farm with the entries of further payloads, of which the first stands behind the open gate at this offset.
-fn grow(alloc: Global, farm: Farm, gate: u64, payloads: &[Payload]) -> Result<Farm, OpeningFault>
+/// The farm of the first payload with the entries of all others; the gate is that of the second record.
+fn grow(alloc: Global, farm: Farm, gate: u64, payloads: &Payloads) -> Result<Farm, OpeningFault>
     requires fit { All IsPayload payloads.now }
-    requires begun { (before : List (List ℕ)) × Keeps before farm.history × (gate ≡ gate_of before) }
-    ensures farm { (before : List (List ℕ)) → Keeps before farm.history → gate ≡ gate_of before
-        → IfOk result (λ grown. Keeps (before ++ payloads.now) grown.history) }
-    ensures missed { (before : List (List ℕ)) → Keeps before farm.history → gate ≡ gate_of before
-        → IfErr result (IsMissed (before ++ payloads.now)) }
+    requires some { 1 ≤ length payloads.now }
+    requires begun { Keeps (take 1 payloads.now) farm.history }
+    requires behind { gate ≡ gate_of (take 1 payloads.now) }
+    ensures farm { IfOk result (λ grown. Keeps payloads.now grown.history) }
+    ensures missed { IfErr result (IsMissed payloads.now) }
 {
     let mut farm = farm;
     let mut gate = gate;
-    for payload in payloads {
-        match go_on(alloc, &mut farm, payload.bytes()) {
-            Ok(()) => gate += 5 + payload.bytes().len() as u64,
+    for i in 1..payloads.len() {
+        let payload = payloads.at(i);
+        match go_on(alloc, &mut farm, payload) {
+            Ok(()) => gate += 5 + payload.len() as u64,
             Err(AdmitFault::Illegal) => return Err(OpeningFault::Damaged(gate)),
             Err(AdmitFault::Memory) => return Err(OpeningFault::Memory),
         }

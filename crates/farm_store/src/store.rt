@@ -153,7 +153,7 @@ impl<D: Disk> Store<D> {
         ensures never_falls { D.count disk ≤ D.count (disk_opened result) }
     {
         match Journal::open_on(alloc, disk) {
-            Ok((journal, payloads)) => match farm_of(alloc, payloads.as_slice()) {
+            Ok((journal, payloads)) => match farm_of(alloc, &payloads) {
                 Ok(farm) => Ok(Store {
                     journal,
                     farm,

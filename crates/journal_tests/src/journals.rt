@@ -1,7 +1,7 @@
 //! Journals that are created, opened, appended to and repaired, over any disk.
 use crate::words::bytes_of;
 use farm_disk::Disk;
-use farm_journal::{GATE_LIMIT, Journal, MAX_PAYLOAD, Payloads};
+use farm_journal::{GATE_LIMIT, Journal, MAX_PAYLOAD, Payload, Payloads};
 use std::alloc::Global;
 use std::io;
 
@@ -49,8 +49,17 @@ fn play_opened<D: Disk>(
     payloads: &Payloads,
     words: &str,
 ) -> io::Result<()> {
-    print!(rt; "{:?}; ", payloads.as_slice())?;
+    print!(rt; "{:?}; ", each(alloc, payloads)?)?;
     play_words(rt, alloc, journal, words)
+}
+
+// The payloads, each as a value of its own.
+fn each(alloc: Global, payloads: &Payloads) -> io::Result<Vec<Payload>> {
+    let mut each = Vec::new(alloc);
+    for i in 0..payloads.len() {
+        each.push(Payload::of(payloads.at(i).to_vec(alloc)?))?;
+    }
+    Ok(each)
 }
 
 // Appends the payload of each word, or repairs where one is pending, and prints what each call answers; and the version

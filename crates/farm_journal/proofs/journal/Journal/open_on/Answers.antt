@@ -21,5 +21,5 @@ invariant_of-journal g c =
 pub returns-in-Ok-find-clause-fit : goal.returns-in-Ok-find-clause-fit
 returns-in-Ok-find-clause-fit g c =
     let found = c.in-Ok-find.ensures in
-    subst (λ (l : List (List ℕ)). All IsPayload l) (sym (c.of-in-Ok-find.ensures ∙ found.2.payloads))
+    subst (λ (l : List (List ℕ)). All IsPayload l) (sym found.2.payloads)
     (opens-fit found.0 c.deref.result.now found.1)
