@@ -3,6 +3,7 @@
 ghost use Rattle.std.specs.Prelude.{◌≡◌, ◌≤◌, ◌++◌, All, IfOk, OnOk, string_bytes};
 ghost use Rattle.farm_types.specs.declared.moment.TheConstants.{LAST_DAY};
 ghost use Rattle.serde_json.specs.Written.{compact_text};
+ghost use Rattle.farm_wire.specs.Dates.{day_text};
 ghost use Rattle.farm_wire.specs.Pieces.{array_on, array_text};
 ghost use Rattle.farm_wire.specs.Replies.{order_data, reply_data};
 
@@ -31,34 +32,59 @@ fn put_orders(alloc: Global, out: &mut JsonText, lines: &[OrderLine]) -> Result<
 {
     match lines.split_first() {
         Some((first, more)) => {
-            put_order(alloc, out, "[", first)?;
-            put_more(alloc, out, more)
+            let date = day_text(alloc, first.day)?;
+            put_order(out, "[", first, date.as_str())?;
+            put_more(alloc, out, more, first.day, date)
         }
         None => out.put("[]"),
     }
 }
 
-/// Puts what that array goes on with, behind its first order.
-fn put_more(alloc: Global, out: &mut JsonText, lines: &[OrderLine]) -> Result<(), Memory>
-    requires { All (λ line. line.day ≤ LAST_DAY) lines.now }
+/// Puts what that array goes on with, behind its first order. The date of that one's day comes with it: mostly the next
+/// orders are of the same day.
+fn put_more(
+    alloc: Global,
+    out: &mut JsonText,
+    lines: &[OrderLine],
+    day: u32,
+    date: String,
+) -> Result<(), Memory>
+    requires days { All (λ line. line.day ≤ LAST_DAY) lines.now }
+    requires date { string_bytes date ≡ day_text day }
     ensures { OnOk result (out.new ≡ out.old ++ array_on order_data lines.now) }
 {
+    let mut day = day;
+    let mut date = date;
     for line in lines {
-        put_order(alloc, out, ",", line)?;
+        date = date_on(alloc, line.day, day, date)?;
+        day = line.day;
+        put_order(out, ",", line, date.as_str())?;
     }
     out.put("]")
 }
 
-/// Puts an order behind a piece.
-fn put_order(alloc: Global, out: &mut JsonText, piece: &str, line: &OrderLine) -> Result<(), Memory>
-    requires { line.now.day ≤ LAST_DAY }
+/// The date of a day, where that of another day is at hand.
+fn date_on(alloc: Global, day: u32, other: u32, date: String) -> Result<String, Memory>
+    requires in_range { day ≤ LAST_DAY }
+    requires date { string_bytes date ≡ day_text other }
+    ensures { IfOk result (λ text. string_bytes text ≡ day_text day) }
+{
+    if day == other {
+        Ok(date)
+    } else {
+        day_text(alloc, day)
+    }
+}
+
+/// Puts an order behind a piece, with the date of its day.
+fn put_order(out: &mut JsonText, piece: &str, line: &OrderLine, date: &str) -> Result<(), Memory>
+    requires { date.now ≡ day_text line.now.day }
     ensures { OnOk result (out.new ≡ out.old ++ (piece.now ++ compact_text (order_data line.now))) }
 {
-    let date = day_text(alloc, line.day)?;
     out.put(piece)?;
     out.put_text("{\"agent\":", line.agent.text())?;
     out.put_commit(",\"commit\":", &line.commit)?;
-    out.put_text(",\"date\":", date.as_str())?;
+    out.put_text(",\"date\":", date)?;
     out.put_number(",\"order\":", line.order as u64)?;
     out.put_number(",\"search\":", line.search as u64)?;
     out.put("}")

@@ -15,9 +15,8 @@ returns c =
     behind _ put (behind _ c.in_ok-put_number-2.ensures (behind _ c.in_ok-put_number.ensures
     (behind _ c.in_ok-put_text-2.ensures (behind _ c.in_ok-put_commit.ensures (behind _ c.in_ok-put_text.ensures
     c.in_ok-put.ensures)))))
-    ∙ put_behind-joined old (order_pieces piece line agent c.as_str.result.now)
-    ∙ ap (λ text. old ++ joined (order_pieces piece line text c.as_str.result.now)) c.text.ensures.text
-    ∙ ap (λ date. old ++ joined (order_pieces piece line line.agent date))
-    (c.as_str.ensures.value ∙ c.in_ok-date.ensures)
+    ∙ put_behind-joined old (order_pieces piece line agent c.args.date.now)
+    ∙ ap (λ text. old ++ joined (order_pieces piece line text c.args.date.now)) c.text.ensures.text
+    ∙ ap (λ date. old ++ joined (order_pieces piece line line.agent date)) c.requires
     ∙ ap (λ text. old ++ text) (joined-order piece line))
     c.put-2.ensures
