@@ -8,7 +8,7 @@ import time
 from typing import Any, Iterable, Optional, Sequence
 
 from culprit_git import ATTRIBUTES, git_words
-from culprit_lib import ACTIVE, Finder, Look, NoAnswer, clock, columns, duration, figure, fit, many, plain
+from culprit_lib import ACTIVE, Finder, Look, NoAnswer, Usage, clock, columns, duration, figure, fit, many, plain
 from culprit_lib import ratio, spelled
 from culprit_reasons import DOUBT, failed_at_good, passed_at_bad, reason_of, skipped_at, skipped_at_both
 from culprit_runs import Crew, Guard, Job, Signals, Step, signal_name
@@ -130,9 +130,10 @@ class Driver:
         try:
             end = self._end()
             has_ended = True
-        except NoAnswer as fault:
-            self.search.add("stopped", reason=str(fault))
-            raise
+        except (NoAnswer, Usage) as fault:  # where a command of git failed, which Ctrl-C meets too, it is Usage
+            reason = self.signals.reason() or str(fault)
+            self.search.add("stopped", reason=reason)
+            raise NoAnswer(reason) from fault
         finally:
             self._clean_up(has_ended)
         self.search.add("ended", **end)
@@ -174,11 +175,15 @@ class Driver:
                 self._checked(job)
 
     def _look_at_ends(self) -> None:
-        """Ends the search where neither GOOD nor BAD can be tested."""
+        """Ends the search where neither GOOD nor BAD can be tested, or where flakes hardly explain that GOOD failed."""
         skipped = {check["position"] for check in self.story.checks if check["verdict"] == "skip"}
         if {0, len(self.plan["suspects"])} <= skipped:
             output = self.search.output(self.story.checks[-1]["label"])
             raise Ended("untestable", skipped_at_both(self.plan, output))
+        fails = [check for check in self.story.checks if check["position"] == 0]
+        upper, lower = self.numbers["flakes"]
+        if fails and fails[-1]["verdict"] == "fail" and upper ** len(fails) * DOUBT < lower ** len(fails):
+            raise Ended("base fails", failed_at_good(self.plan, fails, self.search.output(fails[-1]["label"])))
 
     def _is_unchecked(self, position: int) -> bool:
         verdicts = [check["verdict"] for check in self.story.checks if check["position"] == position]
@@ -193,10 +198,7 @@ class Driver:
         if job.position and verdict == "pass":
             self.progress.note(f"check: {passed_at_bad(self.plan)}")
         if job.position == 0 and verdict == "fail":
-            fails = [check for check in self.story.checks if check["position"] == 0]
-            upper, lower = self.numbers["flakes"]
-            if upper ** len(fails) * DOUBT < lower ** len(fails):
-                raise Ended("base fails", failed_at_good(self.plan, len(fails), job))
+            self._look_at_ends()
             good = self.plan["good"]["short"]
             self.progress.note(f"check: the test failed at GOOD ({good}), as a flake may: once more")
 

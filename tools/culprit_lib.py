@@ -17,6 +17,8 @@ from typing import Any, Callable, Iterable, Optional, Sequence
 
 EARLIEST, LATEST = 86_400_000, 4_102_444_800_000  # the moments that a farm takes, in milliseconds since 1970
 LEASE = 86_400_000  # the longest lease, in milliseconds
+PATIENCE = 30.0  # seconds for which the program is asked again where another one has its journal
+IN_USE = 5  # its status then
 ACTIVE = ("searching", "verifying")  # the standings of a search in which runs are due
 MONTHS = ("Jan", "Feb", "Mar", "Apr", "May", "Jun", "Jul", "Aug", "Sep", "Oct", "Nov", "Dec")
 SGR = {"bold": 1, "red": 31, "green": 32}  # the codes of styles on a terminal
@@ -183,11 +185,11 @@ def ending(program: str, status: int, said: bytes) -> str:
     return f"{program} ended with status {status}" + (f": {plain(lines[-1])}" if lines else "")
 
 
-def found(program: str, journal: str) -> None:
-    """Founds a journal in a new file."""
+def found(program: str, journal: str, held: Sequence[int] = ()) -> None:
+    """Founds a journal in a new file. The program holds the files `held` open."""
     try:
         ended = subprocess.run([program, "found", journal, str(LEASE), "0", "east:0"], stdin=subprocess.DEVNULL,
-                               capture_output=True, check=False, start_new_session=True)
+                               capture_output=True, check=False, start_new_session=True, pass_fds=held)
     except OSError as fault:
         raise NoAnswer(f"{program}: {fault.strerror}") from fault
     if ended.returncode != 0:
@@ -199,16 +201,18 @@ class Finder:
 
     def __init__(self, program: str, journal: str, latest: int, while_waiting: Callable[[], None]) -> None:
         self.program, self.journal, self.latest, self.while_waiting = program, journal, latest, while_waiting
-        for pause in (0.05, 0.1, 0.2, 0.4, 0.8, 0.0):
+        limit = time.monotonic() + PATIENCE
+        while True:
             self._start()
             try:
                 self.ask("farm")
                 return
             except NoAnswer:
-                if self.process.returncode != 5 or not pause:
+                if self.process.returncode != IN_USE or time.monotonic() > limit:
                     self.close()
                     raise
-                time.sleep(pause)  # another one has the journal: perhaps one whose caller was killed a moment ago
+            time.sleep(0.1)  # another one has the journal: perhaps one whose caller was killed a moment ago
+            self.while_waiting()
 
     def _start(self) -> None:
         try:

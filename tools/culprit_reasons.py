@@ -2,11 +2,12 @@
 from __future__ import annotations
 
 import os
+from typing import Sequence
 
 from culprit_lib import many, plain, ratio
 from culprit_report import undecided
 from culprit_runs import Job
-from culprit_search import Attempt, Plan, Search
+from culprit_search import Attempt, Event, Plan, Search
 from culprit_shown import hidden_reason, named
 
 DOUBT = 1_000  # GOOD counts as failing where flakes alone explain its fails in fewer than one of so many cases
@@ -24,18 +25,20 @@ def passed_at_bad(plan: Plan) -> str:
             "your own folder, by a whole path in a variable or by what pip install -e left?")
 
 
-def failed_at_good(plan: Plan, fails: int, job: Job) -> str:
-    """What fails at GOOD mean, with the last lines that the command wrote."""
-    status = "it took too long" if job.timed_out else f"status {job.status}"
-    missing = ", the command wasn't found" if job.status in (126, 127) else ""
+def failed_at_good(plan: Plan, fails: Sequence[Event], output: str) -> str:
+    """What fails at GOOD mean, with the last lines that the command wrote into a file."""
+    status, seconds, count = fails[-1]["status"], fails[-1]["seconds"], len(fails)
+    how = "it took too long" if seconds >= (plan["numbers"]["timeout"] or float("inf")) else f"status {status}"
+    missing = ", the command wasn't found" if status in (126, 127) else ""
     return "\n".join([
-        f"the test fails at GOOD too ({plan['good']['short']}: {fails} of {many(fails, 'run')}, {status}{missing}), "
+        f"the test fails at GOOD too ({plan['good']['short']}: {count} of {many(count, 'run')}, {how}{missing}), "
         f"which flakes of {ratio(plan['numbers']['flakes'])} explain in fewer than one of {DOUBT:,} cases.",
         "  Was it broken there already? Give an older GOOD.",
         "  Does it need a build, a submodule (--submodules) or a file that isn't committed? A run starts afresh.",
         "  Does it test your own folder, by a whole path in a variable or by what pip install -e left?",
         "  Does it pass over all that is below a folder .git, as jest does? --trees FOLDER lets it run elsewhere.",
-        "  Does it flake more often than that? --flakes says so, and --no-check goes on all the same.", *_wrote(job.output)])
+        "  Does it flake more often than that? --flakes says so, and --no-check goes on all the same.",
+        *_wrote(output)])
 
 
 def skipped_at(plan: Plan, job: Job) -> str:

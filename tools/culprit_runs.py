@@ -16,6 +16,8 @@ from typing import Any, Callable, Iterable, NamedTuple, Optional
 from culprit_lib import NoAnswer
 
 GRACE = 3.0  # seconds that a group has to end itself in before it is killed
+# What a machine that is at its limits lacks for a moment, so that no process can be made: it says nothing of a commit.
+LACKS = (errno.EAGAIN, errno.ENOMEM, errno.EMFILE, errno.ENFILE)
 EXITED = os.WEXITED | os.WNOHANG | os.WNOWAIT  # has a child ended? It keeps its number
 
 
@@ -61,10 +63,14 @@ class Signals:
         except BlockingIOError:
             pass
 
+    def reason(self) -> str:
+        """Why the tool is to end, where the user asked for that."""
+        return f"it was interrupted ({self.name})" if self.stops else ""
+
     def check(self) -> None:
         """Ends the tool where the user asked for that."""
         if self.stops:
-            raise NoAnswer(f"it was interrupted ({self.name})")
+            raise NoAnswer(self.reason())
 
     def is_urgent(self) -> bool:
         """Whether the user asked a second time: not at once, as git hands the first Ctrl-C on to this process."""
@@ -134,7 +140,7 @@ class Job:
         self.began = self.step_began = time.monotonic()
         self.ending = 0.0  # since when its group is asked to end
         self.failed = self.timed_out = False
-        self.fault = ""  # why the work tree could not be made
+        self.fault = ""  # why the work tree or a process could not be made
         self.status: Optional[int] = None  # the command's
         self.seconds = 0.0  # that the command took
 
@@ -154,7 +160,7 @@ class Job:
                 if not os.path.isdir(step.folder):
                     said, status = "the folder that it runs in isn't in this commit", 125
                 output.write(os.fsencode(f"git culprit: {said}\n"))
-                if self.steps:
+                if self.steps or fault.errno in LACKS:
                     self.fault = said
                 else:
                     self.status = status
@@ -220,7 +226,7 @@ class Crew:
         now = time.monotonic()
         if job.steps or not job.process:
             return float("inf")
-        if not job.ending and now - job.step_began >= self.timeout:
+        if not job.ending and now - job.step_began >= self.timeout and not job.has_exited():
             job.timed_out, job.ending = True, now
             end_group(job.process.pid, signal.SIGTERM)
         if not job.ending:

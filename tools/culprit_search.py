@@ -7,6 +7,7 @@ in `trees`, unless the plan says where else. The file `lock` is locked by the on
 """
 from __future__ import annotations
 
+import contextlib
 import fcntl
 import json
 import os
@@ -228,7 +229,8 @@ class Home:
             return 0
 
     def lock(self) -> None:
-        """Keeps others from working here until this process, its guard and its commands of git have ended."""
+        """Keeps others from working here until this process, its guard, its commands of git and its founding of a
+        journal have ended."""
         os.makedirs(self.folder, exist_ok=True)
         file = os.open(os.path.join(self.folder, "lock"), os.O_RDWR | os.O_CREAT | os.O_CLOEXEC, 0o666)
         for _ in range(300):
@@ -242,7 +244,7 @@ class Home:
                 owner = os.pread(file, 20, 0).decode("ascii", "replace").strip()
                 if is_alive(owner):
                     break
-                time.sleep(0.1)  # it was killed, and its guard ends its runs, or git takes a work tree of it away
+                time.sleep(0.1)  # it was killed, and its guard ends its runs, or what it called goes on
         raise NoAnswer(f"another git culprit works in this repository (process {owner})")
 
     def create(self, plan: Plan, program: str) -> Search:
@@ -254,7 +256,7 @@ class Home:
             json.dump(plan, file)
             file.flush()
             os.fsync(file.fileno())
-        found(program, os.path.join(fresh, "journal"))
+        found(program, os.path.join(fresh, "journal"), self.repository.held)
         folder = os.path.join(self.folder, str(max(self.numbers(), default=0) + 1))
         os.rename(fresh, folder)
         return Search(folder)
@@ -280,7 +282,8 @@ class Home:
         """Empties the folders of submodules that were checked out in a work tree, as they are in a new one."""
         with open(os.path.join(tree, ".git"), encoding="utf-8", errors="surrogateescape") as file:
             modules = os.path.join(file.read().partition("gitdir: ")[2].strip("\n"), "modules")
-        if os.path.isdir(modules) or os.path.exists(os.path.join(tree, ".gitmodules")):
+        has_some = os.path.isdir(modules) or os.path.exists(os.path.join(tree, ".gitmodules"))
+        if has_some and self.repository.says_in(tree, "rev-parse"):  # it doesn't where the repository was moved
             for entry in self.repository.git_in(tree, "ls-files", "--stage", "-z").split("\0"):
                 if entry.startswith("160000 "):
                     erase(os.path.join(tree, entry.partition("\t")[2]))
@@ -316,5 +319,6 @@ def erase(folder: str) -> None:
         for name in names:
             inner = os.path.join(path, name)
             if not os.path.islink(inner) and not os.access(inner, os.R_OK | os.W_OK | os.X_OK):
-                os.chmod(inner, stat.S_IRWXU)
+                with contextlib.suppress(OSError):
+                    os.chmod(inner, stat.S_IRWXU)
     shutil.rmtree(folder, ignore_errors=True)
