@@ -20,6 +20,7 @@ ENV.update(CULPRIT_FINDER=PROGRAM, GIT_CONFIG_GLOBAL=os.devnull, GIT_CONFIG_SYST
            GIT_AUTHOR_NAME="Ann", GIT_AUTHOR_EMAIL="ann@example.com", GIT_COMMITTER_NAME="Ann",
            GIT_COMMITTER_EMAIL="ann@example.com", PATH=TOOLS + os.pathsep + os.environ["PATH"], PYTHONWARNINGS="error")
 IS_OK = "grep -qx ok state"
+PATIENCE = 120.0  # seconds that something may take which takes well below one: the machine may be slow, and loaded
 
 
 def restore_signals() -> None:
@@ -80,7 +81,7 @@ class Case(unittest.TestCase):
 
     def culprit(self, *words: str, folder: Optional[str] = None, env: Optional[dict[str, str]] = None) -> Ended:
         ended = subprocess.run([TOOL, *words], cwd=folder or self.repo, env=env or ENV, capture_output=True, text=True,
-                               stdin=subprocess.DEVNULL, preexec_fn=restore_signals, timeout=180, check=False)
+                               stdin=subprocess.DEVNULL, preexec_fn=restore_signals, timeout=900, check=False)
         self.assertNotIn("Traceback", ended.stderr)
         return Ended(ended)
 
@@ -94,6 +95,23 @@ class Case(unittest.TestCase):
         self.assertEqual(ended.status, status, ended.err)
         self.assert_clean()
         return ended.report
+
+    def git_that(self, does: str, command: str, where: str = "true") -> dict[str, str]:
+        """The environment with a git that does something in `sh` the first time that it is given a command where some
+        condition holds. `$tree` is the last word that it is given, `$real` the real one."""
+        path, real = os.path.join(self.folder, "bin"), shutil.which("git", path=ENV["PATH"])
+        once = os.path.join(path, "once")
+        shutil.rmtree(path, ignore_errors=True)
+        os.mkdir(path)
+        with open(os.path.join(path, "git"), "w", encoding="utf-8") as file:
+            file.write(f"""#!/bin/sh
+real='{real}'
+for tree; do :; done
+case "$*" in *" {command} "*) {where} && mkdir '{once}' 2>/dev/null && {{ {does}; }};; esac
+exec "$real" "$@"
+""")
+        os.chmod(os.path.join(path, "git"), 0o755)
+        return {**ENV, "PATH": path + os.pathsep + ENV["PATH"]}
 
     def assert_clean(self) -> None:
         """No work tree is left, and the user's own is as it was."""
@@ -128,8 +146,8 @@ class Case(unittest.TestCase):
         self.assertTrue(processes)
         self.until(lambda: not any(os.path.exists(f"/proc/{process}") for process in processes))
 
-    def until(self, true: Callable[[], bool], seconds: float = 20.0) -> None:
-        limit = time.monotonic() + seconds
+    def until(self, true: Callable[[], bool]) -> None:
+        limit = time.monotonic() + PATIENCE
         while not true():
             self.assertLess(time.monotonic(), limit, "it took too long")
             time.sleep(0.01)

@@ -1,15 +1,25 @@
 """Tests of git culprit: what it answers, how and where it runs, over real repositories and the real program."""
 from __future__ import annotations
 
+import errno
 import json
 import os
 import re
 import shutil
 import subprocess
 import sys
+import types
 import unittest
+from unittest import mock
 
-from case_git_culprit import ENV, IS_OK, Case
+from case_git_culprit import ENV, IS_OK, TOOLS, Case
+
+sys.path.insert(0, TOOLS)
+from culprit_runs import Crew, Job, Step  # noqa: E402
+from culprit_search import erase  # noqa: E402
+
+SIGNALS = types.SimpleNamespace(check=lambda: None, wait=lambda _: None)
+GUARD = types.SimpleNamespace(note=lambda *_: None)
 
 
 class Answers(Case):
@@ -202,10 +212,34 @@ class Runs(Case):
         self.make(3, 2)
         note = f">> '{self.done}'"
         hangs = f"{IS_OK} || {{ trap '' TERM; sleep 7777 & echo $! {note}; echo $$ {note}; wait; sleep 7777; }}"
-        quick = ("--timeout", "1", "--jobs", "4", "--no-check", "--flakes", "1%", "--bar", "90%")
+        quick = ("--timeout", "10", "--jobs", "4", "--no-check", "--flakes", "1%", "--bar", "90%")
         report = self.search(*quick, test=hangs)
         self.assertEqual(report["culprit"]["position"], 2)
         self.assert_gone(self.done)
+
+    def job(self, *words: str) -> Job:
+        """A run of a command that has begun."""
+        job = Job(1, "1", 1, self.done, lambda _: [Step(list(words), self.folder, ENV)])
+        job.next(GUARD)
+        return job
+
+    def test_a_run_that_has_ended_in_time_is_seen_late(self) -> None:
+        crew = Crew(SIGNALS, GUARD, 60.0)
+        crew.jobs[1] = job = self.job("true")
+        job.step_began -= 3_600
+        self.until(job.has_exited)
+        with mock.patch.object(job, "has_exited", side_effect=[False, True, True]):  # it ends behind the first look
+            self.assertEqual(crew.wait(0.0), [job])
+        self.assertEqual((job.status, job.timed_out), (0, False))
+
+    def test_a_machine_that_has_no_room_for_a_process_gives_no_verdict(self) -> None:
+        for number, fault, status in ((errno.EAGAIN, "sh: Resource temporarily unavailable", None),
+                                      (errno.ENOMEM, "sh: Cannot allocate memory", None),
+                                      (errno.EACCES, "", 126), (errno.ENOENT, "", 127)):
+            with self.subTest(number=number):
+                with mock.patch("subprocess.Popen", side_effect=OSError(number, os.strerror(number))):
+                    job = self.job("sh")
+                self.assertEqual((job.fault, job.status, job.has_exited()), (fault, status, True))
 
     def test_what_a_command_leaves_running_ends_with_it(self) -> None:
         self.make(2, 1)
@@ -214,7 +248,8 @@ class Runs(Case):
 
     def test_two_jobs_run_beside_each_other_in_trees_of_their_own(self) -> None:
         self.make(30, 17)
-        test = (f"mkdir .busy || exit 200; echo + $PWD >> '{self.done}'; sleep 0.1; {IS_OK}; verdict=$?; "
+        both = f"until [ $(grep -c + '{self.done}') -gt 1 ]; do sleep 0.01; done"  # the first one waits for another
+        test = (f"mkdir .busy || exit 200; echo + $PWD >> '{self.done}'; {both}; {IS_OK}; verdict=$?; "
                 f"echo - $PWD >> '{self.done}'; rmdir .busy; exit $verdict")
         report = self.search("--jobs", "2", test=test)
         self.assertEqual(report["culprit"]["position"], 17)
@@ -324,6 +359,14 @@ class Repositories(Case):
         shutil.rmtree(self.repo)
         ids = self.make(6, 4, form="sha256")
         self.assertEqual(self.search()["culprit"]["commit"], ids[4])
+
+    def test_what_cannot_be_removed_stays(self) -> None:
+        inner = os.path.join(self.folder, "of another user", "inner")
+        os.makedirs(inner)
+        denied = mock.patch("os.chmod", side_effect=PermissionError(errno.EPERM, "denied"))
+        with mock.patch("os.access", return_value=False), denied:
+            erase(os.path.dirname(inner))
+        self.assertFalse(os.path.exists(inner))  # here it could be
 
     def test_a_commit_that_git_cannot_check_out(self) -> None:
         self.make(4, 2)

@@ -2,6 +2,7 @@
 no run that got to its end was made twice, and what comes out at last is what a search has that nobody stopped."""
 from __future__ import annotations
 
+import json
 import os
 import shutil
 import signal
@@ -11,7 +12,9 @@ import time
 import unittest
 from typing import Any, Sequence
 
-from case_git_culprit import ENV, IS_OK, PROGRAM, TOOL, Case
+from case_git_culprit import ENV, IS_OK, PATIENCE, PROGRAM, TOOL, Case
+
+REMOVAL = ("worktree remove", "[ -d \"$tree\" ]")  # the command of git, and where it is one
 
 
 class Kills(Case):
@@ -109,31 +112,112 @@ os.kill(os.getppid(), signal.SIGKILL)
     def test_a_kill_as_a_work_tree_is_taken_away(self) -> None:
         self.make(6, 4)
         whole = self.search()
-        real = shutil.which("git")
         kills = {"before": "kill -9 $PPID; exit 1",
                  "half": "rm -r \"$tree\"; kill -9 $PPID; exit 1",
-                 "by another": f"kill -9 $PPID; sleep 1; exec '{real}' \"$@\""}
+                 "by another": "kill -9 $PPID; sleep 1; exec \"$real\" \"$@\""}
         for name, does in kills.items():
             for words in (("--json", "--jobs", "2"), ("--keep-build",), ("--keep-build", "--no-check")):
                 with self.subTest(name=name, words=words):
                     shutil.rmtree(os.path.join(self.repo, ".git", "culprit"))
-                    path, once = os.path.join(self.folder, "bin"), os.path.join(self.folder, "once")
-                    os.mkdir(path)
-                    with open(os.path.join(path, "git"), "w", encoding="utf-8") as file:
-                        file.write(f"""#!/bin/sh
-for tree; do :; done
-case "$*" in *" worktree remove "*) [ -d "$tree" ] && mkdir '{once}' 2>/dev/null && {{ {does}; }};; esac
-exec '{real}' "$@"
-""")
-                    os.chmod(os.path.join(path, "git"), 0o755)
-                    killed = self.shell("good..main", *words, env={**ENV, "PATH": path + os.pathsep + ENV["PATH"]})
+                    killed = self.shell("good..main", *words, env=self.git_that(does, *REMOVAL))
                     self.assertEqual(killed.status, -signal.SIGKILL)
                     ended = self.culprit("--resume", "--json")
                     self.assertEqual(ended.status, 0, ended.err)
                     self.assertEqual(ended.report["culprit"], whole["culprit"])
                     self.assert_clean()
-                    shutil.rmtree(path)
-                    os.rmdir(once)
+
+    def test_a_kill_as_a_search_ends_of_which_the_program_was_not_asked(self) -> None:
+        self.make(6, 4)
+        for status, standing in ((1, "base fails"), (125, "untestable")):
+            for words in ((), ("--jobs", "2")):
+                with self.subTest(standing=standing, words=words):
+                    test = self.note(f"echo no compiler; exit {status}")
+                    whole = self.search(*words, test=test, status=3)
+                    self.assertEqual(whole["standing"], standing)
+                    shutil.rmtree(os.path.join(self.repo, ".git", "culprit"))
+                    os.unlink(self.done)
+                    env = self.git_that("kill -9 $PPID; exit 1", *REMOVAL)
+                    killed = self.shell("good..main", "--keep-build", *words, test=test, env=env)
+                    self.assertEqual(killed.status, -signal.SIGKILL)
+                    ended = self.culprit("--resume", "--json")
+                    self.assertEqual((ended.status, ended.report["reason"]), (3, whole["reason"]), ended.err)
+                    self.assertEqual(*([check["verdict"] for check in report["checks"]]
+                                       for report in (ended.report, whole)))
+                    self.assert_once()
+                    self.assert_clean()
+                    shutil.rmtree(os.path.join(self.repo, ".git", "culprit"))
+                    os.unlink(self.done)
+
+    def test_a_kill_as_the_journal_is_founded(self) -> None:
+        """The program that goes on, for a while as long as nobody else begins, isn't in the way of the next search."""
+        self.make(4, 2)
+        first, ended, other = (os.path.join(self.folder, name) for name in ("first", "ended", "other"))
+        path = os.path.join(self.folder, "finder")
+        with open(path, "w", encoding="utf-8") as file:
+            file.write(f"""#!/bin/sh
+[ "$1" = found ] || exec '{PROGRAM}' "$@"
+if mkdir '{first}' 2>/dev/null; then
+  kill -9 $PPID
+  for turn in 1 2 3 4 5 6 7 8 9 10 11 12 13 14 15 16 17 18 19 20; do [ -e '{other}' ] || sleep 0.1; done
+else
+  touch '{other}'
+  until [ -e '{ended}' ]; do sleep 0.1; done
+fi
+'{PROGRAM}' "$@"
+status=$?
+touch '{ended}'
+exit $status
+""")
+        os.chmod(path, 0o755)
+        self.assertEqual(self.shell("good..main", "--finder", path).status, -signal.SIGKILL)
+        self.assertEqual(self.search("--finder", path)["culprit"]["position"], 2)
+
+    def test_a_program_that_takes_its_time_to_end(self) -> None:
+        self.make(4, 2)
+        once = os.path.join(self.folder, "once")
+        killed = self.shell("good..", test=f"[ $CULPRIT_RUN = 2 ] && mkdir '{once}' && kill -9 $PPID; {IS_OK}")
+        self.assertEqual(killed.status, -signal.SIGKILL)
+        journal = os.path.join(self.repo, ".git", "culprit", "1", "journal")
+        path = os.path.join(self.folder, "finder")
+        with open(path, "w", encoding="utf-8") as file:
+            file.write(f"#!/bin/sh\n[ \"$1\" != run ] || echo >> '{self.done}'\nexec '{PROGRAM}' \"$@\"\n")
+        os.chmod(path, 0o755)
+        with subprocess.Popen([PROGRAM, "run", journal], stdin=subprocess.PIPE, stdout=subprocess.PIPE) as other:
+            other.stdin.write(b'{"at":86400000,"do":"farm"}\n')
+            other.stdin.flush()
+            self.assertIn(b'"reply":"farm"', other.stdout.readline())
+            tool = self.begin("--resume", "--json", "--finder", path)
+            self.until(lambda: tool.poll() is not None or os.path.exists(self.done) and os.path.getsize(self.done) > 6)
+        out, err = tool.communicate(timeout=PATIENCE)
+        self.assertEqual(tool.returncode, 0, err)
+        self.assertEqual(json.loads(out)["culprit"]["position"], 2)
+
+    def test_git_that_fails_or_is_interrupted(self) -> None:
+        self.make(6, 4, lambda _: {".gitmodules": "# none\n"})
+        interrupts = "kill -INT $PPID; kill -INT $$"
+        for does, command, said in (("exit 1", "worktree list", "git: it ended with 1"),
+                                    ("exit 1", "ls-files", "git: it ended with 1"),
+                                    (interrupts, "ls-files", "it was interrupted (SIGINT)")):
+            with self.subTest(does=does, command=command):
+                ended = self.shell("good..main", "-q", env=self.git_that(does, command))
+                self.assertEqual(ended.status, 3, ended.err)
+                self.assertIn(f"no answer: {said}\n", ended.err)
+                self.assertIn("Go on: git culprit --resume 1", ended.err)
+                ended = self.culprit("--resume", "--json")
+                self.assertEqual((ended.status, ended.report["culprit"]["position"]), (0, 4), ended.err)
+                self.assert_clean()
+                shutil.rmtree(os.path.join(self.repo, ".git", "culprit"))
+
+    def test_a_killed_search_of_a_repository_that_moves(self) -> None:
+        self.make(5, 3, lambda _: {".gitmodules": "# none\n"})
+        once = os.path.join(self.folder, "once")
+        killed = self.shell("good..", test=f"[ $CULPRIT_RUN = 2 ] && mkdir '{once}' && kill -9 $PPID; {IS_OK}")
+        self.assertEqual(killed.status, -signal.SIGKILL)
+        moved = os.path.join(self.folder, "moved")
+        os.rename(self.repo, moved)
+        self.repo = moved
+        ended = self.culprit("--resume", "--json")
+        self.assertEqual((ended.status, ended.report["culprit"]["position"]), (0, 3), ended.err)
 
     def test_kills_at_any_time_with_two_jobs(self) -> None:
         self.make(12, 8)
@@ -152,7 +236,8 @@ exec '{real}' "$@"
             words = ("--resume",) if os.path.isdir(os.path.join(self.repo, ".git", "culprit", "1")) else words
             if tool.returncode not in (-signal.SIGKILL, 3):
                 break
-        self.culprit(*words)  # to its end, where it isn't there yet
+        ended = self.culprit(*words)  # to its end, where it isn't there yet
+        self.assertIn(ended.status, (0, 2), ended.err)
         ended = self.culprit("--show", "--json")
         self.assertEqual((ended.report["status"], ended.report["culprit"]["position"]), (0, 8))
         self.assertRegex(self.audit(), "^legal")
@@ -168,7 +253,7 @@ exec '{real}' "$@"
                 tool = self.begin("good..", "--", "sh", "-c", test)
                 self.until(lambda: os.path.exists(left) and os.path.getsize(left) > 0)
                 tool.send_signal(number)
-                _, err = tool.communicate(timeout=20)
+                _, err = tool.communicate(timeout=PATIENCE)
                 self.assertEqual(tool.returncode, 3)
                 self.assertIn(f"no answer: it was interrupted ({number.name})", err)
                 self.assertIn("4 runs kept. Go on: git culprit --resume", err)
@@ -195,7 +280,7 @@ exec sleep 7777
         tool = self.begin("good..", "--no-check", "--finder", path, "--", "true")
         self.until(lambda: os.path.exists(self.done) and os.path.getsize(self.done) > 0)
         tool.send_signal(signal.SIGINT)
-        _, err = tool.communicate(timeout=20)
+        _, err = tool.communicate(timeout=PATIENCE)
         self.assertEqual(tool.returncode, 3)
         self.assertIn("it was interrupted", err)
         self.assert_gone(self.done)
@@ -208,7 +293,7 @@ exec sleep 7777
         tool.send_signal(signal.SIGINT)
         time.sleep(1.2)
         tool.send_signal(signal.SIGINT)
-        tool.communicate(timeout=20)
+        tool.communicate(timeout=PATIENCE)
         self.assertEqual(tool.returncode, 3)
         self.assert_gone(self.done)
 
@@ -285,7 +370,7 @@ exit 5
             self.assertIn(f"another git culprit works in this repository (process {tool.pid})", ended.err)
         self.assertEqual(self.culprit("--show").status, 0)
         tool.send_signal(signal.SIGINT)
-        tool.communicate(timeout=20)
+        tool.communicate(timeout=PATIENCE)
         self.search()
 
 

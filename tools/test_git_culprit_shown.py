@@ -14,7 +14,7 @@ import termios
 import time
 import unittest
 
-from case_git_culprit import ENV, IS_OK, PROGRAM, TOOL, TOOLS, Case
+from case_git_culprit import ENV, IS_OK, PATIENCE, PROGRAM, TOOL, TOOLS, Case
 
 
 class Shown(Case):
@@ -99,7 +99,7 @@ class Shown(Case):
                     self.assertLess(max(map(len, wide)), width)
                     self.assertEqual("\x1b[32m" in text, "NO_COLOR" not in env)
                     if width == 200:
-                        form = r"^\d+ runs · at \d/9 0:\d\d · .* [\d.]+ % · nobody .* · \[ *█ *\] · 0:\d\d$"
+                        form = r"^\d+ runs · at \d/9 \d+:\d\d · .* [\d.]+ % · nobody .* · \[ *█ *\] · \d+:\d\d$"
                         self.assertRegex(live[-1], form)
 
     def on_terminal(self, width: int, env: dict[str, str]) -> str:
@@ -110,7 +110,7 @@ class Shown(Case):
                                 stdin=slave, stdout=slave, stderr=slave)
         os.close(slave)
         text = b""
-        while select.select([master], [], [], 30)[0]:
+        while select.select([master], [], [], PATIENCE)[0]:
             try:
                 text += os.read(master, 65536)
             except OSError:  # the end of a terminal

@@ -150,7 +150,7 @@ class Skips(Case):
     def test_a_run_that_takes_too_long_may_be_a_skip(self) -> None:
         self.make(5, 3)
         test = f"[ $CULPRIT_POSITION != 2 ] || sleep 7777; {IS_OK}"
-        report = self.search("--timeout", "1", "--timeout-is", "skip", "--no-check", test=test, status=3)
+        report = self.search("--timeout", "10", "--timeout-is", "skip", "--no-check", test=test, status=3)
         self.assertEqual([each["position"] for each in report["candidates"]["suspects"]], [2, 3])
         self.assertEqual(report["untestable"], [2])
 
