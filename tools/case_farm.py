@@ -23,6 +23,8 @@ TOOLS = os.path.dirname(os.path.abspath(__file__))
 PROGRAM = os.environ.get("CULPRIT_FINDER") or os.path.join(TOOLS, "..", "finder")
 ENV = {**os.environ, "CULPRIT_FINDER": PROGRAM, "PYTHONWARNINGS": "error", "TERM": "dumb"}
 
+PATIENCE = 120.0  # seconds that something may take which takes well below one: the machine may be slow, and loaded
+
 os.environ["CULPRIT_FINDER"] = PROGRAM
 Reply = dict[str, Any]
 Verdict = Callable[[Reply], Optional[str]]
@@ -105,14 +107,9 @@ class Service:
     """The program serving a journal on loopback."""
 
     def __init__(self, journal: str, port: int = 0) -> None:
-        if not port:
-            with socket.socket() as taken:
-                taken.bind(("127.0.0.1", 0))
-                port = taken.getsockname()[1]
-        self.journal, self.port, self.url = journal, port, f"http://127.0.0.1:{port}"
-        self.process = subprocess.Popen([PROGRAM, "serve", journal, f"127.0.0.1:{port}", "2", "1000000"],
-                                        stdout=subprocess.DEVNULL, stderr=subprocess.DEVNULL)
-        limit = time.monotonic() + 30
+        self.journal = journal
+        self._start(port)
+        limit = time.monotonic() + PATIENCE
         while True:
             try:
                 urllib.request.urlopen(self.url + "/v1/totals", timeout=5).close()
@@ -120,11 +117,22 @@ class Service:
             except OSError:
                 assert time.monotonic() < limit, "the service doesn't answer"
                 time.sleep(0.02)
+                if self.process.poll() is not None:  # another process took the port meanwhile
+                    self._start(port)
+
+    def _start(self, port: int) -> None:
+        if not port:
+            with socket.socket() as taken:
+                taken.bind(("127.0.0.1", 0))
+                port = taken.getsockname()[1]
+        self.port, self.url = port, f"http://127.0.0.1:{port}"
+        self.process = subprocess.Popen([PROGRAM, "serve", self.journal, f"127.0.0.1:{port}", "2", "1000000"],
+                                        stdout=subprocess.DEVNULL, stderr=subprocess.DEVNULL)
 
     def post(self, path: str, **members: Any) -> Reply:
         """The reply to a POST with a key of its own."""
         body = json.dumps({"key": os.urandom(16).hex(), **members}).encode()
-        with urllib.request.urlopen(urllib.request.Request(self.url + path, body), timeout=30) as answer:
+        with urllib.request.urlopen(urllib.request.Request(self.url + path, body), timeout=PATIENCE) as answer:
             return json.load(answer)
 
     def close(self) -> None:

@@ -19,7 +19,7 @@ import unittest
 from typing import Optional
 
 from case_board import Front
-from case_farm import PROGRAM, Case, Service, commit, culprit
+from case_farm import PATIENCE, PROGRAM, Case, Service, commit, culprit
 
 NAME = "<script>alert(\"t\")</script> & 'u'"
 
@@ -48,7 +48,7 @@ class Shown(Case):
     def asked(self, path: str, method: str = "GET", host: Optional[str] = None, body: Optional[bytes] = None,
               **fields: str) -> tuple[http.client.HTTPResponse, bytes]:
         """The answer to a request of its own connection."""
-        connection = http.client.HTTPConnection("127.0.0.1", self.port, timeout=60)
+        connection = http.client.HTTPConnection("127.0.0.1", self.port, timeout=PATIENCE)
         try:
             names = {name.replace("_", "-"): value for name, value in fields.items()}
             connection.request(method, path, body, {"Host": host or f"127.0.0.1:{self.port}", **names})
@@ -124,7 +124,7 @@ class Shown(Case):
             for path in ("/", "/v1/orders", "/metrics", "/evidence/1"):
                 self.assertEqual(self.asked(path, host=host)[0].status, 421, (host, path))
         for head in (f"Host: 127.0.0.1:{port}\r\nHost: evil.example\r\n", ""):
-            with socket.create_connection(("127.0.0.1", port), 20) as link:
+            with socket.create_connection(("127.0.0.1", port), PATIENCE) as link:
                 link.sendall(f"GET /v1/orders HTTP/1.1\r\n{head}\r\n".encode())
                 self.assertEqual(link.makefile("rb").readline().split()[1], b"421")
         self.assertEqual(front.asked, [])
@@ -236,7 +236,7 @@ class Shown(Case):
             process = self.board("127.0.0.1:1")
             self.assertRegex(json.loads(self.shown("/v1/totals", 502))["away"], "the service doesn't answer")
             process.send_signal(number)
-            self.assertEqual((process.wait(timeout=20), process.communicate()), (0, ("", "")))
+            self.assertEqual((process.wait(timeout=PATIENCE), process.communicate()), (0, ("", "")))
 
 
 if __name__ == "__main__":

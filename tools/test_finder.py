@@ -110,7 +110,7 @@ class Tree(unittest.TestCase):
         given = stdin if stdin is not None else EXAMPLE.read_text()
         environment = {"PATH": str(self.bin), "HOME": str(self.folder), "LANG": "C.UTF-8", **environment}
         return subprocess.run([self.top / words[0], *words[1:]], input=given, capture_output=True, text=True,
-                              env=environment, timeout=60, cwd=self.folder)
+                              env=environment, timeout=600, cwd=self.folder)
 
     def finder(self, *words, **more):
         return self.call("finder", *words, **more)
@@ -156,7 +156,7 @@ class Released(Tree):
                     try:
                         totals = urllib.request.urlopen(f"http://{address}/v1/totals", timeout=5).read()
                         break
-                    except urllib.error.URLError:
+                    except OSError:
                         time.sleep(0.05)
                 self.assertIn(b'"entries":1', totals or b"no answer")
                 shown = self.finder("show", journal)
@@ -336,9 +336,15 @@ class Built(Tree):
 
     def test_a_crate_that_is_done_is_told(self):
         self.give_rt()
-        goes_on = "    echo 'rt: chose --jobs 2 for culprit_finder' >&2; sleep 11\n"
+        goes_on = ("    echo 'rt: chose --jobs 2 for culprit_finder' >&2; turns=0\n"
+                   "    until [ -e ../../told ] || [ $turns = 1200 ]; do sleep 0.1; turns=$((turns + 1)); done\n")
         script(self.bin / "rt", RT.replace('    cp "$(cat', goes_on + '    cp "$(cat'))
-        self.assertIn("finder: 1 of 2 crates are proved, after 0 min\n", self.finder("build").stderr)
+        words, env = [self.top / "finder", "build"], {"PATH": str(self.bin), "HOME": str(self.folder)}
+        with subprocess.Popen(words, env=env, stdin=subprocess.DEVNULL, stderr=subprocess.PIPE, text=True) as build:
+            lines = iter(build.stderr.readline, "")
+            self.assertTrue(any(re.match(r"finder: 1 of 2 crates are proved, after \d+ min\n", it) for it in lines))
+            (self.top / "told").touch()
+            build.communicate()
         (self.top / "crates/low/specs/Twice.antt").write_text("thrice\n")
         self.assertIn("finder: 0 of 2 crates are proved; from nothing", self.finder("build").stderr)
 
@@ -474,7 +480,7 @@ class Gate(Tree):
                                 f"echo proving\necho '{rt[0]}'\nexit {rt[1]}\n")
         script(self.top / "tools/test", f"#!/bin/sh\necho \"over $1\"\necho '{tools[0]}'\nexit {tools[1]}\n")
         ran = subprocess.run(["bash", self.top / ".ci/run"], env={"PATH": str(self.bin)}, capture_output=True,
-                             text=True, stdin=subprocess.DEVNULL, timeout=60)
+                             text=True, stdin=subprocess.DEVNULL, timeout=600)
         return ran.returncode, ran.stdout.splitlines()
 
     def test_its_last_line_has_both_sums_and_its_status_is_the_worse(self):

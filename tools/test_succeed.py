@@ -13,7 +13,7 @@ import subprocess
 import sys
 import time
 
-from case_farm import PROGRAM, TOOLS, Case, Farm, commit, culprit
+from case_farm import PATIENCE, PROGRAM, TOOLS, Case, Farm, commit, culprit
 
 WORDS = ("60000", "10", "east:60")
 
@@ -150,15 +150,33 @@ class Succession(Case):
     def test_a_worker_at_work_here_is_named(self) -> None:
         self.ended("old", 100)
         with open(self.path("work"), "w", encoding="ascii") as file:
-            file.write("sleep 60\n")
-        worker = subprocess.Popen(["culprit_finder", "work"], executable="/bin/sh", cwd=self.folder)
+            file.write("read line\n")
+        worker = subprocess.Popen(["culprit_finder", "work"], executable="/bin/sh", cwd=self.folder,
+                                  stdin=subprocess.PIPE)
         try:
             _, said = self.succeed("old", "new", *WORDS, status=3)
             self.assertIn(f"{worker.pid}: culprit_finder work", said)
             self.assertFalse(os.path.exists(self.path("new")))
         finally:
             worker.kill()
-            worker.wait()
+            worker.communicate()
+
+    def await_end(self, group: int) -> None:
+        """Waits until no process of a killed group is at work: `close` has its journal until it has ended."""
+        limit = time.monotonic() + PATIENCE
+        while any(state != "Z" and int(its) == group for state, its in map(self.state, os.listdir("/proc"))):
+            self.assertLess(time.monotonic(), limit, "it took too long")
+            time.sleep(0.01)
+
+    @staticmethod
+    def state(process: str) -> tuple[str, str]:
+        """The state of a process, and its group."""
+        try:
+            with open(f"/proc/{process}/stat", encoding="utf-8", errors="replace") as file:
+                state, _, group = file.read().rpartition(")")[2].split()[:3]
+                return state, group
+        except (OSError, ValueError):  # it has ended, or is none
+            return "Z", "0"
 
     def test_a_kill_at_any_moment_loses_nothing(self) -> None:
         chance, whole = random.Random(1), 0
@@ -171,6 +189,7 @@ class Succession(Case):
             if process.poll() is None:
                 os.killpg(process.pid, signal.SIGKILL)
                 process.wait()
+                self.await_end(process.pid)
             else:
                 whole += 1
             said, _ = self.succeed(old, new, *WORDS, "--yes")

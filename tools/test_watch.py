@@ -17,7 +17,7 @@ import time
 import unittest
 from typing import Any, Optional
 
-from case_farm import TOOLS, Case, Service, commit, culprit
+from case_farm import PATIENCE, TOOLS, Case, Service, commit, culprit
 
 Line = dict[str, Any]
 
@@ -46,13 +46,13 @@ class Watched(Case):
 
     def next(self) -> Line:
         """The next line of the tool."""
-        line = self.lines.get(timeout=30)
+        line = self.lines.get(timeout=PATIENCE)
         assert line is not None, "it has ended"
         return json.loads(line)
 
     def next_said(self) -> str:
         """The next line of the tool on standard error."""
-        return self.said.get(timeout=30) or "it has ended"
+        return self.said.get(timeout=PATIENCE) or "it has ended"
 
     def served(self, count: int = 4) -> Service:
         """The service of a new farm with a search."""
@@ -123,9 +123,9 @@ class Watched(Case):
             moved += [line["standing"]] if "standing" in line else []
         self.assertIn(moved, (["verifying", "confirmed"], ["confirmed"]))
         process.send_signal(signal.SIGINT)
-        self.assertEqual(process.wait(timeout=20), 0)
-        self.assertIsNone(self.said.get(timeout=20))
-        while (last := self.lines.get(timeout=20)) is not None:
+        self.assertEqual(process.wait(timeout=PATIENCE), 0)
+        self.assertIsNone(self.said.get(timeout=PATIENCE))
+        while (last := self.lines.get(timeout=PATIENCE)) is not None:
             self.assertNotIn("standing", json.loads(last))
 
     def test_it_goes_on_over_an_outage_and_notices_another_history(self) -> None:
@@ -145,7 +145,7 @@ class Watched(Case):
         self.assertIn("waiting for it", self.next_said())
         self.serve(older, service.port)
         self.assertIn("has another history than before: entry 4 isn't there any more, or differs", self.next_said())
-        self.assertEqual(process.wait(timeout=20), 3)
+        self.assertEqual(process.wait(timeout=PATIENCE), 3)
 
     def test_it_ends_with_its_reader(self) -> None:
         service = self.served()
@@ -154,7 +154,7 @@ class Watched(Case):
             assert process.stdout and process.stderr
             process.stdout.readline()
             process.stdout.close()
-            self.assertEqual(process.wait(timeout=20), 0)
+            self.assertEqual(process.wait(timeout=PATIENCE), 0)
             self.assertEqual(process.stderr.read(), b"")
 
     def test_words_and_where_there_is_none(self) -> None:
@@ -169,7 +169,7 @@ class Watched(Case):
         self.serve(self.journal, service.port)
         self.assertEqual(self.next_said(), "finder watch: it answers again\n")
         process.terminate()
-        self.assertEqual(process.wait(timeout=20), 0)
+        self.assertEqual(process.wait(timeout=PATIENCE), 0)
 
 
 if __name__ == "__main__":
