@@ -44,7 +44,7 @@ class Answers(Case):
         self.assertEqual(ended.status, 0)
         first, second = ended.out.splitlines()[:2]
         self.assertRegex(first, rf'^{short} "change 4 "of" tëa" \(Zoë, 14 Nov 2023\) broke it: 99\.99 %, '
-                                r"confirmed by 2 reruns, after \d+ runs in [\d.]+ s\.$")
+                                r"confirmed by 2 reruns, after \d+ runs in [\d.]+ (min \d+ )?s\.$")
         self.assertEqual(second, "Nobody to blame: below 0.01 %.")
         self.assertIn(f"git revert {short}", ended.out)
         self.assertNotIn("\x1b", ended.out + ended.err)
