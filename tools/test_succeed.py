@@ -12,6 +12,7 @@ import signal
 import subprocess
 import sys
 import time
+from typing import Any
 
 from case_farm import PATIENCE, PROGRAM, TOOLS, Case, Farm, commit, culprit
 
@@ -23,10 +24,18 @@ class Succession(Case):
 
     def succeed(self, *words: str, status: int = 0) -> tuple[str, str]:
         """What it writes, and says."""
-        ended = subprocess.run([sys.executable, os.path.join(TOOLS, "succeed"), *words], stdin=subprocess.DEVNULL,
-                               capture_output=True, text=True, check=False, cwd=self.folder)
-        self.assertEqual(ended.returncode, status, ended.stderr)
-        return ended.stdout, ended.stderr
+        return self.came_to(self.at_work(*words), status)
+
+    def at_work(self, *words: str, **more: Any) -> "subprocess.Popen[str]":
+        """The tool at work."""
+        return subprocess.Popen([sys.executable, os.path.join(TOOLS, "succeed"), *words], stdin=subprocess.DEVNULL,
+                                stdout=subprocess.PIPE, stderr=subprocess.PIPE, text=True, cwd=self.folder, **more)
+
+    def came_to(self, tool: "subprocess.Popen[str]", status: int = 0) -> tuple[str, str]:
+        """What the tool wrote, and said."""
+        out, err = tool.communicate()
+        self.assertEqual(tool.returncode, status, err)
+        return out, err
 
     def path(self, name: str) -> str:
         """A path in the test's folder."""
@@ -161,37 +170,36 @@ class Succession(Case):
             worker.kill()
             worker.communicate()
 
-    def await_end(self, group: int) -> None:
-        """Waits until no process of a killed group is at work: `close` has its journal until it has ended."""
+    def test_a_program_that_takes_its_time_to_end(self) -> None:
+        self.ended("old", 100)
+        tried, program = self.path("tried"), self.path("program")
+        with open(program, "w", encoding="utf-8") as file:
+            file.write(f"#!/bin/sh\n[ \"$1\" != close ] || echo >> '{tried}'\nexec '{PROGRAM}' \"$@\"\n")
+        os.chmod(program, 0o755)
+        other = self.reopened("old")
+        self.assertEqual(other.ask("farm")["reply"], "farm")
+        tool = self.at_work("old", "new", *WORDS, "--yes", env={**os.environ, "CULPRIT_FINDER": program})
         limit = time.monotonic() + PATIENCE
-        while any(state != "Z" and int(its) == group for state, its in map(self.state, os.listdir("/proc"))):
+        while tool.poll() is None and (not os.path.exists(tried) or os.path.getsize(tried) < 2):
             self.assertLess(time.monotonic(), limit, "it took too long")
             time.sleep(0.01)
-
-    @staticmethod
-    def state(process: str) -> tuple[str, str]:
-        """The state of a process, and its group."""
-        try:
-            with open(f"/proc/{process}/stat", encoding="utf-8", errors="replace") as file:
-                state, _, group = file.read().rpartition(")")[2].split()[:3]
-                return state, group
-        except (OSError, ValueError):  # it has ended, or is none
-            return "Z", "0"
+        other.close()
+        self.assertEqual(self.came_to(tool)[0], "new begins with 1 order of old\n")
 
     def test_a_kill_at_any_moment_loses_nothing(self) -> None:
         chance, whole = random.Random(1), 0
         for turn in range(12):
             old, new = f"old{turn}", f"new{turn}"
             self.ended(old, 100)
-            words = [sys.executable, os.path.join(TOOLS, "succeed"), old, new, *WORDS, "--yes"]
-            process = subprocess.Popen(words, stdout=subprocess.DEVNULL, cwd=self.folder, start_new_session=True)
+            process = self.at_work(old, new, *WORDS, "--yes", start_new_session=True)
             time.sleep(0.3 * chance.random())
             if process.poll() is None:
-                os.killpg(process.pid, signal.SIGKILL)
-                process.wait()
-                self.await_end(process.pid)
+                if turn % 2:
+                    os.killpg(process.pid, signal.SIGKILL)
+                process.kill()
             else:
                 whole += 1
+            process.communicate()
             said, _ = self.succeed(old, new, *WORDS, "--yes")
             self.assertIn(f"{new} begins with 1 order of {old}", said)
         self.assertLess(whole, 12)
