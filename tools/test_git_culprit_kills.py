@@ -2,6 +2,7 @@
 no run that got to its end was made twice, and what comes out at last is what a search has that nobody stopped."""
 from __future__ import annotations
 
+import contextlib
 import json
 import os
 import shutil
@@ -12,7 +13,10 @@ import time
 import unittest
 from typing import Any, Sequence
 
-from case_git_culprit import ENV, IS_OK, PATIENCE, PROGRAM, TOOL, Case
+from case_git_culprit import ENV, IS_OK, PATIENCE, PROGRAM, TOOL, TOOLS, Case
+
+sys.path.insert(0, TOOLS)
+from culprit_lib import Finder  # noqa: E402
 
 REMOVAL = ("worktree remove", "[ -d \"$tree\" ]")  # the command of git, and where it is one
 
@@ -141,7 +145,7 @@ os.kill(os.getppid(), signal.SIGKILL)
                     self.assertEqual(killed.status, -signal.SIGKILL)
                     ended = self.culprit("--resume", "--json")
                     self.assertEqual((ended.status, ended.report["reason"]), (3, whole["reason"]), ended.err)
-                    self.assertEqual(*([check["verdict"] for check in report["checks"]]
+                    self.assertEqual(*([check["verdict"] for check in report["checks"] if check["position"] == 0]
                                        for report in (ended.report, whole)))
                     self.assert_once()
                     self.assert_clean()
@@ -182,10 +186,7 @@ exit $status
         with open(path, "w", encoding="utf-8") as file:
             file.write(f"#!/bin/sh\n[ \"$1\" != run ] || echo >> '{self.done}'\nexec '{PROGRAM}' \"$@\"\n")
         os.chmod(path, 0o755)
-        with subprocess.Popen([PROGRAM, "run", journal], stdin=subprocess.PIPE, stdout=subprocess.PIPE) as other:
-            other.stdin.write(b'{"at":86400000,"do":"farm"}\n')
-            other.stdin.flush()
-            self.assertIn(b'"reply":"farm"', other.stdout.readline())
+        with contextlib.closing(Finder(PROGRAM, journal, 0, lambda: None)):
             tool = self.begin("--resume", "--json", "--finder", path)
             self.until(lambda: tool.poll() is not None or os.path.exists(self.done) and os.path.getsize(self.done) > 6)
         out, err = tool.communicate(timeout=PATIENCE)

@@ -177,6 +177,7 @@ class Succession(Case):
             file.write(f"#!/bin/sh\n[ \"$1\" != close ] || echo >> '{tried}'\nexec '{PROGRAM}' \"$@\"\n")
         os.chmod(program, 0o755)
         other = self.reopened("old")
+        self.addCleanup(other.close)
         self.assertEqual(other.ask("farm")["reply"], "farm")
         tool = self.at_work("old", "new", *WORDS, "--yes", env={**os.environ, "CULPRIT_FINDER": program})
         limit = time.monotonic() + PATIENCE
@@ -194,9 +195,7 @@ class Succession(Case):
             process = self.at_work(old, new, *WORDS, "--yes", start_new_session=True)
             time.sleep(0.3 * chance.random())
             if process.poll() is None:
-                if turn % 2:
-                    os.killpg(process.pid, signal.SIGKILL)
-                process.kill()
+                os.killpg(process.pid, signal.SIGKILL)
             else:
                 whole += 1
             process.communicate()
