@@ -1,15 +1,18 @@
 //! A script that is run over a journal, with a fault at each call of its disk, and what a crash leaves then.
 
-use crate::played::{calm_call, play, play_calm};
+use crate::played::{Played, calm_call, play, play_calm, put_status};
+use crate::texts::put;
 use farm_disk::{DiskFail, MemDisk};
 use finder_program::Status;
 use std::alloc::{AllocError, Global};
-use std::io;
 use std::sync::Wait;
 use std::thread::Threads;
 
 /// How many calls the disk has in a run of the whole script: three to open it, and four for each entry.
 const CALLS: u64 = 51;
+
+/// How many bytes go through in a call that fails, and what that is called.
+const KEPT: [(u32, &str); 3] = [(0, "0"), (1, "1"), (u32::MAX, "all")];
 
 /// The images of a crash that are looked at: the size asked for, the byte wherever any may stand, and whether the
 /// script is run again over it.
@@ -26,85 +29,132 @@ fn lines_in(text: &[u8]) -> usize {
 }
 
 /// Whether a script run over a journal again gives these replies.
-fn goes_on<H: Print + Threads + Wait + Eprint + Sync>(
+fn goes_on<H: Threads + Wait + Eprint + Sync>(
     rt: &H,
     alloc: Global,
     journal: &[u8],
     script: &str,
     replies: &[u8],
 ) -> Result<bool, AllocError> {
-    let ended = play_calm(rt, alloc, calm_call("run J", script.as_bytes()), journal)?;
-    Ok(ended.status == Status::Done && ended.written.as_slice() == replies)
+    let played = play_calm(rt, alloc, calm_call("run J", script.as_bytes()), journal)?;
+    Ok(played.status == Status::Done && played.written.as_slice() == replies)
 }
 
-/// Prints how many entries an image holds: what its farm's page shows, as it stands there.
-fn print_entries<H: Print + Threads + Wait + Eprint + Sync>(
-    rt: &H,
-    alloc: Global,
-    image: &[u8],
-) -> io::Result<()> {
-    let shown = play_calm(rt, alloc, calm_call("show J", b""), image)?;
+/// Puts behind a text how many entries a journal holds: what its farm's page shows.
+fn put_entries(out: &mut String, shown: &Played) -> Result<(), AllocError> {
     if shown.status != Status::Done {
-        return print!(rt; " [{}]", shown.status);
+        put_status(out, " [", shown.status)?;
+        return out.push(']');
     }
     let (_, rest) = shown
         .text()
         .split_once("\"entries\":")
         .unwrap_or(("", "none"));
     let (number, _) = rest.split_once(',').unwrap_or((rest, ""));
-    print!(rt; " {number}")
+    out.push(' ')?;
+    out.push_str(number)
 }
 
-/// Plays the script where one call of the disk fails, and prints what it comes to.
-fn print_fault<H: Print + Threads + Wait + Eprint + Sync>(
+/// Puts behind a text how many entries an image holds, as it stands there.
+fn play_image<H: Threads + Wait + Eprint + Sync>(
     rt: &H,
     alloc: Global,
+    out: &mut String,
+    image: &[u8],
+) -> Result<(), AllocError> {
+    let shown = play_calm(rt, alloc, calm_call("show J", b""), image)?;
+    put_entries(out, &shown)
+}
+
+/// Puts behind a text what the images of a crash hold now, and whether other replies come over them.
+fn play_images<H: Threads + Wait + Eprint + Sync>(
+    rt: &H,
+    alloc: Global,
+    out: &mut String,
+    disk: &MemDisk,
+    script: &str,
+    replies: &[u8],
+) -> Result<(), AllocError> {
+    for (size, fill, again) in IMAGES {
+        let Ok(image) = disk.image(size, fill) else {
+            return Err(AllocError);
+        };
+        play_image(rt, alloc, out, &image)?;
+        if again && !goes_on(rt, alloc, &image, script, replies)? {
+            out.push_str(" and other replies")?;
+        }
+    }
+    Ok(())
+}
+
+/// Puts behind a text how a script ended, and with how many replies.
+fn put_end(out: &mut String, status: Status, written: &[u8]) -> Result<(), AllocError> {
+    put_status(out, "", status)?;
+    put(out, ", ", lines_in(written))?;
+    out.push_str(" replies; entries")
+}
+
+/// Plays the script where one call of the disk fails, and puts what it comes to behind a text.
+fn play_fault<H: Threads + Wait + Eprint + Sync>(
+    rt: &H,
+    alloc: Global,
+    out: &mut String,
     journal: &[u8],
     script: &str,
     replies: &[u8],
     fail: DiskFail,
-) -> io::Result<()> {
+) -> Result<(), AllocError> {
     let disk = MemDisk::of(Vec::from_slice(alloc, journal)?, vec![in alloc; fail]?);
-    let ended = play(rt, alloc, calm_call("run J", script.as_bytes()), disk)?;
-    print!(rt;
-        "{}, {} replies; entries",
-        ended.status,
-        lines_in(&ended.written)
-    )?;
-    for (size, fill, again) in IMAGES {
-        let Ok(image) = ended.disk.image(size, fill) else {
-            return Err(io::Error::from(io::ErrorKind::OutOfMemory));
-        };
-        print_entries(rt, alloc, &image)?;
-        if again && !goes_on(rt, alloc, &image, script, replies)? {
-            print!(rt; " and other replies")?;
-        }
-    }
-    if replies.starts_with(&ended.written) {
-        println!(rt; "")
+    let (status, written, disk) = play(rt, alloc, calm_call("run J", script.as_bytes()), disk)?;
+    put_end(out, status, &written)?;
+    play_images(rt, alloc, out, &disk, script, replies)?;
+    out.push_str(if replies.starts_with(&written) {
+        "\n"
     } else {
-        println!(rt; " and other replies")
-    }
+        " and other replies\n"
+    })
 }
 
-/// Founds a journal, plays the script over it, and then once for each call of the disk and each number of bytes that
-/// goes through in it, where that call fails.
-pub(crate) fn print_faults<H: Print + Threads + Wait + Eprint + Sync>(
+/// Plays the script once for each call of the disk and each number of bytes that goes through in it, where that call
+/// fails.
+fn play_each<H: Threads + Wait + Eprint + Sync>(
     rt: &H,
     alloc: Global,
+    out: &mut String,
+    journal: &[u8],
     script: &str,
-) -> io::Result<()> {
-    let founded = play_calm(rt, alloc, calm_call("found J 60000 10 east:0", b""), b"")?;
-    let journal = founded.disk.bytes();
-    println!(rt; "{}: {} bytes", founded.status, journal.len())?;
-    let whole = play_calm(rt, alloc, calm_call("run J", script.as_bytes()), journal)?;
-    println!(rt; "{}: {} replies", whole.status, lines_in(&whole.written))?;
+    replies: &[u8],
+) -> Result<(), AllocError> {
     for call in 1..=CALLS {
-        for (kept, name) in [(0, "0"), (1, "1"), (u32::MAX, "all")] {
-            print!(rt; "call {call}, {name} kept: ")?;
+        for (kept, name) in KEPT {
+            write!(out, "call {call}, {name} kept: ")?;
             let fail = DiskFail { call, kept };
-            print_fault(rt, alloc, journal, script, &whole.written, fail)?;
+            play_fault(rt, alloc, out, journal, script, replies, fail)?;
         }
     }
     Ok(())
+}
+
+/// Puts behind a text how a journal was founded, and how a whole script ended.
+fn put_founded(out: &mut String, founded: &Played, whole: &Played) -> Result<(), AllocError> {
+    put_status(out, "", founded.status)?;
+    put(out, ": ", founded.disk.len())?;
+    out.push_str(" bytes\n")?;
+    put_status(out, "", whole.status)?;
+    put(out, ": ", lines_in(&whole.written))?;
+    out.push_str(" replies\n")
+}
+
+/// Founds a journal, plays the script over it, and then with each fault.
+pub(crate) fn play_faults<H: Threads + Wait + Eprint + Sync>(
+    rt: &H,
+    alloc: Global,
+    out: &mut String,
+    script: &str,
+) -> Result<(), AllocError> {
+    let founded = play_calm(rt, alloc, calm_call("found J 60000 10 east:0", b""), b"")?;
+    let asked = calm_call("run J", script.as_bytes());
+    let whole = play_calm(rt, alloc, asked, &founded.disk)?;
+    put_founded(out, &founded, &whole)?;
+    play_each(rt, alloc, out, &founded.disk, script, &whole.written)
 }

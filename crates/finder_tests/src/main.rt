@@ -37,18 +37,18 @@ mod tables;
 mod texts;
 
 use calls::play_calls;
-use faults::print_faults;
+use faults::play_faults;
 use finder_program::{Status, run_process};
 use output::Stop;
-use played::{Call, calm_call, play_calm};
-use statuses::print_statuses;
-use std::alloc::Global;
+use played::{Call, Played, calm_call, play_calm, put_status};
+use statuses::put_statuses;
+use std::alloc::{AllocError, Global};
 use std::io;
 use std::process::ExitCode;
 use std::sync::Wait;
 use std::thread::Threads;
 use tables::print_tables;
-use texts::{bytes_of, filled, letters, number_of, suspects, word};
+use texts::{bytes_of, filled, letters, number_of, put, suspects, word};
 
 /// The sizes of the pieces that an input is given in.
 const PIECES: [usize; 3] = [1, 7, 8_192];
@@ -56,157 +56,189 @@ const PIECES: [usize; 3] = [1, 7, 8_192];
 /// The script that is run over a journal.
 const SCRIPT: &[u8] = b"{\"at\":86400000,\"do\":\"farm\"}";
 
-// Prints what a call over no journal wrote, and how it ended, where it didn't end well.
-fn play_once<H: Print + Threads + Wait + Eprint + Sync>(
+/// What is put of a call.
+#[derive(Clone, Copy)]
+enum Shown {
+    /// What it wrote, and how it ended, where it didn't end well.
+    Text,
+    /// What it wrote, and how it ended.
+    Stopped,
+    /// Its words, how it ended, and how many bytes it wrote and left on the disk.
+    Words,
+    /// Its words, how it ended, what it wrote and what it left on the disk.
+    Journal,
+}
+
+fn put_text(out: &mut String, played: &Played) -> Result<(), AllocError> {
+    out.push_str(played.text())?;
+    if played.status == Status::Done {
+        return Ok(());
+    }
+    put_status(out, "", played.status)?;
+    out.push('\n')
+}
+
+fn put_stopped(out: &mut String, played: &Played) -> Result<(), AllocError> {
+    out.push_str(played.text())?;
+    put_status(out, "[", played.status)?;
+    out.push_str("]\n")
+}
+
+fn put_words(out: &mut String, words: &str, played: &Played) -> Result<(), AllocError> {
+    write!(out, "{words:?}")?;
+    put_status(out, ": ", played.status)?;
+    put(out, ", ", played.written.len())?;
+    put(out, " bytes written, ", played.disk.len())?;
+    out.push_str(" on the disk\n")
+}
+
+fn put_journal(
+    alloc: Global,
+    out: &mut String,
+    words: &str,
+    journal: &[u8],
+    played: &Played,
+) -> Result<(), AllocError> {
+    out.push_str(words)?;
+    put_status(out, ": ", played.status)?;
+    out.push('\n')?;
+    out.push_str(played.text())?;
+    if played.disk.as_slice() == journal {
+        return out.push_str("the same bytes\n");
+    }
+    let digits = hex::encode(alloc, &played.disk)?;
+    out.push_str(digits.as_str())?;
+    out.push('\n')
+}
+
+/// Makes a call over a journal, and puts what is asked for of it behind a text.
+fn play_call<H: Threads + Wait + Eprint + Sync>(
     rt: &H,
     alloc: Global,
+    out: &mut String,
+    shown: Shown,
     asked: Call,
-) -> io::Result<()> {
-    let ended = play_calm(rt, alloc, asked, b"")?;
-    print!(rt; "{}", ended.text())?;
-    if ended.status == Status::Done {
-        Ok(())
-    } else {
-        println!(rt; "{}", ended.status)
+    journal: &[u8],
+) -> Result<(), AllocError> {
+    let played = play_calm(rt, alloc, asked, journal)?;
+    match shown {
+        Shown::Text => put_text(out, &played),
+        Shown::Stopped => put_stopped(out, &played),
+        Shown::Words => put_words(out, asked.words, &played),
+        Shown::Journal => put_journal(alloc, out, asked.words, journal, &played),
     }
 }
 
-// The same where the input is given whole, and again in pieces, which change nothing.
-fn play_whole<H: Print + Threads + Wait + Eprint + Sync>(
+/// Makes a call with each line of a text, over one journal and one input.
+fn play_lines<H: Threads + Wait + Eprint + Sync>(
     rt: &H,
     alloc: Global,
+    out: &mut String,
+    shown: Shown,
+    input: &[u8],
+    journal: &[u8],
+    text: &str,
+) -> Result<(), AllocError> {
+    for line in text.split('\n') {
+        play_call(rt, alloc, out, shown, calm_call(line, input), journal)?;
+    }
+    Ok(())
+}
+
+/// Whether a call over no journal comes to the same as another one.
+fn is_alike<H: Threads + Wait + Eprint + Sync>(
+    rt: &H,
+    alloc: Global,
+    asked: Call,
+    other: &Played,
+) -> Result<bool, AllocError> {
+    let played = play_calm(rt, alloc, asked, b"")?;
+    Ok(played.status == other.status && played.written == other.written)
+}
+
+/// A call over no journal where the input is given whole, and again in pieces, which change nothing.
+fn play_whole<H: Threads + Wait + Eprint + Sync>(
+    rt: &H,
+    alloc: Global,
+    out: &mut String,
     command: &str,
     input: &[u8],
-) -> io::Result<()> {
+) -> Result<(), AllocError> {
     let asked = calm_call(command, input);
-    play_once(rt, alloc, asked)?;
     let whole = play_calm(rt, alloc, asked, b"")?;
+    put_text(out, &whole)?;
     for piece in PIECES {
-        let ended = play_calm(rt, alloc, Call { piece, ..asked }, b"")?;
-        if ended.status != whole.status || ended.written != whole.written {
-            println!(rt; "in pieces of {piece} bytes: another answer")?;
+        if !is_alike(rt, alloc, Call { piece, ..asked }, &whole)? {
+            put(out, "in pieces of ", piece)?;
+            out.push_str(" bytes: another answer\n")?;
         }
     }
     Ok(())
 }
 
-fn play_filled<H: Print + Threads + Wait + Eprint + Sync>(
-    rt: &H,
+/// The input of a case, by the name of its setting and the numbers behind it.
+fn input_of(
     alloc: Global,
-    command: &str,
+    name: &str,
+    count: u32,
+    weight: u32,
     text: &str,
-    filling: &str,
-) -> io::Result<()> {
-    play_whole(rt, alloc, command, &filled(alloc, text, filling)?)
+) -> Result<Vec<u8>, AllocError> {
+    match name {
+        "hex" => Ok(bytes_of(alloc, text)),
+        "letters" => filled(alloc, text, &letters(alloc, count)?),
+        "suspects" => filled(alloc, text, &suspects(alloc, count, weight)?),
+        _ => Vec::from_slice(alloc, text.as_bytes()),
+    }
 }
 
-fn play_to_stop<H: Print + Threads + Wait + Eprint + Sync>(
+/// A case of `judge`, `run` or `audit`.
+fn play_command<H: Threads + Wait + Eprint + Sync>(
     rt: &H,
     alloc: Global,
-    asked: Call,
-) -> io::Result<()> {
-    let ended = play_calm(rt, alloc, asked, b"")?;
-    println!(rt; "{}[{}]", ended.text(), ended.status)
-}
-
-// A case of `judge`, `run` or `audit`.
-fn play_command<H: Print + Threads + Wait + Eprint + Sync>(
-    rt: &H,
-    alloc: Global,
+    out: &mut String,
     command: &str,
     setting: &str,
     text: &str,
-) -> io::Result<()> {
+) -> Result<(), AllocError> {
     let (name, rest) = word(setting);
     let (first, second) = word(rest);
     let count = number_of(first);
-    let asked = calm_call(command, text.as_bytes());
-    match name {
-        "hex" => play_whole(rt, alloc, command, &bytes_of(alloc, text)),
-        "letters" => play_filled(rt, alloc, command, text, &letters(alloc, count)?),
-        "suspects" => {
-            let list = suspects(alloc, count, number_of(second))?;
-            play_filled(rt, alloc, command, text, &list)
-        }
-        "fails" => {
-            let piece = count as usize;
-            let fails = u64::from(number_of(second));
-            play_once(
-                rt,
-                alloc,
-                Call {
-                    piece,
-                    fails,
-                    ..asked
-                },
-            )
-        }
-        "stops" => {
-            let stop = Stop {
-                at: u64::from(count),
-                wants_memory: second == "memory",
-            };
-            play_to_stop(rt, alloc, Call { stop, ..asked })
-        }
-        _ => play_whole(rt, alloc, command, text.as_bytes()),
+    let mut asked = calm_call(command, text.as_bytes());
+    if name == "fails" {
+        asked.piece = count as usize;
+        asked.fails = u64::from(number_of(second));
+        return play_call(rt, alloc, out, Shown::Text, asked, b"");
     }
-}
-
-fn play_words<H: Print + Threads + Wait + Eprint + Sync>(
-    rt: &H,
-    alloc: Global,
-    line: &str,
-) -> io::Result<()> {
-    let ended = play_calm(rt, alloc, calm_call(line, b"{}"), b"0")?;
-    println!(rt;
-        "{line:?}: {}, {} bytes written, {} on the disk",
-        ended.status,
-        ended.written.len(),
-        ended.disk.bytes().len()
-    )
-}
-
-fn play_journal<H: Print + Threads + Wait + Eprint + Sync>(
-    rt: &H,
-    alloc: Global,
-    journal: &[u8],
-    line: &str,
-) -> io::Result<()> {
-    let ended = play_calm(rt, alloc, calm_call(line, SCRIPT), journal)?;
-    println!(rt; "{line}: {}", ended.status)?;
-    print!(rt; "{}", ended.text())?;
-    if ended.disk.bytes() == journal {
-        println!(rt; "the same bytes")
-    } else {
-        println!(rt; "{}", hex::encode(alloc, ended.disk.bytes())?)
+    if name == "stops" {
+        asked.stop = Stop {
+            at: u64::from(count),
+            wants_memory: second == "memory",
+        };
+        return play_call(rt, alloc, out, Shown::Stopped, asked, b"");
     }
+    let input = input_of(alloc, name, count, number_of(second), text)?;
+    play_whole(rt, alloc, out, command, &input)
 }
 
-fn play_case<H: Print + Threads + Wait + Eprint + Sync>(
+fn play_case<H: Threads + Wait + Eprint + Sync>(
     rt: &H,
     alloc: Global,
+    out: &mut String,
     setting: &str,
     text: &str,
-) -> io::Result<()> {
+) -> Result<(), AllocError> {
     let (name, rest) = word(setting);
     match name {
-        "words" => {
-            for line in text.split('\n') {
-                play_words(rt, alloc, line)?;
-            }
-            Ok(())
-        }
+        "words" => play_lines(rt, alloc, out, Shown::Words, b"{}", b"0", text),
         "journal" => {
             let journal = bytes_of(alloc, rest);
-            for line in text.split('\n') {
-                play_journal(rt, alloc, &journal, line)?;
-            }
-            Ok(())
+            play_lines(rt, alloc, out, Shown::Journal, SCRIPT, &journal, text)
         }
-        "calls" => play_calls(rt, alloc, text),
-        "faults" => print_faults(rt, alloc, text),
-        "statuses" => print_statuses(rt, alloc),
-        _ => play_command(rt, alloc, name, rest, text),
+        "calls" => play_calls(rt, alloc, out, text),
+        "faults" => play_faults(rt, alloc, out, text),
+        "statuses" => put_statuses(alloc, out),
+        _ => play_command(rt, alloc, out, name, rest, text),
     }
 }
 
@@ -218,8 +250,9 @@ fn play_cases<H: Print + Threads + Wait + Eprint + Sync>(
     for case in cases.split("\n# ") {
         let (head, text) = case.split_once('\n').unwrap_or((case, ""));
         let (setting, _) = head.split_once(": ").unwrap_or((head, ""));
-        println!(rt; "# {head}")?;
-        play_case(rt, alloc, setting, text)?;
+        let mut out = String::new(alloc);
+        play_case(rt, alloc, &mut out, setting, text)?;
+        print!(rt; "# {head}\n{}", out.as_str())?;
     }
     Ok(())
 }

@@ -1,7 +1,7 @@
 //! A call of `finder` over an input, an output and a clock in memory, and any disk.
 
 use crate::output::{Output, Stop};
-use farm_disk::{CalmDisk, DatedDisk, Disk};
+use farm_disk::{CalmDisk, DatedDisk};
 use farm_types::{MOMENT_MIN_MS, Moment};
 use finder_program::{Status, finder};
 use link_io::{MemClock, MemSource};
@@ -37,19 +37,24 @@ pub(crate) fn calm_call<'a>(words: &'a str, input: &'a [u8]) -> Call<'a> {
     }
 }
 
-/// How a call ended, what it wrote, and the disk afterwards.
+/// How a call ended, what it wrote, and the bytes of its disk afterwards.
 #[derive(Drop)]
-pub(crate) struct Played<D: Disk + Drop> {
+pub(crate) struct Played {
     pub(crate) status: Status,
     pub(crate) written: Vec<u8>,
-    pub(crate) disk: D,
+    pub(crate) disk: Vec<u8>,
 }
 
-impl<D: Disk + Drop> Played<D> {
+impl Played {
     /// What was written, as text.
     pub(crate) fn text(&self) -> &str {
         std::str::from_utf8(&self.written).unwrap_or("no text")
     }
+}
+
+/// Puts a text and how a call ended behind a text.
+pub(crate) fn put_status(out: &mut String, text: &str, status: Status) -> Result<(), AllocError> {
+    write!(out, "{text}{status}")
 }
 
 /// A clock that stands at the first moment that there is.
@@ -58,11 +63,6 @@ fn first_moment() -> MemClock {
         Ok(at) => MemClock::at(at),
         Err(_) => unreachable!(),
     }
-}
-
-/// A disk in memory that never fails, with these bytes.
-pub(crate) fn calm_disk(alloc: Global, journal: &[u8]) -> Result<CalmDisk, AllocError> {
-    Ok(CalmDisk::of(Vec::from_slice(alloc, journal)?))
 }
 
 /// The words of a line, with a space between two of them.
@@ -80,13 +80,13 @@ fn source_of(alloc: Global, call: Call) -> Result<MemSource, AllocError> {
     Ok(MemSource::in_pieces(bytes, pieces, vec![in alloc; call.fails]?))
 }
 
-/// Makes a call.
+/// Makes a call. Gives how it ended, what it wrote, and the disk.
 pub(crate) fn play<H: Threads + Wait + Eprint + Sync, D: DatedDisk<Over = Passed> + Drop + Send>(
     rt: &H,
     alloc: Global,
     call: Call,
     disk: D,
-) -> Result<Played<D>, AllocError> {
+) -> Result<(Status, Vec<u8>, D), AllocError> {
     let words = words_of(alloc, call.words)?;
     let mut input = source_of(alloc, call)?;
     let mut output = Output::of(alloc, call.stop);
@@ -102,11 +102,7 @@ pub(crate) fn play<H: Threads + Wait + Eprint + Sync, D: DatedDisk<Over = Passed
         &mut ListRunner::of(Vec::new(alloc), Vec::new(alloc)),
         &mut ListKeys::of(Vec::new(alloc)),
     );
-    Ok(Played {
-        status,
-        written: output.bytes,
-        disk,
-    })
+    Ok((status, output.bytes, disk))
 }
 
 /// Makes a call over a journal in memory, on a disk that never fails.
@@ -115,6 +111,13 @@ pub(crate) fn play_calm<H: Threads + Wait + Eprint + Sync>(
     alloc: Global,
     call: Call,
     journal: &[u8],
-) -> Result<Played<CalmDisk>, AllocError> {
-    play(rt, alloc, call, calm_disk(alloc, journal)?)
+) -> Result<Played, AllocError> {
+    let disk = CalmDisk::of(Vec::from_slice(alloc, journal)?);
+    let (status, written, disk) = play(rt, alloc, call, disk)?;
+    let disk = Vec::from_slice(alloc, disk.bytes())?;
+    Ok(Played {
+        status,
+        written,
+        disk,
+    })
 }

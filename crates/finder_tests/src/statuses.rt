@@ -2,8 +2,7 @@
 
 use finder_program::Status;
 use judge::JudgeFault;
-use std::alloc::Global;
-use std::io;
+use std::alloc::{AllocError, Global};
 
 const STATUSES: [Status; 18] = [
     Status::Done,
@@ -29,14 +28,21 @@ const STATUSES: [Status; 18] = [
     Status::Busy,
 ];
 
-/// Prints each status with its number and the line that it writes, and the faults of the judge.
-pub(crate) fn print_statuses(rt: &impl Print, alloc: Global) -> io::Result<()> {
-    for status in STATUSES {
-        let mut line = Vec::new(alloc);
-        status.write_line(&mut line)?;
-        let line = std::str::from_utf8(&line).unwrap_or("no text");
-        println!(rt; "{}: {status}: {line:?}", status.exit_code())?;
+/// Puts behind a text the number of a status and the line that it writes.
+fn put_line(alloc: Global, out: &mut String, status: Status) -> Result<(), AllocError> {
+    let mut line = Vec::new(alloc);
+    if status.write_line(&mut line).is_err() {
+        return Err(AllocError);
     }
-    println!(rt; "the judge: {}", JudgeFault::BadInput(3))?;
-    println!(rt; "the judge: {}", JudgeFault::Memory)
+    let line = std::str::from_utf8(&line).unwrap_or("no text");
+    writeln!(out, "{}: {status}: {line:?}", status.exit_code())
+}
+
+/// Puts behind a text each status with its number and the line that it writes, and the faults of the judge.
+pub(crate) fn put_statuses(alloc: Global, out: &mut String) -> Result<(), AllocError> {
+    for status in STATUSES {
+        put_line(alloc, out, status)?;
+    }
+    writeln!(out, "the judge: {}", JudgeFault::BadInput(3))?;
+    writeln!(out, "the judge: {}", JudgeFault::Memory)
 }

@@ -51,3 +51,8 @@ pub(crate) fn filled(alloc: Global, text: &str, filling: &str) -> Result<Vec<u8>
     }
     Ok(bytes)
 }
+
+/// Puts a text and a number behind a text.
+pub(crate) fn put(out: &mut String, text: &str, number: usize) -> Result<(), AllocError> {
+    write!(out, "{text}{number}")
+}
