@@ -59,16 +59,17 @@ const SCRIPT: &[u8] = b"{\"at\":86400000,\"do\":\"farm\"}";
 /// What is put of a call.
 #[derive(Clone, Copy)]
 enum Shown {
-    /// What it wrote, and how it ended, where it didn't end well.
+    /// What [`put_text`] says.
     Text,
-    /// What it wrote, and how it ended.
+    /// What [`put_stopped`] says.
     Stopped,
-    /// Its words, how it ended, and how many bytes it wrote and left on the disk.
+    /// What [`put_words`] says.
     Words,
-    /// Its words, how it ended, what it wrote and what it left on the disk.
+    /// What [`put_journal`] says.
     Journal,
 }
 
+/// Puts behind a text what a call wrote, and how it ended, where it didn't end well.
 fn put_text(out: &mut String, played: &Played) -> Result<(), AllocError> {
     out.push_str(played.text())?;
     if played.status == Status::Done {
@@ -78,12 +79,14 @@ fn put_text(out: &mut String, played: &Played) -> Result<(), AllocError> {
     out.push('\n')
 }
 
+/// Puts behind a text what a call wrote, and how it ended.
 fn put_stopped(out: &mut String, played: &Played) -> Result<(), AllocError> {
     out.push_str(played.text())?;
     put_status(out, "[", played.status)?;
     out.push_str("]\n")
 }
 
+/// Puts behind a text the words of a call, how it ended, and how many bytes it wrote and left on the disk.
 fn put_words(out: &mut String, words: &str, played: &Played) -> Result<(), AllocError> {
     write!(out, "{words:?}")?;
     put_status(out, ": ", played.status)?;
@@ -92,6 +95,7 @@ fn put_words(out: &mut String, words: &str, played: &Played) -> Result<(), Alloc
     out.push_str(" on the disk\n")
 }
 
+/// Puts behind a text the words of a call, how it ended, what it wrote and what it left on the disk.
 fn put_journal(
     alloc: Global,
     out: &mut String,
@@ -221,6 +225,7 @@ fn play_command<H: Threads + Wait + Eprint + Sync>(
     play_whole(rt, alloc, out, command, &input)
 }
 
+/// Plays a case with this setting, and puts behind a text what it comes to.
 fn play_case<H: Threads + Wait + Eprint + Sync>(
     rt: &H,
     alloc: Global,
@@ -242,6 +247,7 @@ fn play_case<H: Threads + Wait + Eprint + Sync>(
     }
 }
 
+/// Plays each case, and prints what it comes to behind its head.
 fn play_cases<H: Print + Threads + Wait + Eprint + Sync>(
     rt: &H,
     alloc: Global,
