@@ -5,7 +5,7 @@ use farm_core::{AdmitFault, Farm};
 use farm_entry::{Command, Entry, What};
 use farm_types::{Key, Memory, Moment};
 use farm_wire::{answer_text, command_of};
-use http_answers::{Answer, answer_status, put_answer};
+use http_answers::{HttpAnswer, answer_status, put_answer};
 use http_requests::{LastHead, Next, Reading, Request, next_of};
 use http_routes::Pages;
 use http_words::{Endpoint, StatusCode};
@@ -130,7 +130,7 @@ pub(crate) fn answer_bytes(
     closes: bool,
 ) -> Result<Vec<u8>, Memory> {
     let mut sink = MemSink::of(alloc, Vec::new(alloc));
-    let answer = Answer {
+    let answer = HttpAnswer {
         status,
         allow: None,
         closes,

@@ -17,7 +17,7 @@ use Rattle.fault_types.specs.Counts.{Rose}
 use Rattle.connection_laws.specs.Batches.{AreAsked, AreAnsweredBy, AreAtOnce, failed_steps, uncalled_steps}
 use Rattle.connection_laws.specs.Progress.{Progress, progress_after, decision_on, progress_past, recorded_place, recorded_places, new_place}
 use Rattle.connection_laws.proofs.Progress.{after-longer}
-use Rattle.connection_laws.specs.Outcomes.{Outcome, answered, failed, failed_too, uncalled, Step}
+use Rattle.connection_laws.specs.Outcomes.{ItemOutcome, answered, failed, failed_too, uncalled, Step}
 use Rattle.connection_laws.specs.Steps.{MayComeTo, AreSteps, IsWritten}
 
 -- answered: the items come to what the farm answered
@@ -34,7 +34,7 @@ answered-steps gives c H (item ∷ items) (ask ∷ asks) [] steps q b r s = absu
 answered-steps gives c H (item ∷ items) (ask ∷ asks) (a ∷ answers) [] q b r s = absurd s
 answered-steps gives c H (item ∷ items) (ask ∷ asks) (a ∷ answers) (step ∷ steps) q b r s =
     let next = progress_past c (answered H ask a) in
-    subst (λ (o : Outcome). (MayComeTo gives c item o × IsWritten o step.written)
+    subst (λ (o : ItemOutcome). (MayComeTo gives c item o × IsWritten o step.written)
     × AreSteps gives (progress_past c o) items steps) (sym s.0) (
       (record { asked = q.0; begins = b; answer = r.0 }, tt),
       answered-steps gives next (after H (decision_on H ask)) items asks answers steps q.1
@@ -54,7 +54,7 @@ answered-progress_after c H (ask ∷ asks) [] steps b s = absurd s
 answered-progress_after c H (ask ∷ asks) (a ∷ answers) [] b s = absurd s
 answered-progress_after c H (ask ∷ asks) (a ∷ answers) (step ∷ steps) b s =
     let left = after H (decision_on H ask) in
-    subst (λ (o : Outcome). IsPrefix (progress_after (progress_past c o) steps).seen (history_after left asks)
+    subst (λ (o : ItemOutcome). IsPrefix (progress_after (progress_past c o) steps).seen (history_after left asks)
     × ((progress_after (progress_past c o) steps).totals ≡ c.totals)
     × ((progress_after (progress_past c o) steps).faults ≡ c.faults)) (sym s.0)
     (answered-progress_after (progress_past c (answered H ask a)) left asks answers steps (IsPrefix-refl left) s.1)
@@ -104,7 +104,7 @@ answered-places H (ask ∷ asks) (a ∷ answers) (step ∷ steps) n s same =
     let d = decision_on H ask in
     let left = after H d in
     let final = history_after left asks in
-    ap (λ (o : Outcome). recorded_place o ++ recorded_places steps) s.0
+    ap (λ (o : ItemOutcome). recorded_place o ++ recorded_places steps) s.0
     ∙ places_by H d n (recorded_places steps) final same (history_after-longer left asks)
     (λ m more. answered-places left asks answers steps m s.1 more)
 

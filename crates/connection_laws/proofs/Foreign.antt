@@ -36,7 +36,7 @@ use Rattle.http_words.specs.declared.route.Route.TheVariants as route
 use Rattle.httparse.specs.Grammar.{RequestHead}
 use Rattle.connection_laws.specs.Kinds.{Kind, commands, faulty, kind_by, kind_of, log}
 use Rattle.connection_laws.specs.Kinds as kinds
-use Rattle.connection_laws.specs.Outcomes.{Outcome, answered, copied, counted, failed, failed_too, faulted, misread, uncalled, unread}
+use Rattle.connection_laws.specs.Outcomes.{ItemOutcome, answered, copied, counted, failed, failed_too, faulted, misread, uncalled, unread}
 use Rattle.connection_laws.specs.Progress.{Progress, decision_on, new_place, recorded_place}
 use Rattle.connection_laws.specs.Steps.{MayComeTo}
 
@@ -179,7 +179,7 @@ origin-shows bytes item x origin =
 
 -- ---- what it comes to
 
-come-adds_none : (gives : Given → Type 0) (c : Progress) (item : Item) (o : Outcome) → Shows (kind_of item)
+come-adds_none : (gives : Given → Type 0) (c : Progress) (item : Item) (o : ItemOutcome) → Shows (kind_of item)
     → MayComeTo gives c item o → recorded_place o ≡ []
 come-adds_none gives c item (faulted f) shows m = refl
 come-adds_none gives c item (misread f) shows m = refl
@@ -192,11 +192,11 @@ come-adds_none gives c item (failed_too ask) shows m = refl
 come-adds_none gives c item unread shows m = refl
 come-adds_none gives c item (uncalled H ask) shows m = refl
 
-pub origin-adds_none : (gives : Given → Type 0) (c : Progress) (bytes : List ℕ) (item : Item) (o : Outcome)
+pub origin-adds_none : (gives : Given → Type 0) (c : Progress) (bytes : List ℕ) (item : Item) (o : ItemOutcome)
     (x : IsRequest bytes item) → has_origin (fields_of x.head) ≡ true → MayComeTo gives c item o → recorded_place o ≡ []
 origin-adds_none gives c bytes item o x origin m = come-adds_none gives c item o (origin-shows bytes item x origin) m
 
-pub origin-after : (gives : Given → Type 0) (c : Progress) (bytes : List ℕ) (item : Item) (o : Outcome)
+pub origin-after : (gives : Given → Type 0) (c : Progress) (bytes : List ℕ) (item : Item) (o : ItemOutcome)
     (x : IsRequest bytes item) → has_origin (fields_of x.head) ≡ true → MayComeTo gives c item o
     → (H : List Entry) (ask : Ask) (a : Answer)
     → o ≡ answered H ask a → after H (decision_on H ask) ≡ H

@@ -12,7 +12,7 @@ use Rattle.connection_laws.specs.Answers.{transcript}
 use Rattle.connection_laws.specs.Held.{HeldFrom}
 use Rattle.connection_laws.specs.Kinds.{Kind, faulty, commands, totals, log, kind_of}
 use Rattle.connection_laws.specs.Marks.{Mark}
-use Rattle.connection_laws.specs.Outcomes.{Outcome, faulted, misread, answered, counted, copied, failed, failed_too, unread, uncalled, Step}
+use Rattle.connection_laws.specs.Outcomes.{ItemOutcome, faulted, misread, answered, counted, copied, failed, failed_too, unread, uncalled, Step}
 use Rattle.connection_laws.specs.Owners.{Holding}
 use Rattle.connection_laws.specs.Progress.{Progress, IsWithin, progress_after, progress_past, recorded_place, recorded_places}
 use Rattle.connection_laws.specs.Serving.{HasPassed, IsKept, IsStopped, IsWaiting, OnReadFault}
@@ -87,7 +87,7 @@ further-within c (item ∷ items) final w =
     })
 
 -- the history of the last totals stays legal
-past-legal : (gives : Given → Type 0) (c : Progress) (item : Item) (o : Outcome) → MayComeTo gives c item o
+past-legal : (gives : Given → Type 0) (c : Progress) (item : Item) (o : ItemOutcome) → MayComeTo gives c item o
     → IsLegal c.totals
     → IsLegal (progress_past c o).totals
 past-legal gives c item (faulted f) m legal = legal

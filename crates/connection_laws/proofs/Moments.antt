@@ -5,7 +5,7 @@ use Rattle.connection_laws.specs.Moments.{Given, at_moment, at_count}
 use Rattle.http_requests.specs.Items.{Item}
 use Rattle.connection_laws.specs.Held.{HeldFrom}
 use Rattle.connection_laws.specs.Marks.{Mark}
-use Rattle.connection_laws.specs.Outcomes.{Outcome, faulted, misread, answered, counted, copied, failed, failed_too, unread, uncalled, Step}
+use Rattle.connection_laws.specs.Outcomes.{ItemOutcome, faulted, misread, answered, counted, copied, failed, failed_too, unread, uncalled, Step}
 use Rattle.connection_laws.specs.Progress.{Progress, progress_past}
 use Rattle.connection_laws.specs.Steps.{AreSteps, IsAsked, MayComeTo}
 use Rattle.connection_laws.specs.Told.{Saying}
@@ -14,7 +14,7 @@ module _ (gives other : Given → Type 0) (more : (given : Given) → gives give
   asked-more : (item : Item) (ask : Ask) → IsAsked gives item ask → IsAsked other item ask
   asked-more item ask a = record { command = a.command; moment = more (at_moment ask.at) a.moment }
 
-  may_come-more : (c : Progress) (item : Item) (o : Outcome) → MayComeTo gives c item o → MayComeTo other c item o
+  may_come-more : (c : Progress) (item : Item) (o : ItemOutcome) → MayComeTo gives c item o → MayComeTo other c item o
   may_come-more c item (faulted f) m = m
   may_come-more c item (misread f) m = m
   may_come-more c item (answered H ask a) m =

@@ -11,11 +11,11 @@ use Rattle.list_prefix.proofs.Prefixes.{IsPrefix-refl, IsPrefix-trans, IsPrefix-
 use Rattle.fault_types.specs.Counts.{Rose}
 use Rattle.connection_laws.specs.Progress.{Progress, progress_after, decision_on, recorded_place, recorded_places, progress_past, IsBefore, IsWithin}
 use Rattle.connection_laws.specs.Marks.{Mark, Follows}
-use Rattle.connection_laws.specs.Outcomes.{Outcome, faulted, misread, answered, counted, copied, failed, failed_too, unread, uncalled, Step}
+use Rattle.connection_laws.specs.Outcomes.{ItemOutcome, faulted, misread, answered, counted, copied, failed, failed_too, unread, uncalled, Step}
 use Rattle.connection_laws.specs.Steps.{MayComeTo, AreSteps}
 
 -- what an item may come to, it may come to as well where less was seen before
-pub may_come-before : (gives : Given → Type 0) (c d : Progress) (item : Item) (o : Outcome) → IsBefore c d
+pub may_come-before : (gives : Given → Type 0) (c d : Progress) (item : Item) (o : ItemOutcome) → IsBefore c d
     → MayComeTo gives d item o
     → MayComeTo gives c item o
 may_come-before gives c d item (faulted f) b m = m
@@ -53,7 +53,7 @@ may_come-before gives c d item (uncalled H ask) b m = record {
 }
 
 -- and what is carried past it is in the same order
-pub progress_past-before : (c d : Progress) (o : Outcome) → IsBefore c d
+pub progress_past-before : (c d : Progress) (o : ItemOutcome) → IsBefore c d
     → IsBefore (progress_past c o) (progress_past d o)
 progress_past-before c d (faulted f) b = record {
   seen = b.seen;
@@ -145,7 +145,7 @@ after-longer H (Show page) = IsPrefix-refl H
 after-longer H (New e) = IsPrefix-append H (e ∷ [])
 
 -- the histories go on past an item, and so past all
-pub progress_past-longer : (gives : Given → Type 0) (c : Progress) (item : Item) (o : Outcome)
+pub progress_past-longer : (gives : Given → Type 0) (c : Progress) (item : Item) (o : ItemOutcome)
     → MayComeTo gives c item o
     → IsPrefix c.seen (progress_past c o).seen × IsPrefix c.totals (progress_past c o).totals
 progress_past-longer gives c item (faulted f) m = (IsPrefix-refl c.seen, IsPrefix-refl c.totals)
@@ -195,7 +195,8 @@ rose-le : (a b : ℕ) → Rose a b → a ≤ b
 rose-le a b (inl lt) = omega arith
 rose-le a b (inr (one, other)) = let same : a ≡ b = one ∙ sym other in omega arith
 
-pub progress_past-count : (gives : Given → Type 0) (c : Progress) (item : Item) (o : Outcome) → MayComeTo gives c item o
+pub progress_past-count : (gives : Given → Type 0) (c : Progress) (item : Item) (o : ItemOutcome)
+    → MayComeTo gives c item o
     → c.faults ≤ (progress_past c o).faults
 progress_past-count gives c item (faulted f) m = le_refl c.faults
 progress_past-count gives c item (misread f) m = le_refl c.faults

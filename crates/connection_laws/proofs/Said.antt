@@ -7,7 +7,7 @@ use Rattle.list_prefix.specs.Prefix.{IsPrefix}
 use Rattle.list_prefix.proofs.Prefixes.{IsPrefix-length, IsPrefix-trans}
 use Rattle.connection_laws.specs.Answers.{interim_of, item_bytes, response_bytes, response_of, transcript}
 use Rattle.connection_laws.specs.Moments.{Given}
-use Rattle.connection_laws.specs.Outcomes.{Outcome, faulted, misread, answered, counted, copied, failed, failed_too, unread, uncalled, Step}
+use Rattle.connection_laws.specs.Outcomes.{ItemOutcome, faulted, misread, answered, counted, copied, failed, failed_too, unread, uncalled, Step}
 use Rattle.connection_laws.specs.Progress.{Progress, decision_on, progress_after, progress_past}
 use Rattle.connection_laws.specs.Steps.{AreSteps, MayComeTo}
 use Rattle.connection_laws.specs.Told.{AreSaid, Saying, first_byte, if_put, told_history}
@@ -81,7 +81,7 @@ interim-shorter item step =
     omega (arith, length-append (interim_of item.interim) (response_bytes item (response_of step)))
 
 -- the history that an outcome's answer tells of begins the one that is carried past it
-past-told : (gives : Given → Type 0) (c : Progress) (item : Item) (o : Outcome) (last : List Entry)
+past-told : (gives : Given → Type 0) (c : Progress) (item : Item) (o : ItemOutcome) (last : List Entry)
     (P : List Entry → Type 0) → MayComeTo gives c item o → IsPrefix (progress_past c o).seen last
     → ((H : List Entry) → IsPrefix H last → P H) → IfSome (told_history o) P
 past-told gives c item (faulted f) last P m begins each = tt
@@ -94,7 +94,7 @@ past-told gives c item (failed_too ask) last P m begins each = tt
 past-told gives c item unread last P m begins each = tt
 past-told gives c item (uncalled H ask) last P m begins each = tt
 
-past-weaker : (gives : Given → Type 0) (c : Progress) (item : Item) (o : Outcome) (last : List Entry)
+past-weaker : (gives : Given → Type 0) (c : Progress) (item : Item) (o : ItemOutcome) (last : List Entry)
     (P Q : List Entry → Type 0) → MayComeTo gives c item o → IsPrefix (progress_past c o).seen last
     → ((H : List Entry) → IsPrefix H last → P H → Q H) → IfSome (told_history o) P → IfSome (told_history o) Q
 past-weaker gives c item (faulted f) last P Q m begins weaker holds = tt

@@ -14,7 +14,7 @@ use Rattle.http_words.specs.declared.fault.Allow.{Allow}
 use Rattle.http_words.specs.declared.status_code.StatusCode.{StatusCode}
 use Rattle.http_words.specs.declared.status_code.StatusCode.TheVariants as status
 use Rattle.serde_json.specs.Written.{compact_text}
-use Rattle.connection_laws.specs.Outcomes.{Outcome, faulted, misread, answered, counted, copied, failed, failed_too, unread, uncalled, Step}
+use Rattle.connection_laws.specs.Outcomes.{ItemOutcome, faulted, misread, answered, counted, copied, failed, failed_too, unread, uncalled, Step}
 
 -- what an answer says, apart from how it is put
 pub record Response : Type 0 where
@@ -35,7 +35,7 @@ abbrev pub no_memory : Response
 no_memory = plain status.NoStorage memory_text
 
 -- what an outcome is answered with
-abbrev pub response_to : Outcome → Response
+abbrev pub response_to : ItemOutcome → Response
 response_to (faulted f) = record { status = fault_status f; allow = fault_allow f; body = fault_text f }
 response_to (misread f) = plain status.BadRequest (compact_text (fault_data f))
 response_to (answered H ask a) = plain (answer_status a) (answer_text a)

@@ -7,7 +7,7 @@ use Rattle.turn_lock.specs.Known.{Known, WasPending}
 use Rattle.turn_lock.specs.Places.{ArePlaces, IsOneOf, both_places}
 use Rattle.turn_lock.specs.declared.view.Lending.{Lending}
 use Rattle.turn_lock.specs.declared.view.Undecided.{Undecided}
-use Rattle.connection_laws.specs.Outcomes.{Outcome, faulted, misread, answered, counted, copied, failed, failed_too, unread, uncalled, Step}
+use Rattle.connection_laws.specs.Outcomes.{ItemOutcome, faulted, misread, answered, counted, copied, failed, failed_too, unread, uncalled, Step}
 use Rattle.connection_laws.specs.Progress.{recorded_places}
 
 -- what entries are known to be a connection's, or several connections' together: the places of those that its commands
@@ -40,7 +40,7 @@ holding_of pass = record {
 
 -- a turn that left this undecided is the one in which the disk failed by what an item came to: behind the history at
 -- which it failed no more is pending than fits one record
-abbrev pub IsLeftBy : Outcome → Undecided → Type 0
+abbrev pub IsLeftBy : ItemOutcome → Undecided → Type 0
 IsLeftBy (faulted f) u = ⊥
 IsLeftBy (misread f) u = ⊥
 IsLeftBy (answered H ask a) u = ⊥

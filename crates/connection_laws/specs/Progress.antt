@@ -9,7 +9,7 @@ use Rattle.farm_store.specs.declared.asking.Ask.{Ask}
 use Rattle.farm_store.specs.declared.asking.TheConstants.{MAX_BATCH}
 use Rattle.list_prefix.specs.Prefix.{IsPrefix}
 use Rattle.connection_laws.specs.Marks.{Mark}
-use Rattle.connection_laws.specs.Outcomes.{Outcome, faulted, misread, answered, counted, copied, failed, failed_too, unread, uncalled, Step}
+use Rattle.connection_laws.specs.Outcomes.{ItemOutcome, faulted, misread, answered, counted, copied, failed, failed_too, unread, uncalled, Step}
 
 -- what is carried from item to item
 pub record Progress : Type 0 where
@@ -39,7 +39,7 @@ abbrev pub decision_on : List Entry → Ask → Decision
 decision_on H ask = decide H ask.command ask.at
 
 -- what is carried past an item that came to this
-abbrev pub progress_past : Progress → Outcome → Progress
+abbrev pub progress_past : Progress → ItemOutcome → Progress
 progress_past c (faulted f) = progress_with c c.seen
 progress_past c (misread f) = progress_with c c.seen
 progress_past c (answered H ask a) = progress_with c (after H (decision_on H ask))
@@ -81,7 +81,7 @@ new_place H (Show page) = []
 new_place H (New e) = length H ∷ []
 
 -- the same for what an item came to
-abbrev pub recorded_place : Outcome → List ℕ
+abbrev pub recorded_place : ItemOutcome → List ℕ
 recorded_place (answered H ask a) = new_place H (decision_on H ask)
 recorded_place _ = []
 

@@ -13,7 +13,7 @@ use Rattle.list_prefix.specs.Prefix.{IsPrefix}
 use Rattle.fault_types.specs.Counts.{Rose}
 use Rattle.connection_laws.specs.Progress.{Progress, decision_on, progress_past}
 use Rattle.connection_laws.specs.Kinds.{faulty, commands, totals, log, kind_of}
-use Rattle.connection_laws.specs.Outcomes.{Outcome, faulted, misread, answered, counted, copied, failed, failed_too, unread, uncalled, Step}
+use Rattle.connection_laws.specs.Outcomes.{ItemOutcome, faulted, misread, answered, counted, copied, failed, failed_too, unread, uncalled, Step}
 
 -- the item's command is asked, at a moment that the clock gave
 pub record IsAsked (gives : Given → Type 0) (item : Item) (ask : Ask) : Type 0 where
@@ -66,7 +66,7 @@ pub record IsUncalled (gives : Given → Type 0) (c : Progress) (item : Item) (H
   pub begins : IsPrefix c.seen H
 
 -- an item may come to this
-abbrev pub MayComeTo : (Given → Type 0) → Progress → Item → Outcome → Type 0
+abbrev pub MayComeTo : (Given → Type 0) → Progress → Item → ItemOutcome → Type 0
 MayComeTo gives c item (faulted f) = kind_of item ≡ faulty f
 MayComeTo gives c item (misread f) = kind_of item ≡ commands (Err f)
 MayComeTo gives c item (answered H ask a) = IsAnswered gives c item H ask a
@@ -78,7 +78,7 @@ MayComeTo gives c item unread = IsUnread item
 MayComeTo gives c item (uncalled H ask) = IsUncalled gives c item H ask
 
 -- whether there was memory for the text: some texts need none
-abbrev pub IsWritten : Outcome → Bool → Type 0
+abbrev pub IsWritten : ItemOutcome → Bool → Type 0
 IsWritten (faulted f) written = written ≡ true
 IsWritten (failed H ask before count) written = written ≡ true
 IsWritten (failed_too ask) written = written ≡ true

@@ -8,12 +8,12 @@ use Rattle.link_io.specs.Notes.{Note}
 use Rattle.past_moments.specs.Rows.{IsAmong}
 use Rattle.past_moments.specs.declared.row.Row.{Row}
 use Rattle.connection_laws.specs.Answers.{interim_of, item_bytes}
-use Rattle.connection_laws.specs.Outcomes.{Outcome, faulted, misread, answered, counted, copied, failed, failed_too, unread, uncalled, Step}
+use Rattle.connection_laws.specs.Outcomes.{ItemOutcome, faulted, misread, answered, counted, copied, failed, failed_too, unread, uncalled, Step}
 use Rattle.connection_laws.specs.Progress.{decision_on}
 
 -- the history that the answer to an outcome tells of: that of a command with the entry that it recorded, where it did,
 -- and that of a log page. The others acknowledge nothing
-abbrev pub told_history : Outcome → Option (List Entry)
+abbrev pub told_history : ItemOutcome → Option (List Entry)
 told_history (faulted f) = None
 told_history (misread f) = None
 told_history (answered H ask a) = Some (after H (decision_on H ask))

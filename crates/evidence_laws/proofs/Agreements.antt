@@ -6,7 +6,7 @@ use Rattle.std.proofs.lemmas.Option.{none-some}
 use Rattle.farm_rules.specs.Reruns.{Outcome, confirmed, outcome, verifying, vindicating}
 use Rattle.open_positions.specs.Blocks.{is_hidden}
 use Rattle.judge.specs.Fates.{standing_by}
-use Rattle.judge.specs.declared.standing.Standing.TheVariants as judged
+use Rattle.judge.specs.declared.standing.JudgeStanding.TheVariants as judged
 use Rattle.weight_exact.specs.Weights.{hypotheses}
 use Rattle.weight_exact.specs.declared.run.Run.{Run}
 use Rattle.farm_entry.specs.History.{reruns, runs, skipped, was_cancelled, went_over}

@@ -14,8 +14,8 @@ use Rattle.suspect_range.proofs.Legal.{weights_are_priors}
 use Rattle.suspect_range.specs.declared.suspect.Suspect.{Suspect}
 use Rattle.judge.specs.Answer.{answer, budget_text, fates_text, judged, line_feed, shares_text, standing_text}
 use Rattle.judge.specs.Answer.{points_text as judge_points}
-use Rattle.judge.specs.Fates.{Progress, after_all, at_start, standing, standing_by}
-use Rattle.judge.specs.declared.standing.Standing.TheVariants.{Inconclusive}
+use Rattle.judge.specs.Fates.{JudgeProgress, after_all, at_start, standing, standing_by}
+use Rattle.judge.specs.declared.standing.JudgeStanding.TheVariants.{Inconclusive}
 use Rattle.judge.specs.Form.{Inquiry, inquiry}
 use Rattle.judge.specs.Text.{lines}
 use Rattle.judge.proofs.RoundTrips.{lines-text_of}
@@ -143,7 +143,7 @@ answer-same budget fates fates' shares shares' stands stands' a b c =
 pub evidence-judged : (H : List Entry) (o : Opening) → IsLegal H → Contains (openings H) o →
     judged (evidence_of H o) ≡ Ok (judged_answer H o)
 evidence-judged H o legal there =
-    let p : Progress = after_all (setup_of o) at_start (evidence_asks H o).runs in
+    let p : JudgeProgress = after_all (setup_of o) at_start (evidence_asks H o).runs in
     ap answer_of (evidence-asks H o legal there)
     ∙ ap Ok (answer-same (budget_text (setup_of o))
     (fates_text (setup_of o) at_start (numbered 1 (evidence_runs H o))) (fate_lines 1 (evidence_fates H o))

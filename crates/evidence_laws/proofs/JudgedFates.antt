@@ -4,8 +4,8 @@ use Rattle.std.specs.List.{cons_option}
 use Rattle.std.specs.Option.{option_and_then, option_map}
 use Rattle.std.proofs.lemmas.List.{map-append}
 use Rattle.judge.specs.Answer.{fate_text, fates_text}
-use Rattle.judge.specs.Fates.{Progress, after, at_start, fate}
-use Rattle.judge.specs.declared.fate.Fate.{Fate as JudgeFate}
+use Rattle.judge.specs.Fates.{JudgeProgress, after, at_start, fate}
+use Rattle.judge.specs.declared.fate.JudgeFate.{JudgeFate}
 use Rattle.weight_exact.specs.Weights.{Setup}
 use Rattle.weight_exact.specs.declared.run.Run.{Run}
 use Rattle.farm_entry.specs.Decision.{fate_at, fate_of, is_past_budget, run_with}
@@ -133,7 +133,7 @@ abbrev judge_lines : ℕ → List JudgeFate → List ℕ
 judge_lines number [] = []
 judge_lines number (f ∷ fates) = fate_text number f ++ judge_lines (number + 1) fates
 
-text-lines : (s : Setup) (p : Progress) (k : ℕ) (rs : List Run) →
+text-lines : (s : Setup) (p : JudgeProgress) (k : ℕ) (rs : List Run) →
     fates_text s p (numbered k rs) ≡ judge_lines k (fates_by s p (numbered k rs))
 text-lines s p k [] = refl
 text-lines s p k (r ∷ rs) =

@@ -2,11 +2,11 @@
 use Rattle.std.proofs.Common.{◌≡◌, ◌+◌, ◌<◌, ◌==◌, ℕ, suc, Bool, true, false, not, ◌&&◌, List, ◌∷◌, ◌++◌, length, nat_le, nat_lt, cond, if◌then◌else◌, Option, Some, None, refl, ap, ◌∙◌, arith, length-append, [], ◌||◌}
 use Rattle.std.specs.Option.{is_none}
 use Rattle.std.proofs.lemmas.Bool.Decides.{nat_tests}
-use Rattle.judge.specs.Fates.{Progress, fate, after, after_all, after_fate, at_start, is_searching, standing, standing_by}
-use Rattle.judge.specs.declared.fate.Fate.{Fate}
-use Rattle.judge.specs.declared.fate.Fate.TheVariants.{Counted, Late, Over, Repeat}
+use Rattle.judge.specs.Fates.{JudgeProgress, fate, after, after_all, after_fate, at_start, is_searching, standing, standing_by}
+use Rattle.judge.specs.declared.fate.JudgeFate.{JudgeFate}
+use Rattle.judge.specs.declared.fate.JudgeFate.TheVariants.{Counted, Late, Over, Repeat}
 use Rattle.judge.specs.declared.run_line.RunLine.{RunLine}
-use Rattle.judge.specs.declared.standing.Standing.TheVariants.{Inconclusive, Named, NoCulprit}
+use Rattle.judge.specs.declared.standing.JudgeStanding.TheVariants.{Inconclusive, Named, NoCulprit}
 use Rattle.weight_exact.specs.Budget.{run_budget}
 use Rattle.weight_exact.specs.Load.{load}
 use Rattle.weight_exact.specs.Share.{reached}
@@ -15,12 +15,12 @@ use Rattle.weight_exact.specs.declared.run.Run.{Run}
 use Rattle.evidence_laws.specs.Judgements.{numbered, with_number}
 
 -- how far judge comes with these runs, numbered from 1
-abbrev pub progress_of : Setup → List Run → Progress
+abbrev pub progress_of : Setup → List Run → JudgeProgress
 progress_of s told = after_all s at_start (numbered 1 told)
 
 -- One more run.
 
-after_all-append : (s : Setup) (p : Progress) (xs ys : List RunLine) →
+after_all-append : (s : Setup) (p : JudgeProgress) (xs ys : List RunLine) →
     after_all s p (xs ++ ys) ≡ after_all s (after_all s p xs) ys
 after_all-append s p [] ys = refl
 after_all-append s p (x ∷ xs) ys = after_all-append s (after s p x) xs ys
@@ -44,7 +44,7 @@ abbrev pub counted_with : (goes past : Bool) → List Run → Run → List Run
 counted_with goes past counted r = if goes && not past then counted ++ r ∷ [] else counted
 
 -- what a line that is no repeat changes
-record IsAfter (goes past : Bool) (p : Progress) (line : RunLine) (new : Progress) : Type 0 where
+record IsAfter (goes past : Bool) (p : JudgeProgress) (line : RunLine) (new : JudgeProgress) : Type 0 where
   counted : new.counted ≡ counted_with goes past p.counted line.run
   over : new.over ≡ (p.over || (goes && past))
   greatest : new.greatest ≡ line.number
@@ -57,7 +57,7 @@ or-one : (b : Bool) → true ≡ (b || true)
 or-one true = refl
 or-one false = refl
 
-after_by : (seen goes past : Bool) (p : Progress) (line : RunLine) → seen ≡ false →
+after_by : (seen goes past : Bool) (p : JudgeProgress) (line : RunLine) → seen ≡ false →
     IsAfter goes past p line (after_fate (cond seen Repeat (cond (not goes) Late (cond past Over Counted))) p line)
 after_by true goes past p line new = absurd cc
 after_by false false past p line new = record { counted = refl; over = or-none p.over; greatest = refl }
@@ -89,7 +89,7 @@ goes_on s runs over = not over && is_none (reached s runs)
 abbrev pub is_past : Setup → List Run → Run → Bool
 is_past s runs r = nat_lt (run_budget s) (load s.factors (runs ++ r ∷ []))
 
-after-fresh : (s : Setup) (p : Progress) (line : RunLine) → p.greatest < line.number →
+after-fresh : (s : Setup) (p : JudgeProgress) (line : RunLine) → p.greatest < line.number →
     IsAfter (is_searching (standing s p)) (is_past s p.counted line.run) p line (after s p line)
 after-fresh s p line above =
     after_by (nat_le line.number p.greatest) (is_searching (standing s p)) (is_past s p.counted line.run) p line
@@ -116,18 +116,18 @@ come-more s told runs went r come =
     standing-goes (hypotheses s) p.over (reached s p.counted)
     ∙ (λ i. goes_on s (come.counted i) (come.over i)) in
     record {
-      counted = ap (λ (q : Progress). q.counted) (progress-more s told r) ∙ done.counted
+      counted = ap (λ (q : JudgeProgress). q.counted) (progress-more s told r) ∙ done.counted
           ∙ (λ i. counted_with (goes i) (is_past s (come.counted i) r) (come.counted i) r);
-      over = ap (λ (q : Progress). q.over) (progress-more s told r) ∙ done.over
+      over = ap (λ (q : JudgeProgress). q.over) (progress-more s told r) ∙ done.over
           ∙ (λ i. come.over i || (goes i && is_past s (come.counted i) r));
-      greatest = ap (λ (q : Progress). q.greatest) (progress-more s told r) ∙ done.greatest
+      greatest = ap (λ (q : JudgeProgress). q.greatest) (progress-more s told r) ∙ done.greatest
           ∙ omega (arith, length-append told (r ∷ []));
     }
 
 -- The fate of one run more.
 
 -- by whether the search goes on, and whether the run takes it past its budget
-abbrev pub fate_by : (goes past : Bool) → Fate
+abbrev pub fate_by : (goes past : Bool) → JudgeFate
 fate_by goes past = if not goes then Late else (if past then Over else Counted)
 
 pub come-fate : (s : Setup) (told runs : List Run) (went : Bool) (r : Run) → HasCome s told runs went →
@@ -143,15 +143,15 @@ come-fate s told runs went r come =
     (λ i. if new i then Repeat else fate_by (goes i) (is_past s (come.counted i) r))
 
 -- what judge says of each run line
-abbrev pub fates_by : Setup → Progress → List RunLine → List Fate
+abbrev pub fates_by : Setup → JudgeProgress → List RunLine → List JudgeFate
 fates_by s p [] = []
 fates_by s p (line ∷ lines) = fate s p line ∷ fates_by s (after s p line) lines
 
-fates_by-append : (s : Setup) (p : Progress) (lines : List RunLine) (line : RunLine) →
+fates_by-append : (s : Setup) (p : JudgeProgress) (lines : List RunLine) (line : RunLine) →
     fates_by s p (lines ++ line ∷ []) ≡ fates_by s p lines ++ fate s (after_all s p lines) line ∷ []
 fates_by-append s p [] line = refl
 fates_by-append s p (x ∷ lines) line =
-    ap (λ (fates : List Fate). fate s p x ∷ fates) (fates_by-append s (after s p x) lines line)
+    ap (λ (fates : List JudgeFate). fate s p x ∷ fates) (fates_by-append s (after s p x) lines line)
 
 pub fates-more : (s : Setup) (told : List Run) (r : Run) →
     fates_by s at_start (numbered 1 (told ++ r ∷ []))

@@ -6,11 +6,11 @@ use Rattle.std.specs.Option.{option_and_then, option_map}
 use Rattle.judge.specs.Answer.{fate_text, line_feed, standing_text}
 use Rattle.judge.specs.Fates.{standing_by}
 use Rattle.judge.specs.Form.{Inquiry}
-use Rattle.judge.specs.declared.fate.Fate.{Fate as JudgeFate}
-use Rattle.judge.specs.declared.fate.Fate.TheVariants as judge
+use Rattle.judge.specs.declared.fate.JudgeFate.{JudgeFate}
+use Rattle.judge.specs.declared.fate.JudgeFate.TheVariants as judge
 use Rattle.judge.specs.declared.run_line.RunLine.{RunLine}
-use Rattle.judge.specs.declared.standing.Standing.{Standing}
-use Rattle.judge.specs.declared.standing.Standing.TheVariants.{Inconclusive}
+use Rattle.judge.specs.declared.standing.JudgeStanding.{JudgeStanding}
+use Rattle.judge.specs.declared.standing.JudgeStanding.TheVariants.{Inconclusive}
 use Rattle.weight_exact.specs.Weights.{hypotheses}
 use Rattle.weight_exact.specs.declared.run.Run.{Run}
 use Rattle.farm_entry.specs.History.{report_in, went_over}
@@ -39,7 +39,7 @@ evidence_asks H o = record { setup = setup_of o; runs = numbered 1 (evidence_run
 
 -- where judge leaves a search: inconclusive where a report went over its budget, and else by the hypothesis at the bar,
 -- whatever a cancellation, skips and reruns made of it in the farm
-abbrev pub judged_standing : List Entry → Opening → Standing
+abbrev pub judged_standing : List Entry → Opening → JudgeStanding
 judged_standing H o = if went_over H o.search then Inconclusive else standing_by (hypotheses (setup_of o)) (at_bar H o)
 
 -- the fate that the farm gave to the report of an entry, where the entry adds a run to the evidence of a search

@@ -15,7 +15,7 @@ ghost use Rattle.judge.specs.Answer.{judged};
 ghost use Rattle.judge.specs.Fates.{after_all, at_start, standing as judge_standing};
 ghost use Rattle.judge.specs.Form.{inquiry};
 ghost use Rattle.judge.specs.Text.{lines};
-ghost use Rattle.judge.specs.declared.standing.Standing.TheVariants as judge;
+ghost use Rattle.judge.specs.declared.standing.JudgeStanding.TheVariants as judge;
 ghost use Rattle.search_evidence.specs.Evidence.{evidence_of, evidence_text};
 ghost use Rattle.search_evidence.specs.Written.{evidence_runs, is_evidence};
 

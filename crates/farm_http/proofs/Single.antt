@@ -3,7 +3,7 @@ use Rattle.std.proofs.Common.{ℕ, ◌≡◌, ◌≢◌, ◌≤◌, ◌<◌, ◌
 use Rattle.std.specs.Io.KnownBytes.{append_known}
 use Rattle.connection_laws.specs.Answers.{Response, interim_of, no_memory, response_of, response_to}
 use Rattle.connection_laws.specs.Kinds.{commands, kind_by, kind_of}
-use Rattle.connection_laws.specs.Outcomes.{Outcome, Step, counted, faulted, misread, unread}
+use Rattle.connection_laws.specs.Outcomes.{ItemOutcome, Step, counted, faulted, misread, unread}
 use Rattle.connection_laws.specs.Progress.{Progress, IsWithin, progress_past, recorded_place}
 use Rattle.connection_laws.specs.Steps.{IsStep}
 use Rattle.connection_laws.specs.declared.served.ServeFault.{ServeFault}
@@ -76,7 +76,7 @@ pub within-own : (c : Progress) (pass : Known) (read : List Entry) → IsWithin 
 within-own c pass read w = record { seen = w.seen; totals = IsPrefix-refl c.totals; faults = w.faults }
 
 -- a step that changes nothing of what the pass knows
-record IsStill (c : Progress) (o : Outcome) (read : List Entry) : Type 0 where
+record IsStill (c : Progress) (o : ItemOutcome) (read : List Entry) : Type 0 where
   seen : (progress_past c o).seen ≡ c.seen
   faults : (progress_past c o).faults ≡ c.faults
   none : recorded_place o ≡ []

@@ -8,7 +8,7 @@ ghost use Rattle.farm_http.specs.Faults.{OnPutFault};
 
 use crate::fault_answers::unput;
 use connection_laws::ServeFault;
-use http_answers::{Answer, memory_text, put_answer};
+use http_answers::{HttpAnswer, memory_text, put_answer};
 use http_requests::Request;
 use http_words::{Allow, StatusCode};
 use link_io::{Gathered, PutFault, Sink, put_all};
@@ -60,7 +60,7 @@ pub(crate) fn put_said<K: Sink>(
     ensures rises { IsErrOf result PutFault.Failed → Rose (K.count output.old) (K.count output.new) }
     ensures never_falls { K.count output.old ≤ K.count output.new }
 {
-    let answer = Answer {
+    let answer = HttpAnswer {
         status: says.status,
         allow: says.allow,
         closes: request.closes,

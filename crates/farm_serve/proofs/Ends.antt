@@ -35,7 +35,7 @@ use Rattle.farm_serve.specs.ServeEnds.{FarmServed, LinksServed, ServeCompletes, 
 use Rattle.farm_serve.specs.Serving.{AreServed, ComesTo, store_mark}
 use Rattle.farm_serve.specs.declared.ending.Ending.{Ending}
 use Rattle.farm_serve.specs.declared.ending.Ending.TheVariants.{Done, NetFault, WriteFault, Memory, NotOpened}
-use Rattle.farm_serve.specs.declared.standing.Standing.{Standing}
+use Rattle.farm_serve.specs.declared.standing.ServeState.{ServeState}
 
 abbrev Line : Type 0
 Line = Result (Unit {0}) PutFault
@@ -91,7 +91,7 @@ farm_ends false failed (Err put.Failed) links clock old new h = h
 farm_ends false failed (Err put.Memory) links clock old new h = h
 
 links_served : (start final : Mark) (clock : Moment → Type 0)
-    (said : List Note → Saying) (links : ℕ) (s : Standing) (line : Line)
+    (said : List Note → Saying) (links : ℕ) (s : ServeState) (line : Line)
     (before : List NetworkEvent) (now : Option (List NetworkEvent))
     → AreServed start final clock said links s before now
     → LinksServed start final clock said links (ending_of s line) before now
@@ -120,7 +120,7 @@ pub record AreCrashes (first last pending : List Entry) (old new : DiskSeen) : T
   pub by_turns : old.tells ≡ true → WentByTurns (mark_at first old) (mark_at last new) pending old.told new.told
 
 -- a farm was served from a first history to a last one
-pub ends : (first last pending : List Entry) (links : ℕ) (clock : Moment → Type 0) (s : Standing) (ending : Ending)
+pub ends : (first last pending : List Entry) (links : ℕ) (clock : Moment → Type 0) (s : ServeState) (ending : Ending)
     (old new : Outside) → (old.disk.tells ≡ true → StandsFor first old.disk.told.bytes) → IsLegal first → IsLegal last
     → (old.disk.tells ≡ true → IsStored last pending new.disk.told) → AreCrashes first last pending old.disk new.disk
     → ComesTo (mark_at first old.disk) (mark_at last new.disk) clock
@@ -198,7 +198,7 @@ crashes {D} meant old store given opened came =
 
 -- The same over a store that was opened on a disk and given back: `back` is the disk that the service gives back.
 pub opened-ends : {D : Type 0} (meant : disk.Ghosts D) (clock : Moment → Type 0) (links : ℕ) (old back : D) (before : ℕ)
-    (store given : StoreState D) (s : Standing) (ending : Ending) (net net_after : NetworkSeen)
+    (store given : StoreState D) (s : ServeState) (ending : Ending) (net net_after : NetworkSeen)
     (out out_after : OutputSeen)
     → before ≡ meant.count old → WasOpened meant store old
     → ComesTo (mark_with store.history before) (store_mark meant.count given) clock

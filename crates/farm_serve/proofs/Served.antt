@@ -17,7 +17,7 @@ use Rattle.farm_serve.specs.Gained.{accepts_of, last_ended}
 use Rattle.farm_serve.specs.Outside.{network_seen}
 use Rattle.farm_serve.specs.Serving.{IsGained, AreServed, ComesTo}
 use Rattle.farm_serve.specs.Standings.{IsClosed}
-use Rattle.farm_serve.specs.declared.standing.Standing.{Standing}
+use Rattle.farm_serve.specs.declared.standing.ServeState.{ServeState}
 
 accepts_made : (made left links : ℕ) (last : Bool) → made + left ≡ links → (left ≡ 0) ⊎ (last ≡ true)
     → (made ≡ links) ⊎ ((made < links) × (last ≡ true))
@@ -26,12 +26,12 @@ accepts_made made (suc left) links last e (inl none) = absurd (omega arith)
 accepts_made made (suc left) links last e (inr ended) = inr (omega arith, ended)
 
 -- where memory never ran out, all accepts were made
-closed_by : (s : Standing) → IsClosed s ⊎ (s.short ≡ true) → s.short ≡ false → IsClosed s
+closed_by : (s : ServeState) → IsClosed s ⊎ (s.short ≡ true) → s.short ≡ false → IsClosed s
 closed_by s (inl closed) fine = closed
 closed_by s (inr want) fine = absurd (cc (want, fine))
 
 served_at : (a : AtEntry) (clock other : Moment → Type 0)
-    (said in_words : List Note → Saying) (seen final : Mark) (owned : Owned) (lending : Lending) (s : Standing)
+    (said in_words : List Note → Saying) (seen final : Mark) (owned : Owned) (lending : Lending) (s : ServeState)
     (now : Option (List NetworkEvent))
     → IsClosed s ⊎ (s.short ≡ true) → Follows seen final → ((at : Moment) → clock at → other at)
     → IsSaidBy final said in_words → ArePlaces 0 (length final.seen) owned.places
@@ -60,7 +60,7 @@ served_at a clock other said in_words seen final owned lending s now over follow
 
 -- what serving came to, by what there was at entry
 pub comes : (a e : AtEntry) (clock other : Moment → Type 0)
-    (said in_words : List Note → Saying) (seen final : Mark) (owned : Owned) (lending : Lending) (s : Standing)
+    (said in_words : List Note → Saying) (seen final : Mark) (owned : Owned) (lending : Lending) (s : ServeState)
     (now : Option (List NetworkEvent)) (count : ℕ) → a ≡ e → IsClosed s ⊎ (s.short ≡ true) → Follows (start_of a) seen
     → Follows seen final → ((at : Moment) → clock at → other at) → IsSaidBy final said in_words
     → ArePlaces 0 (length final.seen) owned.places → AreAllOwned owned (length a.first) final.seen
@@ -99,11 +99,12 @@ no_accept start final clock said links (Some before) follows same = record {
 -- no accept was made, as memory ran out
 pub comes_to_none : (start final : Mark) (clock : Moment → Type 0)
     (said : List Note → Saying) (links : ℕ) (told : Option (List NetworkEvent))
-    (count : ℕ) (s : Standing) → s ≡ stands links false false true → Follows start final
+    (count : ℕ) (s : ServeState) → s ≡ stands links false false true → Follows start final
     → length final.seen ≤ length start.seen
     → ComesTo start final clock said links s (network_seen told count) (network_seen told count)
 comes_to_none start final clock said links told count s is follows same =
-    subst (λ (x : Standing). ComesTo start final clock said links x (network_seen told count) (network_seen told count))
+    subst (λ (x : ServeState). ComesTo start final clock said links x (network_seen told count)
+    (network_seen told count))
     (sym is)
     record {
       follows = follows;

@@ -33,7 +33,7 @@ use Rattle.farm_serve.specs.Gained.{AreAccepts, AreHeldBack, links_of, returns_o
 use Rattle.farm_serve.specs.Links.{IsHeldBack, IsServedLink, loan_of, mark_lent}
 use Rattle.farm_serve.specs.Serving.{IsGainedBy, IsServing, owned_by}
 use Rattle.farm_serve.specs.Standings.{noted}
-use Rattle.farm_serve.specs.declared.standing.Standing.{Standing}
+use Rattle.farm_serve.specs.declared.standing.ServeState.{ServeState}
 
 -- what is known by some rows is known by more
 pub noted-rows : (later : Mark) (old new : Known) → AreAmong old.rows new.rows
@@ -168,10 +168,11 @@ told_more : (event : NetworkEvent) (gained before : List NetworkEvent) (now new 
     → now ≡ Some (gained ++ before) → new ≡ add_told event now → new ≡ Some ((event ∷ gained) ++ before)
 told_more event gained before now new is more = more ∙ ap (λ (o : Option (List NetworkEvent)). add_told event o) is
 
-abbrev pub stands : ℕ → Bool → Bool → Bool → Standing
+abbrev pub stands : ℕ → Bool → Bool → Bool → ServeState
 stands left ended failed short = record { left = left; ended = ended; failed = failed; short = short }
 
-module _ (a : AtEntry) (clock : Moment → Type 0) (pass : Known) (read : List Entry) (out : ℕ) (s : Standing) (left : ℕ)
+module _ (a : AtEntry) (clock : Moment → Type 0) (pass : Known) (read : List Entry) (out : ℕ) (s : ServeState)
+    (left : ℕ)
     (now new : Option (List NetworkEvent)) (count after : ℕ) (less : left + 1 ≡ s.left) (never : count ≤ after)
     (h : IsServing a clock pass read out s now count) where
   gained_link : (held : Known) → IsLentFrom pass held read → (before : List NetworkEvent) → s.ended ≡ false
@@ -277,7 +278,7 @@ module _ (a : AtEntry) (clock : Moment → Type 0) (pass : Known) (read : List E
 
 -- the held pass has seen more
 pub serving_longer : (a : AtEntry) (clock : Moment → Type 0) (old held : Known) (read : List Entry)
-    (out : ℕ) (s : Standing) (now : Option (List NetworkEvent)) (count : ℕ) → IsReady a.lock held
+    (out : ℕ) (s : ServeState) (now : Option (List NetworkEvent)) (count : ℕ) → IsReady a.lock held
     → Follows (mark_of old read) (mark_of held read) → AreAmong old.rows held.rows
     → held.mine ≡ old.mine → held.stake ≡ old.stake
     → IsServing a clock old read out s now count → IsServing a clock held read out s now count
@@ -309,7 +310,8 @@ serving_longer a clock old held read out s now count ready more rows places same
 }
 
 -- memory ran out
-pub serving_short : (a : AtEntry) (clock : Moment → Type 0) (pass : Known) (read : List Entry) (out : ℕ) (s : Standing)
+pub serving_short : (a : AtEntry) (clock : Moment → Type 0) (pass : Known) (read : List Entry) (out : ℕ)
+    (s : ServeState)
     (now : Option (List NetworkEvent)) (count : ℕ) → IsServing a clock pass read out s now count
     → IsServing a clock pass read out (stands s.left s.ended s.failed true) now count
 serving_short a clock pass read out s now count h = record {
@@ -341,7 +343,7 @@ serving_short a clock pass read out s now count h = record {
 
 -- what is held of a link that was served is what is held of one taken back
 held_back : (served : Result Served ServeFault) (start final later : Mark) (clock : Moment → Type 0)
-    (said in_words : List Note → Saying) (s : Standing) (owned : Owned) (link : LinkState)
+    (said in_words : List Note → Saying) (s : ServeState) (owned : Owned) (link : LinkState)
     → Follows final later → IsSaidBy later said in_words → IsServedLink start final clock said owned link served
     → IsHeldBack start later clock in_words (noted served s).short owned link
 held_back (Ok done) start final later clock said in_words s owned link more by h =
@@ -353,25 +355,25 @@ held_back (Err WriteFault) start final later clock said in_words s owned link mo
 held_back (Err Memory) start final later clock said in_words s owned link more by h =
     inr (IsHeldOf-longer start final later clock clock said in_words owned link false more (λ at m. m) by h, inl refl)
 
-stays_short : (served : Result Served ServeFault) (s : Standing) → s.short ≡ true → (noted served s).short ≡ true
+stays_short : (served : Result Served ServeFault) (s : ServeState) → s.short ≡ true → (noted served s).short ≡ true
 stays_short (Ok done) s is = is
 stays_short (Err ReadFault) s is = is
 stays_short (Err WriteFault) s is = is
 stays_short (Err Memory) s is = refl
 
 -- how a link was served says nothing of the accepts
-pub record SameAccepts (old new : Standing) : Type 0 where
+pub record SameAccepts (old new : ServeState) : Type 0 where
   pub left : new.left ≡ old.left
   pub ended : new.ended ≡ old.ended
   pub failed : new.failed ≡ old.failed
 
-pub same_accepts : (served : Result Served ServeFault) (s : Standing) → SameAccepts s (noted served s)
+pub same_accepts : (served : Result Served ServeFault) (s : ServeState) → SameAccepts s (noted served s)
 same_accepts (Ok done) s = record { left = refl; ended = refl; failed = refl }
 same_accepts (Err ReadFault) s = record { left = refl; ended = refl; failed = refl }
 same_accepts (Err WriteFault) s = record { left = refl; ended = refl; failed = refl }
 same_accepts (Err Memory) s = record { left = refl; ended = refl; failed = refl }
 
-module _ (a : AtEntry) (clock : Moment → Type 0) (served : Result Served ServeFault) (s : Standing)
+module _ (a : AtEntry) (clock : Moment → Type 0) (served : Result Served ServeFault) (s : ServeState)
     (old mine held : Known) (was seen read : List Entry)
     (out left_out : ℕ) (now new : Option (List NetworkEvent)) (count after : ℕ) (link : LinkState)
     (never : count ≤ after) (less : left_out + 1 ≡ out)

@@ -5,7 +5,7 @@ use Rattle.link_io.specs.declared.sink.PutFault.{PutFault}
 use Rattle.link_io.specs.declared.sink.PutFault.TheVariants as put
 use Rattle.farm_serve.specs.declared.ending.Ending.{Ending}
 use Rattle.farm_serve.specs.declared.ending.Ending.TheVariants.{Done, NetFault, WriteFault, Memory, NotOpened}
-use Rattle.farm_serve.specs.declared.standing.Standing.{Standing}
+use Rattle.farm_serve.specs.declared.standing.ServeState.{ServeState}
 
 -- memory ran out
 abbrev pub is_memory : Ending → Bool
@@ -26,7 +26,7 @@ ending_by_line failed (Err put.Failed) = WriteFault
 ending_by_line failed (Err put.Memory) = Memory
 
 -- how it ends, by how the serving stands and what became of the last line: the first that fits
-abbrev pub ending_of : Standing → Result (Unit {0}) PutFault → Ending
+abbrev pub ending_of : ServeState → Result (Unit {0}) PutFault → Ending
 ending_of s line = if s.short then Memory else ending_by_line s.failed line
 
 -- whether an accept failed is as the ending says

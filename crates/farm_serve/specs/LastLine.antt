@@ -13,7 +13,7 @@ use Rattle.link_io.specs.declared.sink.PutFault.TheVariants as put
 use Rattle.farm_serve.specs.Ending.{ending_of}
 use Rattle.farm_serve.specs.Outside.{OutputSeen}
 use Rattle.farm_serve.specs.declared.ending.Ending.{Ending}
-use Rattle.farm_serve.specs.declared.standing.Standing.{Standing}
+use Rattle.farm_serve.specs.declared.standing.ServeState.{ServeState}
 use Rattle.farm_serve.specs.declared.ending.Ending.TheVariants.{Done, NetFault, WriteFault, Memory, NotOpened}
 
 -- the reply line of a farm's page
@@ -53,7 +53,7 @@ LinePut text Memory before after = IsPartPut text before after
 LinePut text (NotOpened fault) before after = ⊥
 
 -- what became of the text, and how the service ended by that and by how the serving stood
-pub record EndSays (s : Standing) (text : List ℕ) (ending : Ending) (before after : OutputSeen) : Type 0 where
+pub record EndSays (s : ServeState) (text : List ℕ) (ending : Ending) (before after : OutputSeen) : Type 0 where
   pub line : Result (Unit {0}) PutFault
   pub says : LineSays text line before after
   pub is : ending ≡ ending_of s line

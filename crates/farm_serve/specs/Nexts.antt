@@ -7,9 +7,9 @@ use Rattle.list_prefix.specs.Prefix.{IsPrefix}
 use Rattle.turn_lock.specs.Known.{Known, IsReady, borrowed}
 use Rattle.farm_serve.specs.Entries.{AtEntry}
 use Rattle.farm_serve.specs.Standings.{IsClosed}
-use Rattle.farm_serve.specs.declared.standing.Next.{Next}
-use Rattle.farm_serve.specs.declared.standing.Next.TheVariants as next
-use Rattle.farm_serve.specs.declared.standing.Standing.{Standing}
+use Rattle.farm_serve.specs.declared.standing.NextLink.{NextLink}
+use Rattle.farm_serve.specs.declared.standing.NextLink.TheVariants as next
+use Rattle.farm_serve.specs.declared.standing.ServeState.{ServeState}
 
 -- a pass is of the farm, and has seen a history that begins with the one at entry, and a count of faults no less
 pub record IsPassOf (a : AtEntry) (pass : Known) : Type 0 where
@@ -35,7 +35,7 @@ pub record IsFresh (a : AtEntry) (link : LinkState) : Type 0 where
   pub idle : IfSome a.told (λ _. link ≡ fresh_link)
 
 -- an accept was made, and its link counts in the share; or it gave none; or no accept is to be made
-abbrev pub NextSays : {L : Type 0} → (L → LinkState) → AtEntry → (s s' : Standing) → (m m' : ℕ) → Next L → Type 0
+abbrev pub NextSays : {L : Type 0} → (L → LinkState) → AtEntry → (s s' : ServeState) → (m m' : ℕ) → NextLink L → Type 0
 NextSays state a s s' m m' (next.Link link pass) =
     (s'.left + 1 ≡ s.left) × (m' ≡ m + 1) × IsPassOf a pass × IsNew pass × IsFresh a (state link)
 NextSays state a s s' m m' next.Nothing = (s'.left + 1 ≡ s.left) × (m' ≡ m)

@@ -18,7 +18,7 @@ use Rattle.turn_lock.specs.declared.view.Loan.{Loan}
 use Rattle.farm_serve.specs.Entries.{AtEntry, start_of}
 use Rattle.farm_serve.specs.Gained.{accepts_of, links_of, returns_of, last_ended, has_failed, AreAccepts, AreHeldBack}
 use Rattle.farm_serve.specs.Outside.{NetworkSeen}
-use Rattle.farm_serve.specs.declared.standing.Standing.{Standing}
+use Rattle.farm_serve.specs.declared.standing.ServeState.{ServeState}
 
 -- what is seen of a farm by its store
 abbrev pub store_mark : {D : Type 0} → (D → ℕ) → StoreState D → Mark
@@ -29,7 +29,7 @@ store_mark count store = mark_with store.history (count store.disk)
 -- taken back is held for what was lent to it and what was seen since, with this said of its answers by the notes that
 -- it took; these entries are theirs, and these loans are those of the links that are out.
 pub record IsGained (a : AtEntry) (clock : Moment → Type 0) (said : List Note → Saying) (seen : Mark) (owned : Owned)
-    (lending : Lending) (out : ℕ) (s : Standing) (before : List NetworkEvent) (now : Option (List NetworkEvent))
+    (lending : Lending) (out : ℕ) (s : ServeState) (before : List NetworkEvent) (now : Option (List NetworkEvent))
     : Type 0 where
   pub gained : List NetworkEvent
   pub is : now ≡ Some (gained ++ before)
@@ -48,7 +48,7 @@ abbrev pub owned_by : Known → Owned
 owned_by pass = record { places = pass.mine; undecided = drop 2 pass.stake.undecided }
 
 -- that by a pass that was joined with theirs, and by what readers have seen together
-abbrev pub IsGainedBy : AtEntry → (Moment → Type 0) → Known → (read : List Entry) → (out : ℕ) → Standing
+abbrev pub IsGainedBy : AtEntry → (Moment → Type 0) → Known → (read : List Entry) → (out : ℕ) → ServeState
     → List NetworkEvent → Option (List NetworkEvent) → Type 0
 IsGainedBy a clock pass read out s before now =
     IsGained a clock (noted_by pass) (mark_of pass read) (owned_by pass) pass.stake.lending out s before now
@@ -64,7 +64,8 @@ pub record IsStaked (a : AtEntry) (pass : Known) (out left : ℕ) : Type 0 where
 
 -- what the value in the lock keeps: its pass, what readers have seen together, how many links are out, the standing,
 -- and what the network told and its count
-pub record IsServing (a : AtEntry) (clock : Moment → Type 0) (pass : Known) (read : List Entry) (out : ℕ) (s : Standing)
+pub record IsServing (a : AtEntry) (clock : Moment → Type 0) (pass : Known) (read : List Entry) (out : ℕ)
+    (s : ServeState)
     (now : Option (List NetworkEvent)) (count : ℕ) : Type 0 where
   pub ready : IsReady a.lock pass
   pub begins : Follows (start_of a) (mark_of pass read)
@@ -78,7 +79,7 @@ pub record IsServing (a : AtEntry) (clock : Moment → Type 0) (pass : Known) (r
 -- its answers by the notes that it took; the standing says whether an accept failed; and each entry behind the history
 -- of the first mark is one of these links'.
 pub record AreServed (start final : Mark) (clock : Moment → Type 0)
-    (said : List Note → Saying) (links : ℕ) (s : Standing)
+    (said : List Note → Saying) (links : ℕ) (s : ServeState)
     (before : List NetworkEvent) (now : Option (List NetworkEvent)) : Type 0 where
   pub gained : List NetworkEvent
   pub is : now ≡ Some (gained ++ before)
@@ -93,7 +94,8 @@ pub record AreServed (start final : Mark) (clock : Moment → Type 0)
   pub faults : has_failed gained ≡ s.failed
 
 -- what serving came to, from the mark at entry to that at exit
-pub record ComesTo (start final : Mark) (clock : Moment → Type 0) (said : List Note → Saying) (links : ℕ) (s : Standing)
+pub record ComesTo (start final : Mark) (clock : Moment → Type 0) (said : List Note → Saying) (links : ℕ)
+    (s : ServeState)
     (old new : NetworkSeen) : Type 0 where
   pub follows : Follows start final
   pub served : IfSome old.told (λ before. AreServed start final clock said links s before new.told)

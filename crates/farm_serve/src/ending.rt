@@ -2,7 +2,7 @@
 ghost use Rattle.std.specs.Prelude.{◌≡◌};
 ghost use Rattle.farm_serve.specs.Ending.{ending_of};
 
-use crate::standing::Standing;
+use crate::standing::ServeState;
 use farm_store::OpeningFault;
 use link_io::PutFault;
 
@@ -24,7 +24,7 @@ pub enum Ending {
 impl Ending {
     /// How the service ends, by how the serving stands and by what became of the last line: the first that fits of
     /// running out of memory, a fault of the output, and an accept that failed.
-    pub fn of(standing: Standing, line: Result<(), PutFault>) -> Ending
+    pub fn of(standing: ServeState, line: Result<(), PutFault>) -> Ending
         ensures { result ≡ ending_of standing line }
     {
         if standing.short {

@@ -18,7 +18,7 @@ use crate::accepts::accept;
 use crate::early_reader::EarlyReader;
 use crate::link::serve_one;
 use crate::naming::Naming;
-use crate::standing::{Next, Standing};
+use crate::standing::{NextLink, ServeState};
 use farm_disk::DatedDisk;
 use farm_http::{Caller, Pages, ServeFault, Served, Service};
 use farm_types::Memory;
@@ -43,15 +43,15 @@ pub struct Gate<N: Network + Drop, B: Beginning, J: Naming> {
     read: TotalsMark<B>,
     out: Book<J>,
     readers: Vec<EarlyReader<B, J>>,
-    standing: Standing,
+    standing: ServeState,
 }
 
 impl<N: Network + Drop, B: Beginning, J: Naming> Model for Gate<N, B, J> {
     ghost use Rattle.std.specs.Prelude.{IsSome};
     ghost use Rattle.farm_serve.specs.Serving.{IsServing, IsStaked};
-    ghost use Rattle.farm_serve.specs.declared.standing.Standing.{Standing};
+    ghost use Rattle.farm_serve.specs.declared.standing.ServeState.{ServeState};
 
-    ghost Value = { Standing };
+    ghost Value = { ServeState };
 
     ghost view = { λ g. g.standing };
 
@@ -85,7 +85,7 @@ impl<N: Network + Drop, B: Beginning, J: Naming> Gate<N, B, J> {
             read,
             out,
             readers: Vec::new(alloc),
-            standing: Standing {
+            standing: ServeState {
                 left: links,
                 ended: false,
                 failed: false,
@@ -99,7 +99,7 @@ impl<N: Network + Drop, B: Beginning, J: Naming> Gate<N, B, J> {
         &mut self,
         farm: &SharedFarm<D, B>,
         mine: &mut Share<J>,
-    ) -> Next<N::End>
+    ) -> NextLink<N::End>
         requires farm { farm.now ≡ J.entry.lock }
         requires parts { 0 < mine.old.parts }
         ensures parts { mine.new.parts ≡ mine.old.parts }
@@ -107,22 +107,22 @@ impl<N: Network + Drop, B: Beginning, J: Naming> Gate<N, B, J> {
             mine.old.amount mine.new.amount result }
     {
         if self.standing.left == 0 || self.standing.ended {
-            return Next::Closed;
+            return NextLink::Closed;
         }
         self.standing.left -= 1;
         match accept(&mut self.network, self.standing.left == 0) {
             Accepted::Linked(link) => {
                 let pass = farm.split(&mut self.held);
                 self.out.add(mine, 1);
-                Next::Link(link, pass)
+                NextLink::Link(link, pass)
             }
             Accepted::End => {
                 self.standing.ended = true;
-                Next::Nothing
+                NextLink::Nothing
             }
             Accepted::Failed => {
                 self.standing.failed = true;
-                Next::Nothing
+                NextLink::Nothing
             }
         }
     }
@@ -228,7 +228,7 @@ impl<N: Network + Drop, B: Beginning, J: Naming> Gate<N, B, J> {
     }
 
     /// All links are back.
-    pub fn finish(self, all: Share<J>) -> (N, Pass, TotalsMark<B>, Standing)
+    pub fn finish(self, all: Share<J>) -> (N, Pass, TotalsMark<B>, ServeState)
         requires whole { all.parts ≡ J.parts }
         requires none { all.amount ≡ 0 }
         ensures standing { result.3 ≡ self }
@@ -293,9 +293,9 @@ pub fn serve_rest<
     };
     loop {
         match gate.next(farm, mine) {
-            Next::Closed => return,
-            Next::Nothing => {}
-            Next::Link(link, pass) => {
+            NextLink::Closed => return,
+            NextLink::Nothing => {}
+            NextLink::Link(link, pass) => {
                 let mut link = link;
                 let mut caller = Caller { pass, reader };
                 let served = serve_one::<D, B, N, C, J, R>(&service, &mut caller, &mut link);

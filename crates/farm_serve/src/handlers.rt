@@ -6,7 +6,7 @@ ghost use Rattle.farm_types.specs.declared.moment.Moment.{Moment};
 use crate::gate::Gate;
 use crate::link::serve_one;
 use crate::naming::Naming;
-use crate::standing::Next;
+use crate::standing::NextLink;
 use farm_disk::DatedDisk;
 use farm_http::{Caller, Service};
 use link_io::Clock;
@@ -167,9 +167,9 @@ fn handle<
     for _ in rt.forever() {
         let next = gate.lock(rt).next(farm, &mut share);
         match next {
-            Next::Closed => return share,
-            Next::Nothing => {}
-            Next::Link(link, pass) => {
+            NextLink::Closed => return share,
+            NextLink::Nothing => {}
+            NextLink::Link(link, pass) => {
                 let mut link = link;
                 let mut caller = Caller { pass, reader };
                 let served = serve_one::<D, B, N, C, J, R>(&service, &mut caller, &mut link);

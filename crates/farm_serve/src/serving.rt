@@ -18,7 +18,7 @@ use crate::gate::{Gate, serve_rest};
 use crate::handlers::run_all;
 use crate::last_line::put_farm_line;
 use crate::naming::Naming;
-use crate::standing::Standing;
+use crate::standing::ServeState;
 use farm_disk::{DatedDisk, Disk};
 use farm_store::Store;
 use link_io::{Clock, Sink};
@@ -106,7 +106,7 @@ where
 fn end<D: Disk, K: Sink>(
     alloc: Global,
     store: &Store<D>,
-    standing: Standing,
+    standing: ServeState,
     output: &mut K,
 ) -> Ending
     ensures says { EndSays standing (farm_line store.now.history) result
@@ -124,7 +124,7 @@ fn serve_opened<
     N: Network<Over = D::Over> + Drop + Send,
     C: Clock + Sync,
     R: Threads + Wait + Eprint + Sync,
->(with: &Surroundings<R, C>, store: Store<D>, before: u64, network: N) -> (Store<D>, N, Standing)
+>(with: &Surroundings<R, C>, store: Store<D>, before: u64, network: N) -> (Store<D>, N, ServeState)
 where
     N::End: Send,
     requires before { before ≤ D.count store.disk }
@@ -138,7 +138,7 @@ where
 {
     match PostedStore::of(with.alloc, store) {
         Ok(posted) => serve_store::<D, Brand, N, C, R>(with, posted, before, network),
-        Err(store) => (store, network, Standing::without_memory(with.links)),
+        Err(store) => (store, network, ServeState::without_memory(with.links)),
     }
 }
 
@@ -155,7 +155,7 @@ fn serve_store<
     posted: PostedStore<D>,
     before: u64,
     network: N,
-) -> (Store<D>, N, Standing)
+) -> (Store<D>, N, ServeState)
 where
     N::End: Send,
     requires came { IfSome B.begun (λ begun. CameBy D.Disk begun posted.store) }
@@ -175,7 +175,7 @@ where
             let blank = Blank::new(u64::from(with.handlers));
             serve_farm::<D, B, N, C, Brand, R>(with, farm, pass, read, before, network, blank)
         }
-        Err(store) => (store, network, Standing::without_memory(with.links)),
+        Err(store) => (store, network, ServeState::without_memory(with.links)),
     }
 }
 
@@ -194,7 +194,7 @@ fn serve_farm<
     before: u64,
     network: N,
     blank: Blank,
-) -> (Store<D>, N, Standing)
+) -> (Store<D>, N, ServeState)
 where
     N::End: Send,
     requires name { blank.name ≡ J.name }

@@ -7,7 +7,7 @@ use shared_farm::Pass;
 
 /// How the serving stands.
 #[derive(Clone, Copy, Debug, PartialEq, Eq)]
-pub struct Standing {
+pub struct ServeState {
     /// How many accepts are left.
     pub left: u64,
     /// Whether the last accept answered that no more will come.
@@ -18,12 +18,12 @@ pub struct Standing {
     pub short: bool,
 }
 
-impl Standing {
+impl ServeState {
     /// Memory ran out before the first of so many accepts.
-    pub fn without_memory(left: u64) -> Standing
+    pub fn without_memory(left: u64) -> ServeState
         ensures { result ≡ record { left = left; ended = false; failed = false; short = true } }
     {
-        Standing {
+        ServeState {
             left,
             ended: false,
             failed: false,
@@ -42,7 +42,7 @@ impl Standing {
 }
 
 /// What comes next.
-pub enum Next<L> {
+pub enum NextLink<L> {
     /// A link, and a pass to serve it with.
     Link(L, Pass),
     /// An accept gave no link.

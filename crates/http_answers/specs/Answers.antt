@@ -4,7 +4,7 @@ use Rattle.http_words.specs.declared.fault.Allow.{Allow}
 use Rattle.http_words.specs.declared.fault.Allow.TheVariants as allow
 use Rattle.http_answers.specs.Lines.{line}
 use Rattle.http_answers.specs.Pieces.{parts_joined}
-use Rattle.http_answers.specs.declared.answer.Answer.{Answer}
+use Rattle.http_answers.specs.declared.answer.HttpAnswer.{HttpAnswer}
 use Rattle.http_words.specs.declared.status_code.StatusCode.{StatusCode}
 use Rattle.http_words.specs.declared.status_code.StatusCode.TheVariants as status
 
@@ -49,7 +49,7 @@ abbrev pub body_put : Bool → List ℕ → List ℕ
 body_put withheld body = if withheld then [] else body
 
 -- the bytes of an answer
-unfoldable pub answer_bytes : Answer → List ℕ
+unfoldable pub answer_bytes : HttpAnswer → List ℕ
 answer_bytes answer =
     parts_joined (status_line answer.status) (decimal (length answer.body.now)) (allow_line answer.allow) (close_line answer.closes) (body_put answer.withheld answer.body.now)
 

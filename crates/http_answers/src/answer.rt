@@ -13,7 +13,7 @@ use link_io::{PutFault, Sink, put_all};
 
 /// An answer to a request.
 #[derive(Clone, Copy, Debug)]
-pub struct Answer<'b> {
+pub struct HttpAnswer<'b> {
     pub status: StatusCode,
     /// The methods that the answer names, where another one was asked for.
     pub allow: Option<Allow>,
@@ -34,7 +34,7 @@ fn body_put<'b>(withheld: bool, body: &'b [u8]) -> &'b [u8]
 
 /// Puts an answer, and stops at the first put that moves nothing. What was put by then is a prefix of the answer.
 #[tactic(auto, unfolding(crate::specs::Answers::answer_bytes))]
-pub fn put_answer<K: Sink>(output: &mut K, answer: &Answer) -> Result<(), PutFault>
+pub fn put_answer<K: Sink>(output: &mut K, answer: &HttpAnswer) -> Result<(), PutFault>
     ensures done { OnOk result
         (K.written output.new ≡ append_known (K.written output.old) (answer_bytes answer.now)) }
     ensures stopped { OnErr result

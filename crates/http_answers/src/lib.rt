@@ -17,7 +17,7 @@ mod lines;
 mod pieces;
 mod status;
 
-pub use answer::{Answer, put_answer, put_interim};
+pub use answer::{HttpAnswer, put_answer, put_interim};
 pub use farm_status::{answer_status, refusal_status};
 pub use faults::{fault_allow, fault_status, fault_text, memory_text, store_fault_text};
 pub use status::status_line;

@@ -5,7 +5,7 @@ ghost use Rattle.fault_types.specs.Counts.{Rose};
 ghost use Rattle.http_exchange.specs.Responses.{ComesTo, HasJustCome};
 
 use crate::received::Received;
-use http_responses::{Progress, read_response};
+use http_responses::{ResponseProgress, read_response};
 use item_list::ItemList;
 use link_io::{PutFault, Source};
 use std::alloc::{AllocError, Global};
@@ -73,10 +73,10 @@ pub fn take_response<S: Source>(alloc: Global, link: &mut S) -> Result<Response,
     let mut received = Received::new(alloc);
     loop {
         match read_response(received.held()) {
-            Progress::Whole(found) => return received.response(alloc, found),
-            Progress::Interim(size) => received.pass_over(size),
-            Progress::Never => return Err(NoResponse::Broken),
-            Progress::More(size) => {
+            ResponseProgress::Whole(found) => return received.response(alloc, found),
+            ResponseProgress::Interim(size) => received.pass_over(size),
+            ResponseProgress::Never => return Err(NoResponse::Broken),
+            ResponseProgress::More(size) => {
                 if !received.take_until(link, size)? {
                     return Err(NoResponse::Broken);
                 }

@@ -17,8 +17,8 @@ use Rattle.http_responses.specs.Framing.{body_length, length_by}
 use Rattle.http_responses.specs.Reading.{IsBefore, IsUnfinished, Says, behind_final, progress_of}
 use Rattle.http_responses.specs.Whole.{HasHead, IsFinal, IsResponse, IsWhole, head_size, is_interim}
 use Rattle.http_words.specs.declared.limits.TheConstants.{MAX_FIELDS, MAX_HEAD_BYTES}
-use Rattle.http_responses.specs.declared.progress.Progress.{Progress}
-use Rattle.http_responses.specs.declared.progress.Progress.TheVariants.{Interim, More, Never, Whole}
+use Rattle.http_responses.specs.declared.progress.ResponseProgress.{ResponseProgress}
+use Rattle.http_responses.specs.declared.progress.ResponseProgress.TheVariants.{Interim, More, Never, Whole}
 use Rattle.http_responses.proofs.Heads.{HasHead-more, HasHead-same, first-head, front-more, head-some, head-within, take-short, whole-more}
 
 -- Bytes that begin with a head.
@@ -205,7 +205,7 @@ few-fields front spans count h room are =
 -- a head that the parser found
 pub says-found : (held front : List ℕ) (spans : List HeaderSpan) (r : ResponseSpans) → front ≡ take MAX_HEAD_BYTES held →
     length spans ≡ MAX_FIELDS → IsResponseOf front spans r → (fields : List HeaderSpan) → fields ≡ take r.headers spans →
-    (p : Progress) →
+    (p : ResponseProgress) →
     p ≡ progress_of r.code r.len (length_by (stated_length (map (header_bytes front) fields))) (length held) → Says held p
 says-found held front spans r front_is room found fields taken p p_is =
     let h = found.0 in
@@ -223,4 +223,4 @@ says-found held front spans r front_is room found fields taken p p_is =
     ap (λ (x : ℕ). progress_of x r.len (length_by (stated_length (map (header_bytes front) fields))) n) at.code
     ∙ ap (λ (x : ℕ). progress_of (status_code h) x (length_by (stated_length (map (header_bytes front) fields))) n) at.len
     ∙ ap (λ (x : List (List ℕ × List ℕ)). progress_of (status_code h) (head_size h) (length_by (stated_length x)) n) texts in
-    subst (λ (x : Progress). Says held x) (sym (p_is ∙ same)) (says-head held h has)
+    subst (λ (x : ResponseProgress). Says held x) (sym (p_is ∙ same)) (says-head held h has)

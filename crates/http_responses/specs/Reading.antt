@@ -5,8 +5,8 @@ use Rattle.http_responses.specs.Framing.{body_length}
 use Rattle.http_responses.specs.Whole.{HasHead, IsWhole, head_size, is_interim}
 use Rattle.http_responses.specs.declared.interim.TheConstants.{INTERIM_STATUS}
 use Rattle.http_words.specs.declared.limits.TheConstants.{MAX_HEAD_BYTES}
-use Rattle.http_responses.specs.declared.progress.Progress.{Progress}
-use Rattle.http_responses.specs.declared.progress.Progress.TheVariants.{Interim, More, Never, Whole}
+use Rattle.http_responses.specs.declared.progress.ResponseProgress.{ResponseProgress}
+use Rattle.http_responses.specs.declared.progress.ResponseProgress.TheVariants.{Interim, More, Never, Whole}
 
 -- the body behind a head isn't whole
 pub record IsCut (held : List ℕ) : Type 0 where
@@ -35,7 +35,7 @@ pub record IsBefore (held : List ℕ) (size : ℕ) : Type 0 where
   pub same : (more : List ℕ) (status : ℕ) (body : List ℕ) →
       IsWhole (held ++ more) status body ↔ IsWhole (drop size held ++ more) status body
 
-abbrev pub Says : List ℕ → Progress → Type 0
+abbrev pub Says : List ℕ → ResponseProgress → Type 0
 Says held (More size) = IsUnfinished held size
 Says held (Interim size) = IsBefore held size
 Says held (Whole r) =
@@ -44,11 +44,11 @@ Says held (Whole r) =
 Says held Never = (more : List ℕ) (status : ℕ) (body : List ℕ) → ¬ IsWhole (held ++ more) status body
 
 -- what stands behind a final head, by the length that it states
-abbrev pub behind_final : (status size : ℕ) → Option ℕ → (held : ℕ) → Progress
+abbrev pub behind_final : (status size : ℕ) → Option ℕ → (held : ℕ) → ResponseProgress
 behind_final status size None held = Never
 behind_final status size (Some len) held =
     if nat_lt (held - size) len then More (size + len) else Whole (record { status = status; body = size; end = size + len })
 
 -- what stands at the front of so many bytes that begin with a head of this status and size
-abbrev pub progress_of : (status size : ℕ) → Option ℕ → (held : ℕ) → Progress
+abbrev pub progress_of : (status size : ℕ) → Option ℕ → (held : ℕ) → ResponseProgress
 progress_of status size len held = if status == INTERIM_STATUS then Interim size else behind_final status size len held

@@ -4,7 +4,7 @@
 //! yet, or bytes that no further ones can make a response. A response is a head within the limits and a body of just
 //! the length that its one Content-Length states; other fields aren't looked at (`specs/Whole.antt`). The heads are
 //! read with `httparse`, by whose grammar the contracts speak, and hold for every continuation of the bytes. So a
-//! reader of a connection needs no more than [`Progress`] says.
+//! reader of a connection needs no more than [`ResponseProgress`] says.
 //!
 //! The crate stands on `httparse`, on `http_fields` for what fields say, and on `http_words` for the limits.
 #![tactic(auto)]
@@ -16,5 +16,5 @@ mod progress;
 mod reading;
 
 pub use interim::INTERIM_STATUS;
-pub use progress::{Progress, Response};
+pub use progress::{Response, ResponseProgress};
 pub use reading::read_response;

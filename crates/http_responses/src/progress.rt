@@ -2,7 +2,7 @@
 
 /// What stands at the front of the bytes held.
 #[derive(Clone, Copy, Debug, PartialEq, Eq)]
-pub enum Progress {
+pub enum ResponseProgress {
     /// No response is whole yet, nor will one be before so many bytes are held, which is more than there are now.
     More(usize),
     /// An interim response of so many bytes: the response begins behind it.

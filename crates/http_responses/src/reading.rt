@@ -8,14 +8,14 @@ ghost use Rattle.http_words.specs.declared.limits.TheConstants.{MAX_HEAD_BYTES};
 
 use crate::fields::body_length;
 use crate::interim::INTERIM_STATUS;
-use crate::{Progress, Response};
+use crate::{Response, ResponseProgress};
 use http_fields::Fields;
 use http_words::{MAX_FIELDS, MAX_HEAD_BYTES};
 use httparse::Status;
 use httparse::spans::{EMPTY_HEADER_SPAN, HeaderSpan, ResponseSpans, parse_response};
 
 /// What stands at the front of the bytes held, whatever bytes follow.
-pub fn read_response(held: &[u8]) -> Progress
+pub fn read_response(held: &[u8]) -> ResponseProgress
     ensures { Says held.now result }
 {
     let front = front_of(held);
@@ -24,12 +24,12 @@ pub fn read_response(held: &[u8]) -> Progress
         Ok(Status::Complete(head)) => behind_head(front, &spans[..head.headers], &head, held.len()),
         Ok(Status::Partial) => {
             if held.len() < MAX_HEAD_BYTES {
-                Progress::More(held.len() + 1)
+                ResponseProgress::More(held.len() + 1)
             } else {
-                Progress::Never
+                ResponseProgress::Never
             }
         }
-        Err(_) => Progress::Never,
+        Err(_) => ResponseProgress::Never,
     }
 }
 
@@ -45,7 +45,12 @@ fn front_of(held: &[u8]) -> &[u8]
 }
 
 /// What stands at the front of so many bytes, where they begin with a head.
-fn behind_head(front: &[u8], spans: &[HeaderSpan], head: &ResponseSpans, held: usize) -> Progress
+fn behind_head(
+    front: &[u8],
+    spans: &[HeaderSpan],
+    head: &ResponseSpans,
+    held: usize,
+) -> ResponseProgress
     requires fields { All (IsHeaderWithin (length front.now)) spans.now }
     requires within { head.now.len ≤ held }
     requires short { head.now.len ≤ MAX_HEAD_BYTES }
@@ -53,13 +58,13 @@ fn behind_head(front: &[u8], spans: &[HeaderSpan], head: &ResponseSpans, held: u
         (length_by (stated_length (map (header_bytes front.now) spans.now))) held }
 {
     if head.code == INTERIM_STATUS {
-        return Progress::Interim(head.len);
+        return ResponseProgress::Interim(head.len);
     }
     let bytes = front;
     match body_length(&Fields { bytes, spans }) {
-        None => Progress::Never,
-        Some(length) if held - head.len < length => Progress::More(head.len + length),
-        Some(length) => Progress::Whole(Response {
+        None => ResponseProgress::Never,
+        Some(length) if held - head.len < length => ResponseProgress::More(head.len + length),
+        Some(length) => ResponseProgress::Whole(Response {
             status: head.code,
             body: head.len,
             end: head.len + length,

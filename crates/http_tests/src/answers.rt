@@ -2,7 +2,7 @@
 
 use crate::texts::{number_of, text_of, word};
 use http_answers::{
-    Answer, fault_allow, fault_status, fault_text, memory_text, put_answer, put_interim,
+    HttpAnswer, fault_allow, fault_status, fault_text, memory_text, put_answer, put_interim,
     status_line, store_fault_text,
 };
 use http_words::{Allow, Fault, PathField, StatusCode};
@@ -41,7 +41,12 @@ const STATUSES: [StatusCode; 12] = [
 
 // Puts an answer, or the interim one where there is none, into memory, where the put with a number fails. Prints how
 // that ended, and what was put.
-fn print_put(rt: &impl Print, alloc: Global, answer: Option<Answer>, fails: u32) -> io::Result<()> {
+fn print_put(
+    rt: &impl Print,
+    alloc: Global,
+    answer: Option<HttpAnswer>,
+    fails: u32,
+) -> io::Result<()> {
     let mut sink = MemSink::of(alloc, vec![in alloc; u64::from(fails)]?);
     let ended = match answer {
         Some(answer) => put_answer(&mut sink, &answer),
@@ -55,8 +60,8 @@ fn print_put(rt: &impl Print, alloc: Global, answer: Option<Answer>, fails: u32)
 }
 
 // The answer to a fault that doesn't close the connection.
-fn answer_to(fault: Fault) -> Answer<'static> {
-    Answer {
+fn answer_to(fault: Fault) -> HttpAnswer<'static> {
+    HttpAnswer {
         status: fault_status(fault),
         allow: fault_allow(fault),
         closes: false,
@@ -82,9 +87,9 @@ fn print_statuses(rt: &impl Print) -> io::Result<()> {
 }
 
 // A refusal with a body, and what is said of it before that.
-fn refusal(text: &str) -> Answer<'_> {
+fn refusal(text: &str) -> HttpAnswer<'_> {
     let (said, body) = word(text);
-    Answer {
+    HttpAnswer {
         status: StatusCode::Conflict,
         allow: None,
         closes: said.contains("closes"),

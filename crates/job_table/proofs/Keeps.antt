@@ -14,8 +14,8 @@ use Rattle.job_table.specs.Steps.{Begins, Reserves, Posts, Takes, Ends, Fetches,
 use Rattle.job_table.specs.Views.{idle, claiming, asking, helping}
 use Rattle.job_table.specs.declared.jobs.TheConstants.{SLOTS}
 use Rattle.job_table.specs.declared.steps.TheConstants.{FREE, CLAIMED, POSTED, TAKEN, ANSWERED}
-use Rattle.job_table.specs.declared.view.Part.{Part}
-use Rattle.job_table.specs.declared.view.Part.TheVariants.{Idle, Claims, Asks, Helps}
+use Rattle.job_table.specs.declared.view.SeatPart.{SeatPart}
+use Rattle.job_table.specs.declared.view.SeatPart.TheVariants.{Idle, Claims, Asks, Helps}
 use Rattle.job_table.specs.declared.view.Slot.{Slot}
 use Rattle.job_table.specs.declared.view.Slot.TheVariants.{Job, Answer}
 use Rattle.job_table.specs.declared.view.View.{View}
@@ -194,7 +194,7 @@ module _ {K Q A : Type 0} (may : K → Q → Type 0) (says : K → Q → A → T
   helper-among : (slot by helper : ℕ) (job : Q) (i : ℕ) → i ≢ helper
       → part_at {Q = Q} {A = A} slot (posted by job) i ≡ part_at {Q = Q} {A = A} slot (taken by helper job) i
   helper-among slot by helper job i ne =
-      ap (λ (p : Part Q). if i == by then Asks slot job else p) (sym (cond-other i helper (Helps slot job) Idle ne))
+      ap (λ (p : SeatPart Q). if i == by then Asks slot job else p) (sym (cond-other i helper (Helps slot job) Idle ne))
 
   -- take
   takes_job_plainly : (seat slot : ℕ) → slot < SLOTS

@@ -4,27 +4,27 @@ use mathlib.Core.Logic.{dite}
 use native.Mathlib.Decide.{ℕ_discrete}
 use Rattle.job_table.specs.Rule.{Stage, free, claimed, posted, taken, answered, word_at, part_at, part_with}
 use Rattle.job_table.specs.declared.steps.TheConstants.{FREE, POSTED, ANSWERED}
-use Rattle.job_table.specs.declared.view.Part.{Part}
-use Rattle.job_table.specs.declared.view.Part.TheVariants.{Idle, Claims, Asks, Helps}
+use Rattle.job_table.specs.declared.view.SeatPart.{SeatPart}
+use Rattle.job_table.specs.declared.view.SeatPart.TheVariants.{Idle, Claims, Asks, Helps}
 use Rattle.job_table.proofs.Rows.{cond-same, cond-other}
 
 module _ {Q : Type 0} where
   -- which kind of part it is
-  abbrev kind : Part Q → ℕ
+  abbrev kind : SeatPart Q → ℕ
   kind Idle = 0
   kind (Claims slot) = 1
   kind (Asks slot job) = 2
   kind (Helps slot job) = 3
 
   -- its job, or another one
-  abbrev job_or : Q → Part Q → Q
+  abbrev job_or : Q → SeatPart Q → Q
   job_or other Idle = other
   job_or other (Claims slot) = other
   job_or other (Asks slot job) = job
   job_or other (Helps slot job) = job
 
   -- parts of two kinds differ
-  Idle-Claims : (slot : ℕ) → ◌≡◌ {A = Part Q} Idle (Claims slot) → ⊥
+  Idle-Claims : (slot : ℕ) → ◌≡◌ {A = SeatPart Q} Idle (Claims slot) → ⊥
   Idle-Claims slot e = let t : 0 ≡ 1 = ap kind e in omega (arith, t)
 
   Idle-Asks : (slot : ℕ) (job : Q) → Idle ≡ Asks slot job → ⊥
@@ -49,7 +49,7 @@ module _ {Q : Type 0} where
   Asks-Helps slot own job other e = let t : 2 ≡ 3 = ap kind e in omega (arith, t)
 
   -- a part that is about another slot, as one about this slot
-  pub claims-elsewhere : (slot own : ℕ) → slot ≢ own → ◌≡◌ {A = Part Q} (part_with slot (Claims own)) Idle
+  pub claims-elsewhere : (slot own : ℕ) → slot ≢ own → ◌≡◌ {A = SeatPart Q} (part_with slot (Claims own)) Idle
   claims-elsewhere slot own ne = cond-other own slot (Claims own) Idle (λ e. ne (sym e))
 
   pub asks-elsewhere : (slot own : ℕ) (job : Q) → slot ≢ own → part_with slot (Asks own job) ≡ Idle
@@ -59,7 +59,7 @@ module _ {Q : Type 0} where
   helps-elsewhere slot own job ne = cond-other own slot (Helps own job) Idle (λ e. ne (sym e))
 
   -- and one that is about this slot
-  pub claims-here : (slot : ℕ) → ◌≡◌ {A = Part Q} (part_with slot (Claims slot)) (Claims slot)
+  pub claims-here : (slot : ℕ) → ◌≡◌ {A = SeatPart Q} (part_with slot (Claims slot)) (Claims slot)
   claims-here slot = cond-same slot slot (Claims slot) Idle refl
 
   pub asks-here : (slot : ℕ) (job : Q) → part_with slot (Asks slot job) ≡ Asks slot job
@@ -97,7 +97,7 @@ module _ {Q A : Type 0} where
       (λ same. absurd (Asks-Claims slot slot job (sym (cond-same seat by (Asks slot job) Idle same) ∙ e)))
       (λ ne. absurd (Idle-Claims slot (sym (cond-other seat by (Asks slot job) Idle ne) ∙ e)))
   is-claimed-by slot seat (taken by helper job) e =
-      let rest : Part Q = if seat == helper then Helps slot job else Idle in
+      let rest : SeatPart Q = if seat == helper then Helps slot job else Idle in
       dite (ℕ_discrete seat by)
       (λ same. absurd (Asks-Claims slot slot job (sym (cond-same seat by (Asks slot job) rest same) ∙ e)))
       (λ ne. dite (ℕ_discrete seat helper)
@@ -146,7 +146,7 @@ module _ {Q A : Type 0} where
       (λ same. absurd (Asks-Helps slot slot own job (sym (cond-same seat by (Asks slot own) Idle same) ∙ e)))
       (λ ne. absurd (Idle-Helps slot job (sym (cond-other seat by (Asks slot own) Idle ne) ∙ e)))
   is-taken-by slot seat job (taken by helper own) e =
-      let rest : Part Q = if seat == helper then Helps slot own else Idle in
+      let rest : SeatPart Q = if seat == helper then Helps slot own else Idle in
       dite (ℕ_discrete seat by)
       (λ same. absurd (Asks-Helps slot slot own job (sym (cond-same seat by (Asks slot own) rest same) ∙ e)))
       (λ ne. dite (ℕ_discrete seat helper)

@@ -8,8 +8,8 @@ use Rattle.atomic_table.specs.Table.{State}
 use Rattle.job_table.specs.Views.{idle}
 use Rattle.job_table.specs.declared.jobs.TheConstants.{SLOTS}
 use Rattle.job_table.specs.declared.steps.TheConstants.{FREE, CLAIMED, POSTED, TAKEN, ANSWERED}
-use Rattle.job_table.specs.declared.view.Part.{Part}
-use Rattle.job_table.specs.declared.view.Part.TheVariants.{Idle, Claims, Asks, Helps}
+use Rattle.job_table.specs.declared.view.SeatPart.{SeatPart}
+use Rattle.job_table.specs.declared.view.SeatPart.TheVariants.{Idle, Claims, Asks, Helps}
 use Rattle.job_table.specs.declared.view.Slot.{Slot}
 use Rattle.job_table.specs.declared.view.Slot.TheVariants.{Job, Answer}
 use Rattle.job_table.specs.declared.view.View.{View}
@@ -41,7 +41,7 @@ module _ {Q A : Type 0} where
   home_at (answered by job answer) = some (Some (Answer answer))
 
   -- what each seat does with a slot
-  abbrev pub part_at : ℕ → Stage Q A → ℕ → Part Q
+  abbrev pub part_at : ℕ → Stage Q A → ℕ → SeatPart Q
   part_at slot free seat = Idle
   part_at slot (claimed by) seat = if seat == by then Claims slot else Idle
   part_at slot (posted by job) seat = if seat == by then Asks slot job else Idle
@@ -54,7 +54,7 @@ abbrev pub view_of : {K Q : Type 0} → K → List (View K Q) → ℕ → View K
 view_of key views seat = slice_index_or views seat (idle key)
 
 -- a seat's part as far as it is about a slot
-abbrev pub part_with : {Q : Type 0} → ℕ → Part Q → Part Q
+abbrev pub part_with : {Q : Type 0} → ℕ → SeatPart Q → SeatPart Q
 part_with slot Idle = Idle
 part_with slot (Claims own) = if own == slot then Claims own else Idle
 part_with slot (Asks own job) = if own == slot then Asks own job else Idle

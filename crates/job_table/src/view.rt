@@ -5,11 +5,11 @@ pub struct View<K, Q> {
     /// What the table was made about.
     pub key: K,
     /// What the seat does.
-    pub part: Part<Q>,
+    pub part: SeatPart<Q>,
 }
 
 /// What a seat does, with which slot.
-pub enum Part<Q> {
+pub enum SeatPart<Q> {
     /// Nothing.
     Idle,
     /// It has the slot for itself: it is about to post a job there, or it has its job or the answer back.

@@ -2,7 +2,7 @@
 
 ghost use Rattle.std.specs.Prelude.{◌≡◌, ◌+◌, ◌++◌, Some, None, Ok, Err, ℕ, List, IfOk, OnOk, IsErrOf, string_bytes};
 ghost use Rattle.judge.specs.Answer.{judged, fate_text};
-ghost use Rattle.judge.specs.Fates.{Progress, fate, after};
+ghost use Rattle.judge.specs.Fates.{JudgeProgress, fate, after};
 ghost use Rattle.judge.specs.Form.{run_line};
 ghost use Rattle.judge.specs.Trial.{IsAt, setup_in};
 ghost use Rattle.judge.specs.declared.run_line.RunLine.{RunLine};
@@ -47,12 +47,12 @@ pub fn judge(alloc: Global, input: &[u8]) -> Result<String, JudgeFault>
 /// Judges one run line, and appends what becomes of it.
 fn judge_line(trial: &mut Trial, line: Line, output: &mut String) -> Result<(), JudgeFault>
     ensures setup { setup_in trial.new ≡ setup_in trial.old }
-    ensures ok { (progress : Progress) → IsAt trial.old progress → OnOk result ((run : RunLine)
+    ensures ok { (progress : JudgeProgress) → IsAt trial.old progress → OnOk result ((run : RunLine)
         × (run_line (suspects (setup_in trial.old)) progress.greatest line.entry.text.now ≡ Some run)
         × IsAt trial.new (after (setup_in trial.old) progress run)
         × (string_bytes output.new
         ≡ string_bytes output.old ++ fate_text run.number (fate (setup_in trial.old) progress run))) }
-    ensures bad_input { (progress : Progress) → IsAt trial.old progress → (number : ℕ) →
+    ensures bad_input { (progress : JudgeProgress) → IsAt trial.old progress → (number : ℕ) →
         IsErrOf result (JudgeFault.BadInput number) →
         (run_line (suspects (setup_in trial.old)) progress.greatest line.entry.text.now ≡ None)
         × (number ≡ line.entry.number) }

@@ -6,7 +6,7 @@ use std::fmt;
 
 /// What becomes of a run line.
 #[derive(Clone, Copy, Debug, PartialEq, Eq)]
-pub enum Fate {
+pub enum JudgeFate {
     /// It changes the weights.
     Counted,
     /// The search had ended before.
@@ -17,17 +17,17 @@ pub enum Fate {
     Repeat,
 }
 
-impl fmt::Display for Fate {
+impl fmt::Display for JudgeFate {
     ghost use Rattle.judge.specs.Answer.{fate_word};
 
     ghost output = { λ fate. Some (fate_word fate) };
 
     fn fmt<W: fmt::Write>(&self, f: &mut fmt::Formatter<W>) -> fmt::Result {
         match self {
-            Fate::Counted => write!(f, "counted"),
-            Fate::Late => write!(f, "late"),
-            Fate::Over => write!(f, "over"),
-            Fate::Repeat => write!(f, "repeat"),
+            JudgeFate::Counted => write!(f, "counted"),
+            JudgeFate::Late => write!(f, "late"),
+            JudgeFate::Over => write!(f, "over"),
+            JudgeFate::Repeat => write!(f, "repeat"),
         }
     }
 }

@@ -5,7 +5,7 @@ ghost use Rattle.std.specs.Prelude.{◌≡◌, ◌≢◌, ◌++◌, ◌∷◌, �
 ghost use Rattle.std.specs.Fmt.{decimal};
 ghost use Rattle.std.specs.List.{join_with_byte};
 ghost use Rattle.judge.specs.Answer.{judged};
-ghost use Rattle.judge.specs.Fates.{Progress, at_start, standing, is_searching, after_all};
+ghost use Rattle.judge.specs.Fates.{JudgeProgress, at_start, standing, is_searching, after_all};
 ghost use Rattle.decimal_text.specs.Decimals.{number};
 ghost use Rattle.judge.specs.Text.{lines, words, text_of};
 ghost use Rattle.judge.specs.declared.run_line.RunLine.{RunLine};
@@ -28,9 +28,9 @@ pub fn what_is_written_is_read()
 
 /// A search that has ended stays as it is: no later run line changes its counted runs or its standing.
 pub fn an_ended_search_stays()
-    ensures runs { (s : Setup) (p : Progress) (later : List RunLine) → is_searching (standing s p) ≡ false →
+    ensures runs { (s : Setup) (p : JudgeProgress) (later : List RunLine) → is_searching (standing s p) ≡ false →
         (after_all s p later).counted ≡ p.counted }
-    ensures standing { (s : Setup) (p : Progress) (later : List RunLine) → is_searching (standing s p) ≡ false →
+    ensures standing { (s : Setup) (p : JudgeProgress) (later : List RunLine) → is_searching (standing s p) ≡ false →
         standing s (after_all s p later) ≡ standing s p }
 {}
 

@@ -24,9 +24,9 @@ mod trial;
 mod words;
 
 pub use answer::judge;
-pub use fate::Fate;
+pub use fate::JudgeFate;
 pub use fault::JudgeFault;
 pub use lines::{Line, Lines};
 pub use run_line::RunLine;
-pub use standing::Standing;
+pub use standing::JudgeStanding;
 pub use words::Words;

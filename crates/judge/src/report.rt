@@ -6,8 +6,8 @@ ghost use Rattle.posterior.specs.StandsFor.{StandsFor};
 ghost use Rattle.weight_exact.specs.Weights.{hypotheses as hypotheses_of};
 ghost use Rattle.weight_exact.specs.declared.run.Run.{Run};
 
-use crate::fate::Fate;
-use crate::standing::Standing;
+use crate::fate::JudgeFate;
+use crate::standing::JudgeStanding;
 use posterior::Belief;
 use std::alloc::AllocError;
 
@@ -21,7 +21,7 @@ pub fn write_budget(output: &mut String, belief: &Belief) -> Result<(), AllocErr
 }
 
 /// Appends the line of a run: its number and what became of it.
-pub fn write_fate(output: &mut String, number: u32, fate: Fate) -> Result<(), AllocError>
+pub fn write_fate(output: &mut String, number: u32, fate: JudgeFate) -> Result<(), AllocError>
     ensures { OnOk result (string_bytes output.new ≡ string_bytes output.old ++ fate_text number fate) }
 {
     writeln!(output, "run {number} {fate}")
@@ -42,7 +42,7 @@ pub fn write_shares(output: &mut String, belief: &Belief, hypotheses: u16) -> Re
 }
 
 /// Appends the line with the standing of a search.
-pub fn write_standing(output: &mut String, standing: Standing) -> Result<(), AllocError>
+pub fn write_standing(output: &mut String, standing: JudgeStanding) -> Result<(), AllocError>
     ensures { OnOk result (string_bytes output.new ≡ string_bytes output.old ++ standing_text standing) }
 {
     writeln!(output, "standing {standing}")

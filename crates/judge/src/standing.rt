@@ -6,7 +6,7 @@ use std::fmt;
 
 /// Where a search stands.
 #[derive(Clone, Copy, Debug, PartialEq, Eq)]
-pub enum Standing {
+pub enum JudgeStanding {
     /// No hypothesis reaches the bar.
     Searching,
     /// The suspect at this position reaches the bar.
@@ -17,7 +17,7 @@ pub enum Standing {
     Inconclusive,
 }
 
-impl Standing {
+impl JudgeStanding {
     ghost use Rattle.std.specs.Prelude.{◌≡◌};
     ghost use Rattle.judge.specs.Fates.{is_searching};
 
@@ -25,21 +25,21 @@ impl Standing {
     pub fn is_searching(self) -> bool
         ensures { result ≡ is_searching self }
     {
-        matches!(self, Standing::Searching)
+        matches!(self, JudgeStanding::Searching)
     }
 }
 
-impl fmt::Display for Standing {
+impl fmt::Display for JudgeStanding {
     ghost use Rattle.judge.specs.Answer.{standing_word};
 
     ghost output = { λ standing. Some (standing_word standing) };
 
     fn fmt<W: fmt::Write>(&self, f: &mut fmt::Formatter<W>) -> fmt::Result {
         match self {
-            Standing::Searching => write!(f, "searching"),
-            Standing::Named(position) => write!(f, "named {position}"),
-            Standing::NoCulprit => write!(f, "no culprit"),
-            Standing::Inconclusive => write!(f, "inconclusive"),
+            JudgeStanding::Searching => write!(f, "searching"),
+            JudgeStanding::Named(position) => write!(f, "named {position}"),
+            JudgeStanding::NoCulprit => write!(f, "no culprit"),
+            JudgeStanding::Inconclusive => write!(f, "inconclusive"),
         }
     }
 }

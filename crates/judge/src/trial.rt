@@ -2,18 +2,18 @@
 
 ghost use Rattle.std.specs.Prelude.{◌≡◌, ◌+◌, ◌≤◌, ◌<◌, ◌++◌, ℕ, List, IfOk, OnOk, string_bytes};
 ghost use Rattle.judge.specs.Answer.{budget_text, ending};
-ghost use Rattle.judge.specs.Fates.{Progress, standing_by, at_start, fate, after};
+ghost use Rattle.judge.specs.Fates.{JudgeProgress, standing_by, at_start, fate, after};
 ghost use Rattle.judge.specs.Setup.{setup_of};
 ghost use Rattle.posterior.specs.StandsFor.{StandsFor};
 ghost use Rattle.weight_exact.specs.Share.{reached};
 ghost use Rattle.weight_exact.specs.Weights.{hypotheses as hypotheses_of};
 ghost use Rattle.weight_exact.specs.declared.run.Run.{Run};
 
-use crate::fate::Fate;
+use crate::fate::JudgeFate;
 use crate::report::{write_budget, write_shares, write_standing};
 use crate::run_line::RunLine;
 use crate::search::{Search, Terms};
-use crate::standing::Standing;
+use crate::standing::JudgeStanding;
 use posterior::{Belief, Noted};
 use std::alloc::{AllocError, Global};
 use weight_exact::Memory;
@@ -27,7 +27,7 @@ pub struct Trial {
     /// The greatest run number so far, or 0.
     greatest: u32,
     /// Where the search stands, which is asked of the belief only where that has changed.
-    standing: Standing,
+    standing: JudgeStanding,
     ghost all: { hypotheses ≡ hypotheses_of belief.setup },
     ghost some: { 2 ≤ hypotheses },
 }
@@ -66,27 +66,27 @@ impl Trial {
 
     /// The greatest run number so far, or 0.
     pub fn greatest(&self) -> u32
-        ensures { (progress : Progress) → IsAt self.now progress → result ≡ progress.greatest }
+        ensures { (progress : JudgeProgress) → IsAt self.now progress → result ≡ progress.greatest }
     {
         self.greatest
     }
 
     /// Judges one more run line, and counts its run where that is its fate.
-    pub fn judge(&mut self, line: RunLine) -> Fate
+    pub fn judge(&mut self, line: RunLine) -> JudgeFate
         requires first { 1 ≤ line.run.position }
         requires last { line.run.position < hypotheses_of (setup_in self.old) }
         ensures setup { setup_in self.new ≡ setup_in self.old }
-        ensures fate { (progress : Progress) → IsAt self.old progress →
+        ensures fate { (progress : JudgeProgress) → IsAt self.old progress →
             result ≡ fate (setup_in self.old) progress line }
-        ensures after { (progress : Progress) → IsAt self.old progress →
+        ensures after { (progress : JudgeProgress) → IsAt self.old progress →
             IsAt self.new (after (setup_in self.old) progress line) }
     {
         if line.number <= self.greatest {
-            return Fate::Repeat;
+            return JudgeFate::Repeat;
         }
         self.greatest = line.number;
         if !self.standing.is_searching() {
-            return Fate::Late;
+            return JudgeFate::Late;
         }
         match self
             .belief
@@ -94,11 +94,11 @@ impl Trial {
         {
             Noted::Counted => {
                 self.standing = standing(&self.belief, self.hypotheses);
-                Fate::Counted
+                JudgeFate::Counted
             }
             Noted::Over => {
-                self.standing = Standing::Inconclusive;
-                Fate::Over
+                self.standing = JudgeStanding::Inconclusive;
+                JudgeFate::Over
             }
         }
     }
@@ -113,7 +113,7 @@ impl Trial {
 
     /// Appends the lines that end an answer: the shares and the standing.
     pub fn write_ending(&self, output: &mut String) -> Result<(), AllocError>
-        ensures { (progress : Progress) → IsAt self.now progress → OnOk result (
+        ensures { (progress : JudgeProgress) → IsAt self.now progress → OnOk result (
             string_bytes output.new ≡ string_bytes output.old ++ ending (setup_in self.now) progress) }
     {
         write_shares(output, &self.belief, self.hypotheses)?;
@@ -122,13 +122,13 @@ impl Trial {
 }
 
 /// Where a search stands by what it believes.
-fn standing(belief: &Belief, hypotheses: u16) -> Standing
+fn standing(belief: &Belief, hypotheses: u16) -> JudgeStanding
     ensures { (runs : List Run) → StandsFor belief.now runs →
         result ≡ standing_by hypotheses (reached belief.now.setup runs) }
 {
     match belief.reached() {
-        None => Standing::Searching,
-        Some(hypothesis) if hypothesis == hypotheses => Standing::NoCulprit,
-        Some(position) => Standing::Named(position),
+        None => JudgeStanding::Searching,
+        Some(hypothesis) if hypothesis == hypotheses => JudgeStanding::NoCulprit,
+        Some(position) => JudgeStanding::Named(position),
     }
 }

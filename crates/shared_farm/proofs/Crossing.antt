@@ -14,7 +14,7 @@ use Rattle.turn_lock.proofs.lock.TurnLock.TheSendSync as TurnLock
 use Rattle.turn_lock.proofs.pass.Pass.TheSendSync as Pass
 use Rattle.job_table.proofs.jobs.JobTable.TheSendSync as JobTable
 use Rattle.shared_farm.proofs.errand.Errand.TheSendSync as Errand
-use Rattle.shared_farm.proofs.errand.Outcome.TheSendSync as Outcome
+use Rattle.shared_farm.proofs.errand.ErrandOutcome.TheSendSync as ErrandOutcome
 use Rattle.farm_board.proofs.board.Board.TheSendSync as Board
 use Rattle.farm_board.proofs.pass.BoardPass.TheSendSync as BoardPass
 use Rattle.shared_farm.specs.contracts.locked.Locked as Locked
@@ -34,7 +34,7 @@ pub shared_farm-sync : (D B O : RattleType) (over : dated.Ghosts D.Denot O.Denot
     → IsSync (SharedFarm.the_row D B O over ghosts at begun)
 shared_farm-sync D B O over ghosts at begun disk mark moment =
     let locked = locked-send D B O over ghosts at begun disk mark in
-    search (TurnLock.the_sync, JobTable.the_sync, Errand.the_send, Outcome.the_send, sendable, crosses) depth 20
+    search (TurnLock.the_sync, JobTable.the_sync, Errand.the_send, ErrandOutcome.the_send, sendable, crosses) depth 20
 
 -- what a closure takes along to a thread beside the farm
 pub ruleset along = (Pass.the_send, sendable, crosses)

@@ -25,7 +25,7 @@ pub struct Errand {
 /// What an errand came to: the pass after its turn, the asks again, the answers, and a moment of the disk that was over
 /// after the turn, by which all that the pass has seen stood.
 #[derive(Drop)]
-pub struct Outcome<O> {
+pub struct ErrandOutcome<O> {
     pub pass: Pass,
     pub asks: Vec<Ask>,
     pub result: Result<Answers, CallFault>,
@@ -34,7 +34,7 @@ pub struct Outcome<O> {
 
 /// An errand that was taken over, without its asks.
 pub struct Helped<K, O> {
-    pub taken: Taken<K, Errand, Outcome<O>>,
+    pub taken: Taken<K, Errand, ErrandOutcome<O>>,
     pub pass: Pass,
 }
 
@@ -44,7 +44,7 @@ pub struct ByTurns<D, B> {
     marker: PhantomData<(D, B)>,
 }
 
-impl<D: DatedDisk, B: Beginning> JobRule<FarmLock<D, B>, Errand, Outcome<D::Over>>
+impl<D: DatedDisk, B: Beginning> JobRule<FarmLock<D, B>, Errand, ErrandOutcome<D::Over>>
     for ByTurns<D, B> {
     ghost may = { λ key errand. IsErrand key errand };
 
@@ -52,4 +52,4 @@ impl<D: DatedDisk, B: Beginning> JobRule<FarmLock<D, B>, Errand, Outcome<D::Over
 }
 
 /// The errands of a farm's callers. `O` are the moments of its disk.
-pub type Errands<D, B, O> = JobTable<FarmLock<D, B>, Errand, Outcome<O>, ByTurns<D, B>>;
+pub type Errands<D, B, O> = JobTable<FarmLock<D, B>, Errand, ErrandOutcome<O>, ByTurns<D, B>>;

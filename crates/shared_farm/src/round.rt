@@ -7,7 +7,7 @@ ghost use Rattle.turn_lock.specs.Places.{ArePlaces};
 ghost use Rattle.shared_farm.specs.Rounds.{AreHelped, IsShared};
 
 use crate::beginning::Beginning;
-use crate::errand::{Errands, FarmLock, Helped, Outcome};
+use crate::errand::{ErrandOutcome, Errands, FarmLock, Helped};
 use crate::locked::{Locked, has_failed};
 use farm_disk::DatedDisk;
 use farm_store::Part;
@@ -59,7 +59,7 @@ pub fn share_out<D: DatedDisk, B: Beginning>(
     share_out(lock, errands, turn, &mut next, end, parts, group);
     errands.answer(
         taken,
-        Outcome {
+        ErrandOutcome {
             pass: next,
             asks,
             result: Ok(answers),
@@ -117,7 +117,7 @@ pub fn ask_each<D: DatedDisk, B: Beginning>(
     ask_each(lock, errands, alloc, turn, &mut next, parts, group);
     errands.answer(
         taken,
-        Outcome {
+        ErrandOutcome {
             pass: next,
             asks,
             result,

@@ -14,7 +14,7 @@ ghost use Rattle.shared_farm.specs.Rounds.{AreHelped, IsJustTaken, first_asks};
 ghost use Rattle.shared_farm.specs.declared.sharing.TheConstants.{MOST_PARTS};
 
 use crate::beginning::Beginning;
-use crate::errand::{Errand, Errands, FarmLock, Helped, Outcome};
+use crate::errand::{Errand, ErrandOutcome, Errands, FarmLock, Helped};
 use crate::group_wait::GroupWait;
 use crate::locked::{Locked, has_failed};
 use crate::round::{ask_each, share_out};
@@ -56,7 +56,7 @@ pub fn hand_in<R: Wait, D: DatedDisk, B: Beginning>(
         pass: pass.take(),
         asks: mem::replace(asks, Vec::new(alloc)),
     };
-    let Outcome {
+    let ErrandOutcome {
         pass: mine,
         asks: same,
         result,
@@ -75,7 +75,7 @@ fn run<R: Wait, D: DatedDisk, B: Beginning>(
     waits: &GroupWait,
     alloc: Global,
     errand: Errand,
-) -> Outcome<D::Over>
+) -> ErrandOutcome<D::Over>
     requires key { errands.now.key ≡ lock.now }
     requires errand { IsErrand lock.now errand }
     ensures { IsDone D.count D.Over.at lock.now errand result }
@@ -96,8 +96,8 @@ fn wait_for<R: Wait, D: DatedDisk, B: Beginning>(
     errands: &Errands<D, B, D::Over>,
     waits: &GroupWait,
     alloc: Global,
-    posted: Posted<FarmLock<D, B>, Errand, Outcome<D::Over>>,
-) -> Outcome<D::Over>
+    posted: Posted<FarmLock<D, B>, Errand, ErrandOutcome<D::Over>>,
+) -> ErrandOutcome<D::Over>
     requires key { errands.now.key ≡ lock.now }
     requires table { posted.table ≡ errands.now }
     requires errand { IsErrand lock.now posted.job }
@@ -125,7 +125,7 @@ fn rest<R: Wait, D: DatedDisk, B: Beginning>(
     rt: &R,
     lock: &FarmLock<D, B>,
     errands: &Errands<D, B, D::Over>,
-    posted: &Posted<FarmLock<D, B>, Errand, Outcome<D::Over>>,
+    posted: &Posted<FarmLock<D, B>, Errand, ErrandOutcome<D::Over>>,
 ) {
     for _ in 0..MOST_LOOKS {
         if errands.is_answered(posted) || lock.is_free() {
@@ -148,7 +148,7 @@ fn run_now<R: Wait, D: DatedDisk, B: Beginning>(
     waits: &GroupWait,
     alloc: Global,
     errand: Errand,
-) -> Outcome<D::Over>
+) -> ErrandOutcome<D::Over>
     requires key { errands.now.key ≡ lock.now }
     requires errand { IsErrand lock.now errand }
     ensures { IsDone D.count D.Over.at lock.now errand result }
@@ -187,13 +187,13 @@ fn run_alone<R: Wait, D: DatedDisk, B: Beginning>(
     lock: &FarmLock<D, B>,
     alloc: Global,
     errand: Errand,
-) -> Outcome<D::Over>
+) -> ErrandOutcome<D::Over>
     requires { IsErrand lock.now errand }
     ensures { IsDone D.count D.Over.at lock.now errand result }
 {
     let Errand { mut pass, asks } = errand;
     let (result, over) = ask_alone(rt, lock, alloc, &mut pass, &asks);
-    Outcome {
+    ErrandOutcome {
         pass,
         asks,
         result,
@@ -209,7 +209,7 @@ fn run_with_others<R: Wait, D: DatedDisk, B: Beginning>(
     waits: &GroupWait,
     alloc: Global,
     errand: Errand,
-) -> Outcome<D::Over>
+) -> ErrandOutcome<D::Over>
     requires key { errands.now.key ≡ lock.now }
     requires errand { IsErrand lock.now errand }
     ensures { IsDone D.count D.Over.at lock.now errand result }
@@ -227,7 +227,7 @@ fn run_with_others<R: Wait, D: DatedDisk, B: Beginning>(
     parts.push_reserved(part_of(alloc, asks));
     take_over(errands, alloc, &mut parts, &mut group, first_bytes);
     let (asks, result, over) = share(lock, errands, waits, alloc, turn, &mut pass, parts, group);
-    Outcome {
+    ErrandOutcome {
         pass,
         asks,
         result,

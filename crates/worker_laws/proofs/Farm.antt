@@ -28,7 +28,7 @@ use Rattle.worker_core.specs.declared.tested.Tested.TheVariants.{Untestable, Ver
 use Rattle.worker_laws.specs.Given.{IsGiven}
 use Rattle.worker_laws.specs.Happenings.{Reach, answer_to, answered, decides, farm_is_asked, farm_takes, is_report, nothing_appended, nothing_sent, said_of, unasked}
 use Rattle.worker_laws.specs.Workers.{lease_in_answer}
-use Rattle.worker_laws.specs.World.{Answer, LeaseAnswer, Made, Request, Said, Worker, World, refused, replied}
+use Rattle.worker_laws.specs.World.{LeaseAnswer, Made, Request, Said, SentAnswer, Worker, World, refused, replied}
 use Rattle.worker_laws.proofs.Decided.{IsPlain, decide-plain}
 use Rattle.worker_laws.proofs.Leases.{given-stays, lease_in_reply, reply-true}
 use Rattle.worker_laws.proofs.Sound.{IsBacked, IsHonest, IsSound, IsTruthful, backed-stays, got, honest-stays, truthful-stays}
@@ -53,11 +53,11 @@ said-true H q (New e) said legal plain is a tells =
     reply-true (H ++ e ∷ []) (length H) a legal (said-reply (reply_at (H ++ e ∷ []) (length H)) said a is tells)
 
 sent-true : (G : List Entry) (to : ℕ) (o : Option Said) → ((said : Said) → o ≡ Some said → IsTruthful G said) →
-    All (λ (a : Answer). IsTruthful G a.said) (answer_to to o)
-sent-true G to None so = All-nil (λ (a : Answer). IsTruthful G a.said)
+    All (λ (a : SentAnswer). IsTruthful G a.said) (answer_to to o)
+sent-true G to None so = All-nil (λ (a : SentAnswer). IsTruthful G a.said)
 sent-true G to (Some said) so =
-    All-cons (λ (a : Answer). IsTruthful G a.said) (record { to = to; said = said }) [] (so said refl)
-    (All-nil (λ (a : Answer). IsTruthful G a.said))
+    All-cons (λ (a : SentAnswer). IsTruthful G a.said) (record { to = to; said = said }) [] (so said refl)
+    (All-nil (λ (a : SentAnswer). IsTruthful G a.said))
 
 -- What is recorded.
 
@@ -102,7 +102,7 @@ more-sound world e sound legal given untestable =
           All-weaker (λ (r : Request). IsBacked H made r.command) (λ (r : Request). IsBacked G made r.command)
           (λ r is. backed-stays H e made r.command is) world.requests sound.requested;
       answered =
-          All-weaker (λ (a : Answer). IsTruthful H a.said) (λ (a : Answer). IsTruthful G a.said)
+          All-weaker (λ (a : SentAnswer). IsTruthful H a.said) (λ (a : SentAnswer). IsTruthful G a.said)
           (λ a is. truthful-stays H e a.said is) world.answers sound.answered;
       staffed =
           All-weaker (λ (w : Worker). IsHonest H made w) (λ (w : Worker). IsHonest G made w)
@@ -137,7 +137,8 @@ decides-sound world sender q d answered sound legal plain backed =
       reported = next.reported;
       said = next.said;
       requested = next.requested;
-      answered = All-append (λ (a : Answer). IsTruthful G a.said) world.answers (answer_to sender (said_of world.history d)) next.answered
+      answered = All-append (λ (a : SentAnswer). IsTruthful G a.said) world.answers
+          (answer_to sender (said_of world.history d)) next.answered
           (sent-true G sender (said_of world.history d) (λ said is. said-true world.history q d said legal plain is));
       staffed = next.staffed;
     }

@@ -10,7 +10,7 @@ use Rattle.worker_core.specs.declared.tested.Tested.TheVariants.{Untestable, Ver
 use Rattle.worker_laws.specs.Given.{IsGiven}
 use Rattle.worker_laws.specs.Happenings.{Happening, all_happen, begins, draws, farm_carries, farm_is_closed, farm_starts_anew, happens, is_asked, loses, receives, runner_answers, starts_anew, takes}
 use Rattle.worker_laws.specs.Workers.{crew, fresh}
-use Rattle.worker_laws.specs.World.{Answer, Request, Worker, World, founded}
+use Rattle.worker_laws.specs.World.{Request, SentAnswer, Worker, World, founded}
 use Rattle.worker_laws.proofs.Farm.{carries-sound, closes-sound, is_asked-sound, takes-sound}
 use Rattle.worker_laws.proofs.Sound.{IsBacked, IsHonest, IsSound, IsTruthful}
 use Rattle.worker_laws.proofs.Steps.{begins-sound, draws-sound, fresh-honest, gets-sound, loses-sound, restarts-sound, says-sound}
@@ -23,7 +23,7 @@ founded-sound settings at starts =
       reported = All-nil (λ (r : ReportedRun). IsGiven H [] r.run (Verdict r.verdict));
       said = All-nil (λ (s : SkippedRun). IsGiven H [] s.run Untestable);
       requested = All-nil (λ (r : Request). IsBacked H [] r.command);
-      answered = All-nil (λ (a : Answer). IsTruthful H a.said);
+      answered = All-nil (λ (a : SentAnswer). IsTruthful H a.said);
       staffed = All-map (λ (w : Worker). IsHonest H [] w) (λ (start : List ℕ × ℕ). fresh start.0 start.1) starts
           (λ k d below. fresh-honest H [] _ _);
     }

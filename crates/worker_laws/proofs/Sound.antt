@@ -13,7 +13,7 @@ use Rattle.worker_core.specs.declared.tested.Tested.{Tested}
 use Rattle.worker_core.specs.declared.tested.Tested.TheVariants.{Untestable, Verdict}
 use Rattle.worker_laws.specs.Given.{IsGiven}
 use Rattle.worker_laws.specs.Workers.{lease_in_answer, report_of}
-use Rattle.worker_laws.specs.World.{Answer, LeaseAnswer, Made, Request, Said, Worker, World}
+use Rattle.worker_laws.specs.World.{LeaseAnswer, Made, Request, Said, SentAnswer, Worker, World}
 use Rattle.worker_laws.proofs.Leases.{IsTrueLease, given-more, given-stays, true-stays}
 
 -- a command that reports a run reports what a runner said
@@ -36,7 +36,7 @@ pub record IsSound (world : World) : Type 0 where
       (reports world.history)
   pub said : All (λ (s : SkippedRun). IsGiven world.history world.made s.run Untestable) (skips world.history)
   pub requested : All (λ (r : Request). IsBacked world.history world.made r.command) world.requests
-  pub answered : All (λ (a : Answer). IsTruthful world.history a.said) world.answers
+  pub answered : All (λ (a : SentAnswer). IsTruthful world.history a.said) world.answers
   pub staffed : All (λ (w : Worker). IsHonest world.history world.made w) world.workers
 
 -- what holds of all members holds of the one at a place

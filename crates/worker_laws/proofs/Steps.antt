@@ -21,7 +21,7 @@ use Rattle.worker_core.specs.declared.tested.Tested.TheVariants.{Untestable, Ver
 use Rattle.worker_core.proofs.Origins.{last-is, step-origin}
 use Rattle.worker_laws.specs.Given.{IsGiven}
 use Rattle.worker_laws.specs.Workers.{closed_event, event_of, fresh, gets, hears, last_of, lease_after, lease_in_answer, report_of, request_of, restarts, runner_says, runs_test, steps, told, worker_steps}
-use Rattle.worker_laws.specs.World.{Answer, LeaseAnswer, Made, Request, Said, Worker, World, refused, replied}
+use Rattle.worker_laws.specs.World.{LeaseAnswer, Made, Request, Said, SentAnswer, Worker, World, refused, replied}
 use Rattle.worker_laws.proofs.Leases.{IsTrueLease}
 use Rattle.worker_laws.proofs.Sound.{IsBacked, IsHonest, IsSound, IsTruthful, got, made-more}
 
@@ -235,11 +235,13 @@ either-sound : (b : Bool) (one other : World) → IsSound one → IsSound other 
 either-sound true one other first second = first
 either-sound false one other first second = second
 
-gets-at : (world : World) (worker place : ℕ) → IsSound world → (o : Option Answer) → slice_get world.answers place ≡ o →
+gets-at : (world : World) (worker place : ℕ) → IsSound world → (o : Option SentAnswer)
+    → slice_get world.answers place ≡ o →
     IsSound (gets world worker o)
 gets-at world worker place sound None there = sound
 gets-at world worker place sound (Some answer) there =
-    let so = got (λ (a : Answer). IsTruthful world.history a.said) world.answers place answer sound.answered there in
+    let so = got (λ (a : SentAnswer). IsTruthful world.history a.said) world.answers place answer
+    sound.answered there in
     let event = event_of (last_of world worker) answer.said in
     either-sound (answer.to == worker) (hears world worker answer.said event) world
     (hears-sound world worker (last_of world worker) answer.said sound so event refl) sound

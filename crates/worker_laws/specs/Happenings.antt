@@ -16,7 +16,7 @@ use Rattle.farm_entry.specs.declared.decision.Decision.TheVariants.{New, Refuse,
 use Rattle.farm_entry.specs.declared.entry.Entry.{Entry}
 use Rattle.farm_entry.specs.declared.entry.What.TheVariants.{Carried, Closed}
 use Rattle.worker_core.specs.declared.event.Event.TheVariants.{Begin, Drew, Lost}
-use Rattle.worker_laws.specs.World.{Answer, Request, Said, World, refused, replied}
+use Rattle.worker_laws.specs.World.{Request, Said, SentAnswer, World, refused, replied}
 use Rattle.worker_laws.specs.Workers.{gets, restarts, runner_says, worker_steps}
 
 -- how far the farm comes with a command before it stops, if it stops
@@ -46,7 +46,7 @@ said_of H (Repeat place) = option_map replied (reply_at H place)
 said_of H (Show page) = Some (replied page)
 said_of H (New e) = option_map replied (reply_at (H ++ e ∷ []) (length H))
 
-abbrev pub answer_to : (to : ℕ) → Option Said → List Answer
+abbrev pub answer_to : (to : ℕ) → Option Said → List SentAnswer
 answer_to to None = []
 answer_to to (Some said) = record { to = to; said = said } ∷ []
 

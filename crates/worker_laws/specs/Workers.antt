@@ -13,7 +13,7 @@ use Rattle.worker_core.specs.declared.event.Event.{Event}
 use Rattle.worker_core.specs.declared.event.Event.TheVariants.{Leased, Nothing, Noted, Ran}
 use Rattle.worker_core.specs.declared.tested.Tested.{Tested}
 use Rattle.worker_core.specs.declared.tested.Tested.TheVariants.{Untestable, Verdict}
-use Rattle.worker_laws.specs.World.{Answer, LeaseAnswer, Request, Said, Worker, World, refused, replied}
+use Rattle.worker_laws.specs.World.{LeaseAnswer, Request, Said, SentAnswer, Worker, World, refused, replied}
 
 -- a worker that starts, or starts anew, to take so many leases
 abbrev pub fresh : (name : List ℕ) → (runs : ℕ) → Worker
@@ -91,7 +91,7 @@ hears world worker said None = world
 hears world worker said (Some event) = worker_steps world worker event (lease_in_answer said)
 
 -- a worker gets an answer that was sent to it
-abbrev pub gets : World → (worker : ℕ) → Option Answer → World
+abbrev pub gets : World → (worker : ℕ) → Option SentAnswer → World
 gets world worker None = world
 gets world worker (Some answer) =
     if answer.to == worker then hears world worker answer.said (event_of (last_of world worker) answer.said) else world

@@ -34,7 +34,7 @@ pub record Request : Type 0 where
   pub command : Command
 
 -- an answer on its way from the farm, with whom it was sent to
-pub record Answer : Type 0 where
+pub record SentAnswer : Type 0 where
   pub to : ℕ
   pub said : Said
 
@@ -49,7 +49,7 @@ pub record World : Type 0 where
   pub history : List Entry
   pub workers : List Worker
   pub requests : List Request
-  pub answers : List Answer
+  pub answers : List SentAnswer
   pub made : List Made
 
 -- a farm that was just founded, with its workers

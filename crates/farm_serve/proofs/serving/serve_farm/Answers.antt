@@ -13,7 +13,7 @@ use Rattle.farm_serve.specs.Acknowledged.{acknowledged_by}
 use Rattle.farm_serve.specs.Entries.{AtEntry, start_of}
 use Rattle.farm_serve.specs.Serving.{owned_by, store_mark}
 use Rattle.farm_serve.specs.Standings.{IsClosed}
-use Rattle.farm_serve.specs.declared.standing.Standing.{Standing}
+use Rattle.farm_serve.specs.declared.standing.ServeState.{ServeState}
 use Rattle.farm_serve.proofs.serving.serve_farm.Goals as goal
 
 -- the pass and the mark of totals have seen the first history
@@ -36,7 +36,7 @@ returns-clause-comes g c =
     comes g.J.Naming.entry _ g.J.Naming.gives _ (noted_by last.1)
     (acknowledged_by (g.D.Disk.tells store.disk) (g.D.Disk.told store.disk)) _ _ (owned_by last.1)
     last.1.stake.lending _ _ _ c.requires.entry
-    (subst (λ (s : Standing). IsClosed s ⊎ (s.short ≡ true)) (sym c.finish-network.ensures.standing)
+    (subst (λ (s : ServeState). IsClosed s ⊎ (s.short ≡ true)) (sym c.finish-network.ensures.standing)
     c.serve_rest.ensures.closed)
     c.finish-network.ensures.begins
     record {

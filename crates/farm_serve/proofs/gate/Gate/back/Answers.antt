@@ -11,7 +11,7 @@ use Rattle.farm_serve.proofs.Owners.{owned_back, staked_back}
 use Rattle.farm_serve.proofs.Steps.{same_accepts, serving_back}
 use Rattle.farm_serve.specs.Nexts.{IsReaderOf}
 use Rattle.farm_serve.specs.Serving.{IsStaked}
-use Rattle.farm_serve.specs.declared.standing.Standing.{Standing}
+use Rattle.farm_serve.specs.declared.standing.ServeState.{ServeState}
 use Rattle.farm_serve.proofs.gate.Gate.back.Goals as goal
 
 pub invariant_of-self : goal.invariant_of-self
@@ -54,7 +54,7 @@ invariant_of-self g c =
       c.self.invariant.1,
       subst (λ (n : ℕ). IsStaked g.J.Naming.entry c.join.new.pass c.sub.new.self.total n)
           (sym
-          (ap (λ (s : Standing). s.left) c.note.ensures
+          (ap (λ (s : ServeState). s.left) c.note.ensures
           ∙ (same_accepts c.args.served c.self.inside.standing).left))
           staked,
     )
