@@ -209,6 +209,15 @@ exit $status
                 self.assert_clean()
                 shutil.rmtree(os.path.join(self.repo, ".git", "culprit"))
 
+    def test_a_search_is_given_up_though_git_fails_at_first(self) -> None:
+        self.make(5, 3)
+        ended = self.shell("good..main", "-q", env=self.git_that("exit 1", "worktree list"))
+        self.assertEqual(ended.status, 3, ended.err)
+        ended = self.culprit("--abort", env=self.git_that("exit 1", "worktree list"))
+        self.assertEqual((ended.status, ended.err), (3, "git culprit: no answer: git: it ended with 1\n"))
+        self.assertEqual(self.culprit("--abort").status, 0)
+        self.assert_clean()
+
     def test_a_killed_search_of_a_repository_that_moves(self) -> None:
         self.make(5, 3, lambda _: {".gitmodules": "# none\n"})
         once = os.path.join(self.folder, "once")
