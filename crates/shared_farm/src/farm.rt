@@ -3,7 +3,7 @@ ghost use Rattle.std.specs.Prelude.{◌≡◌, ◌≤◌, ◌<◌, ◌↔◌, �
 ghost use Rattle.entry_codec.specs.LogPage.{log_page};
 ghost use Rattle.farm_store.specs.declared.asking.TheConstants.{MAX_BATCH};
 ghost use Rattle.list_prefix.specs.Prefix.{IsPrefix, longer};
-ghost use Rattle.turn_lock.specs.Known.{IsOwned, IsReady, all_parts, both_pending, both_stakes, first_stake, no_turn};
+ghost use Rattle.turn_lock.specs.Known.{IsOwned, IsReady, IsSettled, all_parts, both_pending, both_stakes, first_stake, no_turn};
 ghost use Rattle.turn_lock.specs.Known.{stake_given, stake_kept};
 ghost use Rattle.turn_lock.specs.Loans.{HasOut};
 ghost use Rattle.turn_lock.specs.Places.{ArePlaces, both_places};
@@ -345,6 +345,7 @@ impl<D: DatedDisk, B: Beginning> SharedFarm<D, B> {
         requires ready { IsReady self pass }
         ensures seen { IsPrefix pass.seen result.history }
         ensures faults { pass.faults ≤ D.count result.disk }
+        ensures settled { IsSettled pass.pending pass.faults (D.count result.disk) result.pending }
         ensures came { IfSome B.begun (λ begun. CameBy D.Disk begun result) }
         ensures logged { D.tells result.disk ≡ true → AreLogged result.history (D.told result.disk) pass.rows }
         ensures owned { pass.stake.parts ≡ all_parts → IsOwned pass.mine pass.stake.undecided result.history }

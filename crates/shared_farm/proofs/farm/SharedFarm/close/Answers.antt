@@ -1,7 +1,8 @@
 use Rattle.std.proofs.Common.{List, ap, sym, subst, ◌∙◌}
 use Rattle.farm_entry.specs.declared.entry.Entry.{Entry}
+use Rattle.farm_store.specs.State.{StoreState}
 use Rattle.past_moments.specs.Rows.{AreAmong}
-use Rattle.turn_lock.specs.Known.{IsOwned}
+use Rattle.turn_lock.specs.Known.{IsOwned, IsSettled}
 use Rattle.shared_farm.specs.Logs.{LockedState}
 use Rattle.shared_farm.proofs.Logging.{logged-among}
 use Rattle.shared_farm.proofs.farm.SharedFarm.close.Goals as goal
@@ -21,3 +22,10 @@ returns-clause-owned g c = λ all.
     (ap (λ (l : LockedState g.row.D.Denot). l.store.history) (sym c.into_inner.ensures)
     ∙ ap (λ s. s.history) (sym c.into_store.ensures.same))
     (c.close.ensures.owned all)
+
+pub returns-clause-settled : goal.returns-clause-settled
+returns-clause-settled g c =
+    let pass = c.args.pass in
+    subst (λ (s : StoreState g.row.D.Denot). IsSettled pass.pending pass.faults (g.D.Disk.count s.disk) s.pending)
+    (ap (λ (l : LockedState g.row.D.Denot). l.store) (sym c.into_inner.ensures) ∙ sym c.into_store.ensures.same)
+    c.close.ensures.settled
