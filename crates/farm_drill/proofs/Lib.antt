@@ -14,3 +14,9 @@ mod Missing
 mod Rest
 mod Played
 mod Crossing
+mod Planned
+mod Deciding
+mod Handed
+mod Turns
+mod Passes
+mod Work

@@ -5,4 +5,6 @@ pub mod Asked
 pub mod Steps
 pub mod Free
 pub mod Reported
+pub mod Planned
+pub mod Passes
 pub mod Work

@@ -1,8 +1,10 @@
 //! The workers of a drill, each in a thread of its own.
-ghost use Rattle.std.specs.Prelude.{◌≡◌, ◌<◌, ◌≤◌, ◌++◌, [], IfOk};
+ghost use Rattle.std.specs.Prelude.{◌≡◌, ◌<◌, ◌++◌, [], IfOk};
 ghost use Rattle.list_prefix.specs.Prefix.{IsPrefix};
 ghost use Rattle.shared_farm.specs.Rests.{IsByCommands};
 ghost use Rattle.turn_lock.specs.Known.{IsReady};
+ghost use Rattle.farm_drill.specs.Passes.{IsByPlan, KeepsPlan};
+ghost use Rattle.farm_drill.specs.Planned.{GoesByPlan};
 
 use crate::farm::DrillFarm;
 use crate::worker::{Ended, work};
@@ -16,14 +18,15 @@ use std::sync::Wait;
 use std::thread;
 use std::thread::{Promise, Scope, Threads};
 
-/// A worker gives back a pass of the lock of this one, and the pass holds no turn.
+/// A worker gives back a pass of the lock of this one, which holds no turn, and keeps of it what a worker does.
 #[derive(Drop)]
 struct SameLock(Snapshot<Pass>);
 
 impl Promise<(Pass, Ended)> for SameLock {
     ghost use Rattle.turn_lock.specs.Known.{IsReady};
+    ghost use Rattle.farm_drill.specs.Passes.{KeepsPlan};
 
-    ghost kept_by = { λ p given. IsReady p.0.value.lock given.0 };
+    ghost kept_by = { λ p given. IsReady p.0.value.lock given.0 × KeepsPlan p.0.value given.0 };
 }
 
 /// Shares the farm of a store among so many workers, and closes it when all have ended.
@@ -35,8 +38,11 @@ pub(crate) fn run_workers<R: Threads + Wait + Sync>(
 ) -> Result<Store<CalmDisk>, Memory>
     requires by_commands { IsByCommands (store.history ++ store.pending) }
     requires decided { store.pending ≡ [] }
+    requires planned { GoesByPlan store.history }
+    ensures decided { IfOk result (λ left. left.pending ≡ []) }
+    ensures planned { IfOk result (λ left. GoesByPlan left.history) }
     ensures longer { IfOk result (λ left. IsPrefix store.history left.history) }
-    ensures by_commands { IfOk result (λ left. IsByCommands (left.history ++ left.pending)) }
+    ensures by_commands { IfOk result (λ left. IsByCommands left.history) }
 {
     let Ok((farm, pass)) = DrillFarm::of(alloc, store) else {
         return Err(Memory);
@@ -57,16 +63,18 @@ fn run_all<R: Threads + Wait + Sync>(
     pass: Pass,
     workers: u32,
 ) -> (Pass, Ended)
-    requires { IsReady farm.now pass × (workers < pass.stake.parts) }
+    requires ready { IsReady farm.now pass }
+    requires parts { workers < pass.stake.parts }
+    requires by_plan { IsByPlan pass }
     ensures ready { IsReady farm.entry.now result.0 }
-    ensures longer { IsPrefix pass.seen result.0.seen }
+    ensures keeps { KeepsPlan pass result.0 }
 {
     thread::scope(
         thread::scope_env(),
         rt,
         |scope| -> (Pass, Ended)
-            requires { IsReady farm.now pass × (workers < pass.stake.parts) }
-            ensures { IsReady farm.entry.now result.0 × IsPrefix pass.seen result.0.seen }
+            requires { IsReady farm.now pass × (workers < pass.stake.parts) × IsByPlan pass }
+            ensures { IsReady farm.entry.now result.0 × KeepsPlan pass result.0 }
         { start_all(scope, rt, alloc, farm, pass, workers) },
     )
 }
@@ -81,9 +89,11 @@ fn start_all<'s, E, R: Threads + Wait + Sync>(
     pass: Pass,
     workers: u32,
 ) -> (Pass, Ended)
-    requires { IsReady farm.now pass × (workers < pass.stake.parts) }
+    requires ready { IsReady farm.now pass }
+    requires parts { workers < pass.stake.parts }
+    requires by_plan { IsByPlan pass }
     ensures ready { IsReady farm.entry.now result.0 }
-    ensures longer { IsPrefix pass.seen result.0.seen }
+    ensures keeps { KeepsPlan pass result.0 }
 {
     let mut pass = pass;
     if workers == 0 {

@@ -12,6 +12,7 @@ ghost use Rattle.farm_types.specs.declared.key.Key.{Key};
 ghost use Rattle.farm_entry.specs.Legal.{IsLegal};
 ghost use Rattle.shared_farm.specs.Rests.{IsByCommands};
 ghost use Rattle.farm_drill.specs.Ends.{AllReported, IsFull};
+ghost use Rattle.farm_drill.specs.Planned.{GoesByPlan};
 ghost use Rattle.farm_drill.specs.Reported.{AreRunsMarked, is_marked, unmarked};
 
 use crate::asking::ask;
@@ -36,6 +37,7 @@ pub(crate) fn report(
     requires by_commands { IsByCommands store.old.history }
     ensures said { let report = Report lease.run (planned_verdict lease.search lease.position) in
         OnOk result (store.new.history ≡ after store.old.history (decide store.old.history report drill_moment)) }
+    ensures planned { GoesByPlan store.old.history → OnOk result (GoesByPlan store.new.history) }
     ensures reported { IfOk result
         (λ done. MatchBool done (is_reported store.new.history lease.run ≡ true) (IsFull store.new.history)) }
     ensures leases { OnOk result (all_leases store.new.history ≡ all_leases store.old.history) }
@@ -60,6 +62,8 @@ pub(crate) fn report_missing(alloc: Global, store: &mut Store<CalmDisk>) -> Resu
     requires decided { store.old.pending ≡ [] }
     requires legal { IsLegal store.old.history }
     requires by_commands { IsByCommands store.old.history }
+    requires planned { GoesByPlan store.old.history }
+    ensures planned { OnOk result (GoesByPlan store.new.history) }
     ensures reported { IfOk result (λ all. MatchBool all (AllReported store.new.history) (IsFull store.new.history)) }
     ensures keys { OnOk result ((key : Key) → place_of_key store.old.history key ≡ None
         → place_of_key store.new.history key ≡ None) }

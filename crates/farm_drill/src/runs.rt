@@ -7,6 +7,7 @@ ghost use Rattle.drill_plan.specs.Start.{drill_founding};
 ghost use Rattle.shared_farm.specs.Rests.{IsByCommands};
 ghost use Rattle.farm_drill.specs.Ends.{AllReported, AreRun, IsFull};
 ghost use Rattle.farm_drill.specs.Free.{AreFree};
+ghost use Rattle.farm_drill.specs.Planned.{GoesByPlan};
 ghost use Rattle.farm_types.specs.declared.key.Key.{Key as FarmKey};
 ghost use Rattle.farm_core.specs.Outcome.{handed_out};
 ghost use Rattle.farm_drill.specs.Steps.{FindsNone, HandsOut, run_given};
@@ -22,11 +23,14 @@ use farm_store::Store;
 use farm_types::{Key, Memory};
 use std::alloc::Global;
 
-/// Decides what is pending, reports the runs that have no report, and leases and reports until no run is due or the
-/// history is full. It gives keys that stand in no entry.
+/// Reports the runs that have no report, and leases and reports until no run is due or the history is full. It gives
+/// keys that stand in no entry.
 pub(crate) fn end_runs(alloc: Global, store: &mut Store<CalmDisk>) -> Result<Keys, Memory>
     requires founded { IsPrefix (drill_founding ∷ []) store.old.history }
-    requires by_commands { IsByCommands (store.old.history ++ store.old.pending) }
+    requires decided { store.old.pending ≡ [] }
+    requires by_commands { IsByCommands store.old.history }
+    requires planned { GoesByPlan store.old.history }
+    ensures planned { OnOk result (GoesByPlan store.new.history) }
     ensures ended { OnOk result (IsFull store.new.history ⊎ AreRun store.new.history) }
     ensures free { IfOk result (λ keys. AreFree store.new.history keys) }
     ensures decided { OnOk result (store.new.pending ≡ []) }
@@ -34,7 +38,6 @@ pub(crate) fn end_runs(alloc: Global, store: &mut Store<CalmDisk>) -> Result<Key
     ensures legal { OnOk result (IsLegal store.new.history) }
     ensures by_commands { OnOk result (IsByCommands store.new.history) }
 {
-    let _shown = ask(alloc, store, &Command::ShowFarm, drill_moment())?;
     let found = look_through(alloc, store.history())?;
     let Found { keys, reported } = found;
     let mut keys = keys;
@@ -52,6 +55,8 @@ fn report_rest(alloc: Global, store: &mut Store<CalmDisk>, reported: bool) -> Re
     requires reported { reported ≡ true → AllReported store.old.history }
     requires legal { IsLegal store.old.history }
     requires by_commands { IsByCommands store.old.history }
+    requires planned { GoesByPlan store.old.history }
+    ensures planned { OnOk result (GoesByPlan store.new.history) }
     ensures reported { IfOk result (λ all. MatchBool all (AllReported store.new.history) (IsFull store.new.history)) }
     ensures keys { OnOk result ((key : FarmKey) → place_of_key store.old.history key ≡ None
         → place_of_key store.new.history key ≡ None) }
@@ -74,6 +79,8 @@ fn lease_rest(alloc: Global, store: &mut Store<CalmDisk>, keys: &mut Keys) -> Re
     requires legal { IsLegal store.old.history }
     requires by_commands { IsByCommands store.old.history }
     requires free { AreFree store.old.history keys.old }
+    requires planned { GoesByPlan store.old.history }
+    ensures planned { OnOk result (GoesByPlan store.new.history) }
     ensures ended { OnOk result (IsFull store.new.history ⊎ AreRun store.new.history) }
     ensures free { OnOk result (AreFree store.new.history keys.new) }
     ensures decided { OnOk result (store.new.pending ≡ []) }

@@ -8,6 +8,7 @@ ghost use Rattle.drill_plan.specs.declared.limits.TheConstants.{MAX_WORKERS};
 ghost use Rattle.shared_farm.specs.Rests.{IsByCommands};
 ghost use Rattle.farm_drill.specs.Drilled.{IsDrilled};
 ghost use Rattle.farm_drill.specs.Line.{drill_line};
+ghost use Rattle.farm_drill.specs.Planned.{GoesByPlan};
 
 use crate::crew::run_workers;
 use crate::line::drill_line;
@@ -53,7 +54,9 @@ pub fn drill<R: Threads + Wait + Sync>(
 /// Does what is left once the workers have ended, and gives the line.
 fn end_drill(alloc: Global, store: &mut Store<CalmDisk>) -> Result<String, Memory>
     requires founded { IsPrefix (drill_founding ∷ []) store.old.history }
-    requires by_commands { IsByCommands (store.old.history ++ store.old.pending) }
+    requires by_commands { IsByCommands store.old.history }
+    requires decided { store.old.pending ≡ [] }
+    requires planned { GoesByPlan store.old.history }
     ensures line { IfOk result (λ line. string_bytes line ≡ drill_line store.new.history) }
     ensures drilled { OnOk result ((searches : ℕ) (start : List Entry) → IsStart searches start
         → IsPrefix start store.old.history → IsDrilled searches store.new.history) }

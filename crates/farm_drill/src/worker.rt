@@ -1,8 +1,11 @@
 //! A worker of a drill.
-ghost use Rattle.std.specs.Prelude.{◌≡◌, Ok, IfSome};
+ghost use Rattle.std.specs.Prelude.{◌≡◌, Ok, Some, None, List, IfOk, IfSome};
+ghost use Rattle.farm_entry.specs.declared.entry.Entry.{Entry as FarmEntry};
 ghost use Rattle.turn_lock.specs.Known.{IsReady};
 ghost use Rattle.drill_plan.specs.Plan.{planned_verdict};
-ghost use Rattle.farm_drill.specs.Work.{TakesLease};
+ghost use Rattle.farm_drill.specs.Passes.{IsByPlan, KeepsPlan};
+ghost use Rattle.farm_drill.specs.Planned.{AsksByPlan};
+ghost use Rattle.farm_drill.specs.Work.{ActsByPlan, CameByPlan, IsLease, IsRun, IsTestedByPlan, TakesLease};
 
 use crate::farm::DrillFarm;
 use crate::names::{drill_moment, worker_name};
@@ -65,7 +68,10 @@ pub(crate) struct Worker {
 
 impl Worker {
     /// A worker that did nothing yet, and leases as many runs as a farm may hand out.
-    fn start(alloc: Global, number: u32) -> Result<Worker, Memory> {
+    fn start(alloc: Global, number: u32) -> Result<Worker, Memory>
+        ensures last { IfOk result (λ worker. worker.core.last ≡ None) }
+        ensures asks { IfOk result (λ worker. IsLease worker.request) }
+    {
         Ok(Worker {
             number,
             request: Command::Lease {
@@ -78,10 +84,14 @@ impl Worker {
         })
     }
 
-    /// Leases, runs and reports until no run is due.
+    /// Leases, runs and reports until no run is due. What it reports of a run is what the plan says of it.
     fn run<R: Wait>(&mut self, rt: &R, alloc: Global, farm: &DrillFarm, pass: &mut Pass) -> Ended
-        requires { IsReady farm.now pass.old }
-        ensures { IsReady farm.entry.now pass.new }
+        requires ready { IsReady farm.now pass.old }
+        requires by_plan { IsByPlan pass.old }
+        requires last { self.old.core.last ≡ None }
+        requires asks { IsLease self.old.request }
+        ensures ready { IsReady farm.entry.now pass.new }
+        ensures keeps { KeepsPlan pass.old pass.new }
     {
         let mut event = Event::Begin;
         for _ in rt.forever() {
@@ -103,8 +113,16 @@ impl Worker {
         pass: &mut Pass,
         action: Action,
     ) -> Result<Event, Ended>
-        requires { IsReady farm.now pass.old }
-        ensures { IsReady farm.entry.now pass.new }
+        requires ready { IsReady farm.now pass.old }
+        requires by_plan { IsByPlan pass.old }
+        requires acts { ActsByPlan pass.old.seen self.old.held (Some action) }
+        requires asks { IsLease self.old.request }
+        ensures ready { IsReady farm.entry.now pass.new }
+        ensures keeps { KeepsPlan pass.old pass.new }
+        ensures core { self.new.core ≡ self.old.core }
+        ensures asks { IsLease self.new.request }
+        ensures acts { ActsByPlan pass.new.seen self.new.held (Some action) }
+        ensures came { IfOk result (CameByPlan pass.new.seen self.new.held (Some action)) }
     {
         match action {
             Action::Draw => Ok(Event::Drew(self.draw())),
@@ -116,9 +134,24 @@ impl Worker {
     }
 
     /// The next key: the worker's number in the high half, and the number of the key in the low one.
-    fn draw(&mut self) -> Key {
+    fn draw(&mut self) -> Key
+        ensures core { self.new.core ≡ self.old.core }
+        ensures held { self.new.held ≡ self.old.held }
+        ensures request { self.new.request ≡ self.old.request }
+    {
         self.drawn = self.drawn.saturating_add(1);
         Key((u128::from(self.number) << 64) | u128::from(self.drawn))
+    }
+
+    /// Puts a key into the command by which it leases.
+    fn put_key(&mut self, key: Key)
+        requires { IsLease self.old.request }
+        ensures asks { IsLease self.new.request }
+        ensures core { self.new.core ≡ self.old.core }
+    {
+        if let Command::Lease { key: last, .. } = &mut self.request {
+            *last = key;
+        }
     }
 
     /// Asks for a run.
@@ -130,12 +163,16 @@ impl Worker {
         pass: &mut Pass,
         key: Key,
     ) -> Result<Event, Ended>
-        requires { IsReady farm.now pass.old }
-        ensures { IsReady farm.entry.now pass.new }
+        requires ready { IsReady farm.now pass.old }
+        requires by_plan { IsByPlan pass.old }
+        requires asks { IsLease self.old.request }
+        ensures ready { IsReady farm.entry.now pass.new }
+        ensures keeps { KeepsPlan pass.old pass.new }
+        ensures core { self.new.core ≡ self.old.core }
+        ensures asks { IsLease self.new.request }
+        ensures came { IfOk result (CameByPlan pass.new.seen self.new.held (Some (Action.AskLease key))) }
     {
-        if let Command::Lease { key: last, .. } = &mut self.request {
-            *last = key;
-        }
+        self.put_key(key);
         match farm.enter(rt, alloc, pass, &self.request, drill_moment()) {
             Ok(run) => self.take(run),
             Err(CallFault::Refused(Refusal::NoRun)) => Ok(Event::Nothing),
@@ -145,7 +182,9 @@ impl Worker {
 
     /// Takes the run that was handed out, if one was.
     fn take(&mut self, run: Option<LeasedRun>) -> Result<Event, Ended>
-        ensures { TakesLease run result self.new.held }
+        ensures takes { TakesLease run result self.new.held }
+        ensures core { self.new.core ≡ self.old.core }
+        ensures request { self.new.request ≡ self.old.request }
     {
         match run {
             Some(lease) => {
@@ -161,8 +200,9 @@ impl Worker {
 
     /// Runs the test of the run that was leased last.
     fn test(&self) -> Result<Event, Ended>
-        ensures { IfSome self.now.held
+        ensures some { IfSome self.now.held
             (λ held. result ≡ Ok (Event.Ran (Tested.Verdict (planned_verdict held.search held.position)))) }
+        ensures run { IfOk result (IsRun self.now.held) }
     {
         match self.held {
             Some(held) => {
@@ -174,7 +214,17 @@ impl Worker {
     }
 }
 
-/// Reports what a test came to.
+/// The command that reports what a test came to.
+fn report_of(run: u32, tested: Tested) -> Command
+    ensures { (H : List FarmEntry) → IsTestedByPlan H run tested → AsksByPlan H result }
+{
+    match tested {
+        Tested::Verdict(verdict) => Command::Report { run, verdict },
+        Tested::Untestable => Command::Skip { run },
+    }
+}
+
+/// Reports what a test came to, which is what the plan says of the run.
 fn report<R: Wait>(
     rt: &R,
     alloc: Global,
@@ -183,13 +233,13 @@ fn report<R: Wait>(
     run: u32,
     tested: Tested,
 ) -> Result<Event, Ended>
-    requires { IsReady farm.now pass.old }
-    ensures { IsReady farm.entry.now pass.new }
+    requires ready { IsReady farm.now pass.old }
+    requires by_plan { IsByPlan pass.old }
+    requires tested { IsTestedByPlan pass.old.seen run tested }
+    ensures ready { IsReady farm.entry.now pass.new }
+    ensures keeps { KeepsPlan pass.old pass.new }
 {
-    let command = match tested {
-        Tested::Verdict(verdict) => Command::Report { run, verdict },
-        Tested::Untestable => Command::Skip { run },
-    };
+    let command = report_of(run, tested);
     match farm.enter(rt, alloc, pass, &command, drill_moment()) {
         Ok(_) => Ok(Event::Noted),
         Err(fault) => Err(Ended::from(fault)),
@@ -204,13 +254,15 @@ pub(crate) fn work<R: Wait>(
     pass: Pass,
     number: u32,
 ) -> (Pass, Ended)
-    requires { IsReady farm.now pass }
-    ensures { IsReady farm.entry.now result.0 }
+    requires ready { IsReady farm.now pass }
+    requires by_plan { IsByPlan pass }
+    ensures ready { IsReady farm.entry.now result.0 }
+    ensures keeps { KeepsPlan pass result.0 }
 {
-    let mut pass = pass;
-    let ended = match Worker::start(alloc, number) {
-        Ok(mut worker) => worker.run(rt, alloc, farm, &mut pass),
-        Err(_) => Ended::Memory,
+    let Ok(mut worker) = Worker::start(alloc, number) else {
+        return (pass, Ended::Memory);
     };
+    let mut pass = pass;
+    let ended = worker.run(rt, alloc, farm, &mut pass);
     (pass, ended)
 }

@@ -9,6 +9,7 @@ use Rattle.farm_entry.specs.declared.entry.Entry.{Entry}
 use Rattle.drill_plan.specs.Plan.{planned_verdict}
 use Rattle.shared_farm.proofs.ByCommands.{by-whole}
 use Rattle.farm_drill.specs.Ends.{IsFull}
+use Rattle.farm_drill.proofs.Deciding.{reported-goes}
 use Rattle.farm_drill.proofs.Steps.{asked-after, report-says}
 use Rattle.farm_drill.proofs.reporting.report.Goals as goal
 
@@ -21,6 +22,16 @@ returns-clause-said c =
     ∙ ap (λ (v : Verdict). after H (decide H (Report lease.run v) c.drill_moment.result)) c.planned_verdict.ensures
     ∙ ap (λ (m : Moment). after H (decide H (Report lease.run (planned_verdict lease.search lease.position)) m))
     c.drill_moment.ensures
+
+pub returns-clause-planned : goal.returns-clause-planned
+returns-clause-planned c goes =
+    let H : List Entry = c.args.store.now.history in
+    let lease = c.args.lease in
+    reported-goes H c.ask.new.store.history lease c.drill_moment.result c.requires.legal c.requires.lease
+    (asked-after H c.ask.new.store.history (Report lease.run c.planned_verdict.result) c.drill_moment.result
+    c.in_ok-given.given (c.in_ok-given.ensures.says c.requires.decided)
+    ∙ ap (λ (v : Verdict). after H (decide H (Report lease.run v) c.drill_moment.result)) c.planned_verdict.ensures)
+    goes
 
 pub returns-clause-reported : goal.returns-clause-reported
 returns-clause-reported c =

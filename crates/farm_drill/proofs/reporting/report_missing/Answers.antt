@@ -39,6 +39,7 @@ loop-lease-preserved c =
       decided = c.in_ok-report.ensures.decided;
       legal = c.report.ensures.legal;
       by_commands = c.in_ok-report.ensures.by_commands;
+      planned = c.in_ok-report.ensures.planned c.loop-lease.invariant.planned;
       longer = prefix-trans c.args.store.now.history G new c.loop-lease.invariant.longer c.report.ensures.longer;
       leases = c.in_ok-report.ensures.leases ∙ c.loop-lease.invariant.leases;
       keys = λ key none. c.in_ok-report.ensures.keys key (c.loop-lease.invariant.keys key none);
@@ -58,3 +59,6 @@ returns-clause-reported c =
     c.in_ok-marks.ensures in
     missing-done H c.loop-lease.store.history c.in_ok-marks.marks.items items c.loop-lease.lease-index marked are
     c.loop-lease.invariant.longer c.loop-lease.invariant.leases (omega arith) c.loop-lease.invariant.reported
+
+pub returns-then-not-branch-clause-planned : goal.returns-then-not-branch-clause-planned
+returns-then-not-branch-clause-planned c = c.in_ok-report.ensures.planned c.loop-lease.invariant.planned

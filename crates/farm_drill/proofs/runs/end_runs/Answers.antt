@@ -14,24 +14,21 @@ report_rest-requires-clause-reported c is =
 
 pub lease_rest-requires-clause-founded : goal.lease_rest-requires-clause-founded
 lease_rest-requires-clause-founded c =
-    let H : List Entry = c.args.store.now.history in
-    let mid : List Entry = c.ask.new.store.history in
-    let new : List Entry = c.report_rest.new.store.history in
-    prefix-trans (drill_founding ∷ []) H new c.requires.founded
-    (prefix-trans H mid new c.ask.ensures.longer c.report_rest.ensures.longer)
+    prefix-trans (drill_founding ∷ []) c.args.store.now.history c.report_rest.new.store.history c.requires.founded
+    c.report_rest.ensures.longer
 
 pub lease_rest-requires-clause-free : goal.lease_rest-requires-clause-free
 lease_rest-requires-clause-free c =
-    let mid : List Entry = c.ask.new.store.history in
+    let H : List Entry = c.args.store.now.history in
     let keys = c.in_ok-found.found.keys in
     let free = subst (λ (G : List Entry). AreFree G keys) c.history.ensures.value
     (free-marked c.history.result.now keys c.in_ok-found.ensures.marked) in
-    free-on mid c.report_rest.new.store.history keys free c.in_ok-report_rest.ensures.keys
+    free-on H c.report_rest.new.store.history keys free c.in_ok-report_rest.ensures.keys
 
 pub returns-then-not-branch-clause-free : goal.returns-then-not-branch-clause-free
 returns-then-not-branch-clause-free c =
-    let mid : List Entry = c.ask.new.store.history in
+    let H : List Entry = c.args.store.now.history in
     let keys = c.in_ok-found.found.keys in
     let free = subst (λ (G : List Entry). AreFree G keys) c.history.ensures.value
     (free-marked c.history.result.now keys c.in_ok-found.ensures.marked) in
-    free-on mid c.report_rest.new.store.history keys free c.in_ok-report_rest.ensures.keys
+    free-on H c.report_rest.new.store.history keys free c.in_ok-report_rest.ensures.keys

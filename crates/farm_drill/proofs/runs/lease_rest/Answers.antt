@@ -6,7 +6,9 @@ use Rattle.farm_entry.specs.declared.lease.LeasedRun.{LeasedRun}
 use Rattle.drill_plan.specs.Start.{drill_founding}
 use Rattle.farm_drill.specs.Ends.{IsFull}
 use Rattle.farm_drill.specs.Free.{AreFree}
+use Rattle.farm_drill.specs.Planned.{GoesByPlan}
 use Rattle.farm_drill.specs.Steps.{FindsNone, HandsOut}
+use Rattle.farm_drill.proofs.Deciding.{handed-goes}
 use Rattle.farm_drill.proofs.Growing.{prefix-trans}
 use Rattle.farm_drill.proofs.Rest.{IsRestOn, handed-there, rest-ended, rest-on}
 use Rattle.farm_drill.proofs.runs.lease_rest.Goals as goal
@@ -17,10 +19,21 @@ loop-key-init c = record {
   founded = c.requires.founded;
   legal = c.requires.legal;
   by_commands = c.requires.by_commands;
+  planned = c.requires.planned;
   reported = c.requires.reported;
   longer = ([], sym (append-nil c.args.store.now.history));
   free = c.requires.free;
 }
+
+-- the history goes by the plan once the run is leased, and once it is reported too
+goes : (c : goal.Else-not-branch) → GoesByPlan c.report.new.store.history
+goes c =
+    let H : List Entry = c.loop-key.store.history in
+    let mid : List Entry = c.lease.new.store.history in
+    let key : Key = c.in_ok-key.key in
+    let handed = subst (λ (o : Option LeasedRun). IfSome o (λ (l : LeasedRun). HandsOut H key l mid)) c.in-Some.is
+    c.in_ok-lease.ensures.leased in
+    c.in_ok-report-in-Some.ensures.planned (handed-goes H mid key c.in-Some.lease handed c.loop-key.invariant.planned)
 
 -- what holds once the run that was leased is reported
 rest : (c : goal.Else-not-branch) → IsRestOn c.loop-key.store.history c.report.new.store.history c.fresh.new.self
@@ -50,6 +63,7 @@ loop-key-preserved c =
       founded = prefix-trans (drill_founding ∷ []) H new c.loop-key.invariant.founded more;
       legal = c.report.ensures.legal;
       by_commands = c.in_ok-report-in-Some.ensures.by_commands;
+      planned = goes c;
       reported = on.reported;
       longer = prefix-trans c.args.store.now.history H new c.loop-key.invariant.longer more;
       free = on.free;
@@ -84,3 +98,12 @@ returns-in-None-clause-free c =
     c.in_ok-lease.ensures.none in
     subst (λ (G : List Entry). AreFree G c.fresh.new.self) (c.history.ensures.value ∙ sym none.0)
     c.in_ok-key.ensures.still
+
+pub returns-then-not-branch-clause-planned : goal.returns-then-not-branch-clause-planned
+returns-then-not-branch-clause-planned c =
+    let H : List Entry = c.loop-key.store.history in
+    let mid : List Entry = c.lease.new.store.history in
+    let key : Key = c.in_ok-key.key in
+    let handed = subst (λ (o : Option LeasedRun). IfSome o (λ (l : LeasedRun). HandsOut H key l mid)) c.in-Some.is
+    c.in_ok-lease.ensures.leased in
+    c.in_ok-report-in-Some.ensures.planned (handed-goes H mid key c.in-Some.lease handed c.loop-key.invariant.planned)

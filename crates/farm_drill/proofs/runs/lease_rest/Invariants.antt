@@ -6,6 +6,7 @@ use Rattle.drill_plan.specs.Start.{drill_founding}
 use Rattle.shared_farm.specs.Rests.{IsByCommands}
 use Rattle.farm_drill.specs.Ends.{AllReported}
 use Rattle.farm_drill.specs.Free.{AreFree}
+use Rattle.farm_drill.specs.Planned.{GoesByPlan}
 use Rattle.farm_drill.proofs.runs.lease_rest.Given as goal
 
 abbrev pub invariant-loop-key : goal.invariant-loop-key
@@ -14,6 +15,7 @@ invariant-loop-key l = record {
   founded : IsPrefix (drill_founding ∷ []) l.store.history;
   legal : IsLegal l.store.history;
   by_commands : IsByCommands l.store.history;
+  planned : GoesByPlan l.store.history;
   reported : AllReported l.store.history;
   longer : IsPrefix l.fn.store.history l.store.history;
   free : AreFree l.store.history l.keys;

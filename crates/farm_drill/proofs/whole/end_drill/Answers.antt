@@ -23,7 +23,7 @@ returns-clause-drilled c searches start opened begins =
     (drilled searches start c.args.store.now.history c.end_runs.new.store.history c.take_reverts.new.store.history
     opened
     begins c.end_runs.ensures.longer c.in_ok-keys.ensures.ended c.in_ok-take_reverts.ensures.orders
-    c.in_ok-take_reverts.ensures.ended c.in_ok-take_reverts.ensures.legal)
+    c.in_ok-take_reverts.ensures.ended c.in_ok-take_reverts.ensures.legal c.in_ok-keys.ensures.planned)
 
 pub returns-clause-decided : goal.returns-clause-decided
 returns-clause-decided c =
