@@ -10,7 +10,7 @@ use std::marker::Model;
 
 /// The active searches, numbered from 1 as they are opened: those never leased by number, and then the others by when
 /// each was last leased.
-#[derive(Debug, Drop)]
+#[derive(Drop)]
 pub struct ActiveOrder {
     never: Ring,
     leased: Ring,

@@ -6,7 +6,7 @@ ghost use Rattle.active_order.specs.Rings.{after_of, before_of, IsLow, IsRing};
 ghost use Rattle.active_order.specs.Order.{has, put_behind, strike};
 
 /// The numbers right behind and right in front of one.
-#[derive(Clone, Copy, Debug)]
+#[derive(Clone, Copy)]
 pub(crate) struct Link {
     pub(crate) after: usize,
     pub(crate) before: usize,

@@ -10,7 +10,7 @@ use std::marker::Model;
 
 /// A list of numbers, each of them once. Contracts see the list, how many numbers were opened, 0 with them, and the
 /// room: how many more can be opened without memory.
-#[derive(Debug, Drop)]
+#[derive(Drop)]
 pub(crate) struct Ring {
     links: Vec<Link>,
 }

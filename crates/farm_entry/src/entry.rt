@@ -9,7 +9,7 @@ use weight_exact::Verdict;
 /// history, from 0.
 ///
 /// It takes 112 bytes, and its name a block of memory beside them, so that a million entries fit a machine.
-#[derive(Debug, PartialEq, Eq, Drop)]
+#[derive(PartialEq, Eq, Drop)]
 pub struct Entry {
     /// When it was recorded. Along a history moments never fall.
     pub at: Moment,
@@ -22,7 +22,7 @@ const _: () = prove!(size_of::<Entry>() <= 112);
 
 /// What an entry records. Searches, runs and orders are numbered from 1, each in the order of their entries. The
 /// numbers of an entry are plain: that they are the next ones is a matter of the history.
-#[derive(Debug, PartialEq, Eq, Drop)]
+#[derive(PartialEq, Eq, Drop)]
 pub enum What {
     /// The farm was founded, which is the first entry of each history and of it alone.
     Founded {
@@ -100,7 +100,7 @@ pub enum What {
 }
 
 /// What a report did to its search.
-#[derive(Clone, Copy, Debug, PartialEq, Eq, Hash)]
+#[derive(Clone, Copy, PartialEq, Eq, Hash)]
 pub enum Fate {
     /// It counts among the runs of the search, or among the reruns that verify it.
     Counted,
@@ -112,7 +112,7 @@ pub enum Fate {
 }
 
 /// What a report did to its search that says that the run's tree can't be tested.
-#[derive(Clone, Copy, Debug, PartialEq, Eq, Hash)]
+#[derive(Clone, Copy, PartialEq, Eq, Hash)]
 pub enum SkipFate {
     /// It closes the run's position: the search runs nothing there any more.
     Taken,

@@ -3,7 +3,7 @@ use farm_types::Stage;
 use weight_exact::Verdict;
 
 /// A run that was handed out, as its entry says.
-#[derive(Clone, Copy, Debug, PartialEq, Eq, Hash)]
+#[derive(Clone, Copy, PartialEq, Eq, Hash)]
 pub struct LeasedRun {
     /// The number of the run, from 1.
     pub run: u32,
@@ -18,7 +18,7 @@ pub struct LeasedRun {
 }
 
 /// The first report of a run, as its entry says.
-#[derive(Clone, Copy, Debug, PartialEq, Eq)]
+#[derive(Clone, Copy, PartialEq, Eq)]
 pub struct ReportedRun {
     /// The number of the run, from 1.
     pub run: u32,
@@ -29,7 +29,7 @@ pub struct ReportedRun {
 }
 
 /// The first report of a run whose tree can't be tested, as its entry says.
-#[derive(Clone, Copy, Debug, PartialEq, Eq)]
+#[derive(Clone, Copy, PartialEq, Eq)]
 pub struct SkippedRun {
     /// The number of the run, from 1.
     pub run: u32,
@@ -38,7 +38,7 @@ pub struct SkippedRun {
 }
 
 /// A run that can be handed out.
-#[derive(Clone, Copy, Debug, PartialEq, Eq, Hash)]
+#[derive(Clone, Copy, PartialEq, Eq, Hash)]
 pub struct DueRun {
     /// The search that the run is for.
     pub search: u32,

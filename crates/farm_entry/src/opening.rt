@@ -8,7 +8,7 @@ use std::ops::Deref;
 use suspect_range::SuspectRange;
 
 /// A search as it was opened: which test is searched, among which suspects, and by which rules.
-#[derive(Debug, PartialEq, Eq, Drop)]
+#[derive(PartialEq, Eq, Drop)]
 pub struct Opening {
     /// The key of the request.
     pub key: Key,
@@ -33,7 +33,7 @@ pub struct Opening {
 
 /// An opening on the heap, which takes no more than a pointer where it stands. Contracts see it as the [`Opening`]
 /// that it holds.
-#[derive(Debug, Drop)]
+#[derive(Drop)]
 pub struct BoxedOpening {
     opening: Box<Opening>,
 }

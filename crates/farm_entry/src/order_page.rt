@@ -2,7 +2,7 @@ use farm_types::{CommitId, Name};
 use item_list::ItemList;
 
 /// An order to revert a culprit, as it is shown.
-#[derive(Debug, PartialEq, Eq, Drop)]
+#[derive(PartialEq, Eq, Drop)]
 pub struct OrderLine {
     /// The number of the order, from 1.
     pub order: u32,

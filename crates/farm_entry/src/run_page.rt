@@ -4,7 +4,7 @@ use item_list::ItemList;
 use weight_exact::Verdict;
 
 /// What the first report of a run said, and what it did to the search.
-#[derive(Clone, Copy, Debug, PartialEq, Eq)]
+#[derive(Clone, Copy, PartialEq, Eq)]
 pub enum RunOutcome {
     /// The test gave a verdict.
     Tested(Verdict, Fate),
@@ -13,7 +13,7 @@ pub enum RunOutcome {
 }
 
 /// The first report of a run, as it is shown.
-#[derive(Clone, Copy, Debug, PartialEq, Eq)]
+#[derive(Clone, Copy, PartialEq, Eq)]
 pub struct RunReport {
     /// When it was recorded.
     pub at: Moment,
@@ -22,7 +22,7 @@ pub struct RunReport {
 }
 
 /// A run of a search, as it is shown.
-#[derive(Debug, PartialEq, Eq, Drop)]
+#[derive(PartialEq, Eq, Drop)]
 pub struct RunLine {
     /// The number of the run, from 1.
     pub run: u32,
@@ -43,7 +43,7 @@ pub struct RunLine {
 }
 
 /// The runs of a search, in the order in which they were handed out: a page of them.
-#[derive(Debug, PartialEq, Eq, Drop)]
+#[derive(PartialEq, Eq, Drop)]
 pub struct RunPage {
     /// The number of the search, from 1.
     pub search: u32,

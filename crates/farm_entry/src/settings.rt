@@ -15,7 +15,7 @@ pub const MAX_DAILY: u32 = 1_000;
 
 /// What a farm is founded with, and keeps: how long a lease lasts, how many orders to revert a day may have, and where
 /// its days begin.
-#[derive(Clone, Copy, Debug, PartialEq, Eq, Hash)]
+#[derive(Clone, Copy, PartialEq, Eq, Hash)]
 pub struct Settings {
     lease_ms: u32,
     daily: u32,

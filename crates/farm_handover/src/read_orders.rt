@@ -11,7 +11,7 @@ use revert_orders::Orders;
 use std::alloc::Global;
 
 /// The orders that were read so far, with their book, which tells whether a commit is among them.
-#[derive(Debug, Drop)]
+#[derive(Drop)]
 pub(crate) struct ReadOrders {
     list: Vec<OrderedCommit>,
     book: Orders,

@@ -5,7 +5,7 @@ use farm_disk::Memory;
 use std::marker::Model;
 
 /// The payload of a record, which contracts see as its bytes.
-#[derive(Debug, Drop)]
+#[derive(Drop)]
 pub struct Payload {
     bytes: Vec<u8>,
 }

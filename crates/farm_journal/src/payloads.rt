@@ -11,7 +11,7 @@ use std::marker::Model;
 ///
 /// They stand one behind the other in one block of memory, and the end of each beside them: opening a journal takes no
 /// block for each payload.
-#[derive(Debug, Drop)]
+#[derive(Drop)]
 pub struct Payloads {
     bytes: Vec<u8>,
     ends: Vec<usize>,

@@ -15,7 +15,7 @@ use revert_orders::{Orders, day_of};
 
 /// What is kept of a search beside its state: the place of the entry that opened it, and how many of its runs were
 /// handed out.
-#[derive(Clone, Copy, Debug)]
+#[derive(Clone, Copy)]
 pub(crate) struct Row {
     pub(crate) place: u32,
     pub(crate) leases: u32,

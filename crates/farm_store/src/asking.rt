@@ -22,7 +22,7 @@ pub const MAX_RECORD_BYTES: usize = MAX_PAYLOAD;
 pub const MAX_SHORT_ENTRY_BYTES: usize = 258;
 
 /// A command, and the moment at which it is asked.
-#[derive(Debug, Drop)]
+#[derive(Drop)]
 pub struct Ask {
     /// What is asked.
     pub command: Command,
@@ -46,7 +46,7 @@ impl Ask {
 pub type Answers = ItemList<Answer>;
 
 /// The asks of one caller among those who share a record, and what they were answered.
-#[derive(Debug, Drop)]
+#[derive(Drop)]
 pub struct Part {
     /// What is asked.
     pub asks: Vec<Ask>,

@@ -14,7 +14,7 @@ pub const ID_DIGITS: usize = 40;
 
 /// The id of a commit: 20 bytes, which git writes as 40 hexadecimal digits. Ids are equal exactly where their bytes
 /// are, and are ordered as their bytes are, the first byte first.
-#[derive(Clone, Copy, Debug, PartialEq, Eq, PartialOrd, Ord, Hash)]
+#[derive(Clone, Copy, PartialEq, Eq, PartialOrd, Ord, Hash)]
 pub struct CommitId {
     bytes: [u8; ID_BYTES],
     ghost whole: { length bytes ≡ ID_BYTES },

@@ -15,7 +15,7 @@ pub const LAST_DAY: u32 = 47_482;
 
 /// A moment in time: milliseconds since 1970-01-01 in UTC with no leap seconds, from [`MOMENT_MIN_MS`] to
 /// [`MOMENT_MAX_MS`]. Moments are ordered as their numbers are.
-#[derive(Clone, Copy, Debug, PartialEq, Eq, PartialOrd, Ord, Hash)]
+#[derive(Clone, Copy, PartialEq, Eq, PartialOrd, Ord, Hash)]
 pub struct Moment {
     ms: u64,
     ghost in_range: { IsMoment ms },

@@ -1,7 +1,7 @@
 //! What the file of a journal is opened for.
 
 /// What a file is opened for.
-#[derive(Clone, Copy, Debug, PartialEq, Eq)]
+#[derive(Clone, Copy, PartialEq, Eq)]
 pub enum Opening {
     /// To read the journal in it, which may be one that nobody may write to.
     Read,

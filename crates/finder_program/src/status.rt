@@ -14,7 +14,7 @@ use std::{fmt, io};
 use worker_agent::WorkFault;
 
 /// How a call of the program ended. Its text is the line for standard error, without its line feed.
-#[derive(Clone, Copy, Debug, PartialEq, Eq)]
+#[derive(Clone, Copy, PartialEq, Eq)]
 pub enum Status {
     /// The subcommand did its work.
     Done,

@@ -11,7 +11,7 @@ use std::alloc::Global;
 use word_matches::{Matched, match_words};
 
 /// What the words name outside. Each text is empty where they name none, and where they ask for nothing.
-#[derive(Debug, Drop)]
+#[derive(Drop)]
 pub struct Places {
     /// The path of the journal.
     pub journal: String,

@@ -31,7 +31,7 @@ use std::alloc::Global;
 use word_matches::{Matched, match_words};
 
 /// A subcommand of the program.
-#[derive(Debug, Drop)]
+#[derive(Drop)]
 pub enum Subcommand {
     /// `judge`: answers one search's lines.
     Judge,

@@ -10,7 +10,7 @@ use std::fmt;
 /// strictly between 1/2 and 1, with a denominator of at most [`Bar::MAX_DENOMINATOR`].
 ///
 /// Above one half at most one hypothesis reaches it. The numbers are kept as given.
-#[derive(Clone, Copy, Debug, PartialEq, Eq)]
+#[derive(Clone, Copy, PartialEq, Eq)]
 pub struct Bar {
     t: u32,
     u: u32,

@@ -14,7 +14,7 @@ use std::fmt;
 /// lowest terms and with a denominator of at most [`Miss::MAX_DENOMINATOR`].
 ///
 /// A miss rate of 0/1 says that a broken test fails each time.
-#[derive(Clone, Copy, Debug, PartialEq, Eq)]
+#[derive(Clone, Copy, PartialEq, Eq)]
 pub struct Miss {
     c: u32,
     d: u32,

@@ -15,7 +15,7 @@ use std::fmt;
 /// Runs are taken to be independent of each other, as in Henderson et al., "Flake Aware Culprit
 /// Finding" (ICST 2023). That the rate is a fraction of whole numbers, so that each belief is
 /// exact, is this project's choice.
-#[derive(Clone, Copy, Debug, PartialEq, Eq)]
+#[derive(Clone, Copy, PartialEq, Eq)]
 pub struct Rate {
     a: u32,
     b: u32,

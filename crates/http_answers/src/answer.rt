@@ -12,7 +12,7 @@ use itoa::Buffer;
 use link_io::{PutFault, Sink, put_all};
 
 /// An answer to a request.
-#[derive(Clone, Copy, Debug)]
+#[derive(Clone, Copy)]
 pub struct HttpAnswer<'b> {
     pub status: StatusCode,
     /// The methods that the answer names, where another one was asked for.

@@ -26,7 +26,7 @@ use net_io::{Connected, Network};
 use std::alloc::Global;
 
 /// What a request came to.
-#[derive(Debug, Drop)]
+#[derive(Drop)]
 pub enum Exchanged {
     /// A whole response.
     Answered(Response),

@@ -14,7 +14,7 @@ use std::alloc::{AllocError, Global};
 pub type Body = ItemList<u8>;
 
 /// A whole response.
-#[derive(Debug, Drop)]
+#[derive(Drop)]
 pub struct Response {
     /// Its status, which isn't that of an interim response.
     pub status: u16,
@@ -23,7 +23,7 @@ pub struct Response {
 }
 
 /// Why no whole response came.
-#[derive(Clone, Copy, Debug, PartialEq, Eq)]
+#[derive(Clone, Copy, PartialEq, Eq)]
 pub enum NoResponse {
     /// The bytes that came are none, whatever follows them; or the input ended first, or as many bytes were taken as
     /// are taken at most.

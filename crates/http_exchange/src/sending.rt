@@ -13,7 +13,7 @@ use std::alloc::Global;
 pub const MAX_TRIES: u32 = 3;
 
 /// What a request came to that was sent.
-#[derive(Debug, Drop)]
+#[derive(Drop)]
 pub enum Sent {
     /// A whole response, of a status that no request is lost with.
     Answered(Response),
@@ -22,7 +22,7 @@ pub enum Sent {
 }
 
 /// What a request was lost by.
-#[derive(Clone, Copy, Debug, PartialEq, Eq)]
+#[derive(Clone, Copy, PartialEq, Eq)]
 pub enum Lost {
     /// No connection was made, or it failed, and the network's count of faults rose.
     Network,

@@ -8,7 +8,7 @@ use decimal_text::{are_digits, digits_up_to};
 use http_words::MAX_BODY_BYTES;
 
 /// What the `Content-Length` fields of a head state.
-#[derive(Clone, Copy, Debug, PartialEq, Eq)]
+#[derive(Clone, Copy, PartialEq, Eq)]
 pub enum StatedLength {
     /// There is no such field.
     Absent,

@@ -6,7 +6,7 @@ ghost use Rattle.judge.specs.Text.{lines};
 use memchr::memchr;
 
 /// A line of an input, without its line feed.
-#[derive(Clone, Copy, Debug)]
+#[derive(Clone, Copy)]
 pub struct Line<'a> {
     /// Which line it is, counted from 1.
     pub number: u64,
@@ -18,7 +18,7 @@ pub struct Line<'a> {
 ///
 /// Each line ends with a line feed, which the last one may lack. What follows the last line feed
 /// is no line if it is empty.
-#[derive(Debug, Drop)]
+#[derive(Drop)]
 pub struct Lines<'a> {
     /// The number of the next line.
     number: u64,

@@ -8,7 +8,7 @@ use decimal_text::number;
 use weight_exact::{Run, Verdict};
 
 /// `run R K pass` or `run R K fail`: a run's number R, from 1, where it was and what it said.
-#[derive(Clone, Copy, Debug, PartialEq, Eq)]
+#[derive(Clone, Copy, PartialEq, Eq)]
 pub struct RunLine {
     /// R.
     pub number: u32,

@@ -16,7 +16,7 @@ use std::alloc::{AllocError, Global};
 use weight_exact::{MAX_CALM, MAX_SUSPECTS, MAX_WEIGHT};
 
 /// What a search is opened with.
-#[derive(Debug, Drop)]
+#[derive(Drop)]
 pub struct Search {
     /// The prior weights of the suspects, in the order of their positions.
     pub weights: Vec<u32>,
@@ -25,7 +25,7 @@ pub struct Search {
 }
 
 /// What a search is opened with besides its suspects.
-#[derive(Clone, Copy, Debug)]
+#[derive(Clone, Copy)]
 pub struct Terms {
     pub rate: Rate,
     pub miss: Miss,

@@ -9,7 +9,7 @@ use decimal_text::number;
 
 /// The words of a line that are still to be read, in order. One space stands between two, so two
 /// spaces in a row have an empty word between them.
-#[derive(Debug, Drop)]
+#[derive(Drop)]
 pub struct Words<'a> {
     /// What follows the space after the last word that was read, if one stood there.
     rest: Option<&'a [u8]>,

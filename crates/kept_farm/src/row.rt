@@ -8,7 +8,7 @@ use farm_entry::{Standing, Totals};
 /// What is counted of a history but for its entries, and where the search of the last one stands; "searching" where
 /// that is about none, which nobody reads. A farm has no more searches than fit 16 bits, and no more entries than fit
 /// 32, and each entry has a row: it takes 24 bytes.
-#[derive(Clone, Copy, Debug)]
+#[derive(Clone, Copy)]
 pub(crate) struct Row {
     pub(crate) counted: u32,
     pub(crate) orders: u32,

@@ -11,7 +11,7 @@ use std::alloc::Global;
 use std::marker::Model;
 
 /// All leases that were handed out, by the numbers of their runs, and whether each was answered.
-#[derive(Debug, Drop)]
+#[derive(Drop)]
 pub struct LeaseBook {
     heads: Vec<usize>,
     rows: Vec<Row>,

@@ -10,7 +10,7 @@ use crate::lease::{Lease, OUT_MAX};
 /// One lease, whether it was answered, whether it stands in its search's chain, the latest deadline of all leases up to
 /// it, and the next older lease of the chain, as one more than its index, or 0. Of a row in no chain the last says
 /// nothing.
-#[derive(Clone, Copy, Debug)]
+#[derive(Clone, Copy)]
 pub(crate) struct Row {
     pub(crate) lease: Lease,
     pub(crate) is_answered: bool,

@@ -11,7 +11,7 @@ use farm_types::Memory;
 use std::alloc::Global;
 
 /// One key with its place, and the next older item of its bucket, as one more than its index, or 0.
-#[derive(Clone, Copy, Debug)]
+#[derive(Clone, Copy)]
 pub(crate) struct Item {
     pub(crate) key: u128,
     pub(crate) place: u32,

@@ -12,7 +12,7 @@ use std::marker::Model;
 /// Where the keys of requests and the reports of runs stand, by the places of their entries. Runs and places are
 /// numbers of the caller's, of 32 bits; runs should be numbered without gaps, since each number up to the greatest
 /// takes a row.
-#[derive(Debug, Drop)]
+#[derive(Drop)]
 pub struct Inbox {
     keys: KeyTable,
     runs: RunRows,

@@ -10,7 +10,7 @@ use std::marker::Model;
 
 /// A map from keys to places, in a dense list of items with a chain through it for each bucket. Contracts see the map,
 /// and its room: how many more keys it takes without memory.
-#[derive(Debug, Drop)]
+#[derive(Drop)]
 pub(crate) struct KeyTable {
     heads: Vec<usize>,
     items: Vec<Item>,

@@ -9,7 +9,7 @@ use std::marker::Model;
 
 /// A map from runs to places, with a row for each run. Contracts see the map, and the number below which each run has
 /// its row.
-#[derive(Debug, Drop)]
+#[derive(Drop)]
 pub(crate) struct RunRows {
     rows: Vec<Option<u32>>,
 }

@@ -10,7 +10,7 @@ use farm_types::{CommitId, Memory};
 use std::alloc::Global;
 
 /// One order, and the next older one of its bucket, as one more than its index, or 0.
-#[derive(Clone, Copy, Debug)]
+#[derive(Clone, Copy)]
 pub(crate) struct Item {
     pub(crate) commit: CommitId,
     pub(crate) day: u32,

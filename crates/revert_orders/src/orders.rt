@@ -10,7 +10,7 @@ use std::marker::Model;
 
 /// An order that stood until it was taken back: its number, counted from 1, or 0 where it was carried over; its commit,
 /// and its day, in days since 1970-01-01.
-#[derive(Clone, Copy, Debug, PartialEq, Eq)]
+#[derive(Clone, Copy, PartialEq, Eq)]
 pub struct RevertOrder {
     pub order: u32,
     pub commit: CommitId,
@@ -22,7 +22,7 @@ pub struct RevertOrder {
 ///
 /// How many stand on the day of the one that was added last is kept, so that the next order of that day doesn't go
 /// through all of them.
-#[derive(Debug, Drop)]
+#[derive(Drop)]
 pub struct Orders {
     heads: Vec<usize>,
     items: Vec<Item>,

@@ -1,5 +1,5 @@
 /// What an entry of a history is to the searches.
-#[derive(Clone, Copy, Debug)]
+#[derive(Clone, Copy)]
 pub enum EntryKind {
     /// It opens the next search.
     Opening,

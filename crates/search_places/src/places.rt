@@ -11,7 +11,7 @@ use std::alloc::Global;
 use std::marker::Model;
 
 /// Where the entries of each search stand in a history. Searches are numbered from 1, by their openings.
-#[derive(Debug, Drop)]
+#[derive(Drop)]
 pub struct SearchPlaces {
     rows: Vec<SearchRow>,
 }

@@ -12,7 +12,7 @@ const FIRST_RUNS: usize = 16;
 
 /// Where the entries of one search stand. It takes 40 bytes, those of 16 leases from the first one on, and four for
 /// each further lease, with what growth keeps free.
-#[derive(Debug, Drop)]
+#[derive(Drop)]
 pub struct SearchRow {
     opened: u32,
     order: Option<u32>,

@@ -15,7 +15,7 @@ use weight_exact::{MAX_CALM, MAX_SUSPECTS, MAX_WEIGHT};
 ///
 /// There are 1 to [`MAX_SUSPECTS`] suspects, their weights are 1 to [`MAX_WEIGHT`] and the calm weight 1 to
 /// [`MAX_CALM`], and all commits differ, the base's among them.
-#[derive(Debug, Drop)]
+#[derive(Drop)]
 pub struct SuspectRange {
     base: CommitId,
     suspects: Vec<Suspect>,

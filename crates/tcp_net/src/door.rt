@@ -21,7 +21,7 @@ use std::{io, net};
 const LISTENER: usize = usize::MAX;
 
 /// What is ready in the set: a token, and whether no more comes from there.
-#[derive(Clone, Copy, Debug)]
+#[derive(Clone, Copy)]
 struct Ready {
     token: usize,
     ended: bool,

@@ -9,7 +9,7 @@ pub trait Enough {
 }
 
 /// The first byte is enough.
-#[derive(Clone, Copy, Debug, Drop)]
+#[derive(Clone, Copy, Drop)]
 pub struct AnyByte;
 
 impl Enough for AnyByte {

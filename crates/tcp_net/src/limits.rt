@@ -1,7 +1,7 @@
 //! How long each thing may last, and how many may wait.
 
 /// How long a connection may take for each thing, in milliseconds, and how many may wait in the lobby.
-#[derive(Clone, Copy, Debug, Drop)]
+#[derive(Clone, Copy, Drop)]
 pub struct Limits {
     /// How many may wait in the lobby. Where one more comes, the one that has waited longest is closed.
     pub waiting: usize,

@@ -54,7 +54,7 @@ enum Origin {
 }
 
 /// Why a link that is idle ends its wait.
-#[derive(Clone, Copy, Debug, PartialEq, Eq)]
+#[derive(Clone, Copy, PartialEq, Eq)]
 enum Pause {
     /// There is something to read, or the connection is over.
     Speaks,

@@ -18,7 +18,7 @@ const HASH_SIZE: u64 = 4_294_967_296;
 
 /// Of each bucket the place of its first row, and of each row the place of the next one in its bucket. A place past the
 /// last row says that there is none.
-#[derive(Debug, Drop)]
+#[derive(Drop)]
 pub(crate) struct Index {
     heads: Vec<usize>,
     next: Vec<usize>,

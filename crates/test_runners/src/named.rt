@@ -3,7 +3,7 @@ ghost use Rattle.std.specs.Prelude.{◌≡◌};
 ghost use Rattle.test_runners.specs.Named.{name_seen, runner_asked};
 
 /// The runner that a word names.
-#[derive(Clone, Copy, Debug)]
+#[derive(Clone, Copy)]
 pub enum RunnerName<'a> {
     /// `table:PATH`: the table in the file at this path.
     Table(&'a str),

@@ -13,7 +13,7 @@ use weight_exact::Verdict;
 use worker_core::Tested;
 
 /// Why a line is no row of a table.
-#[derive(Clone, Copy, Debug, PartialEq, Eq)]
+#[derive(Clone, Copy, PartialEq, Eq)]
 pub enum RowFault {
     /// Its first 40 bytes are not the digits of a commit's id.
     Commit,
@@ -26,7 +26,7 @@ pub enum RowFault {
 }
 
 /// What comes of a test at a commit.
-#[derive(Debug, Drop)]
+#[derive(Drop)]
 pub(crate) struct Row {
     pub commit: CommitId,
     pub tested: Tested,

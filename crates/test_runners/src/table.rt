@@ -12,7 +12,7 @@ use std::marker::Model;
 use worker_core::Tested;
 
 /// Why a text is no table.
-#[derive(Clone, Copy, Debug, PartialEq, Eq)]
+#[derive(Clone, Copy, PartialEq, Eq)]
 pub enum TableFault {
     /// The line with this number, counted from 1, is the first that is no row, and this is why.
     Line(u64, RowFault),
@@ -21,7 +21,7 @@ pub enum TableFault {
 }
 
 /// A table of what tests say, which is seen as the list of its rows.
-#[derive(Debug, Drop)]
+#[derive(Drop)]
 pub struct Table {
     rows: Vec<Row>,
     index: Index,

@@ -8,7 +8,7 @@ ghost use Rattle.weight_exact.specs.declared.limits.TheConstants.{BASIS_POINTS, 
 use weight_exact::Sums;
 
 /// The threshold at j parts in k + 1 of a whole. It is compared with sums in whole numbers, both sides times k + 1.
-#[derive(Clone, Copy, Debug)]
+#[derive(Clone, Copy)]
 pub(crate) struct Threshold {
     /// How many parts the whole has: k + 1.
     pub(crate) parts: u128,

@@ -12,7 +12,7 @@ const MAX_EXPONENT: u32 = u128::BITS - 1;
 /// The powers of a number that are below 2^128, up to an exponent.
 ///
 /// The powers of 0 and 1 go without a table, so that one has at most 128 entries whatever the limit.
-#[derive(Debug, Drop)]
+#[derive(Drop)]
 pub(crate) struct PowerTable {
     base: u32,
     limit: u32,

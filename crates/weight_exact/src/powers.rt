@@ -14,7 +14,7 @@ use std::marker::Model;
 use std::sync::ledger::Ledger;
 
 /// How many runs there are of each kind: failed or passed, with the culprit of a hypothesis in the tree or out of it.
-#[derive(Clone, Copy, Debug, PartialEq, Eq)]
+#[derive(Clone, Copy, PartialEq, Eq)]
 pub struct Counts {
     /// Fails with the culprit in.
     pub fail_in: u32,
@@ -28,7 +28,7 @@ pub struct Counts {
 
 /// The powers of the four likelihood numbers of a search, as tables, so that a product over all of its runs takes four
 /// multiplications. A contract sees the four numbers, and to how many of them together they serve: the budget.
-#[derive(Debug, Drop)]
+#[derive(Drop)]
 pub struct Powers {
     fail_in: PowerTable,
     fail_out: PowerTable,

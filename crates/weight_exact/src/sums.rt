@@ -11,7 +11,7 @@ use std::sync::ledger::Ledger;
 
 /// One number for each hypothesis, 1 to n + 1: room for the cumulative sums of the weights of n suspects and of
 /// "no culprit". A contract sees it as their list, which is never empty.
-#[derive(Debug, Drop)]
+#[derive(Drop)]
 pub struct Sums {
     numbers: Vec<u128>,
 }

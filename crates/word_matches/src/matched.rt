@@ -1,7 +1,7 @@
 //! What words are matched.
 
 /// A command with the words that follow its name.
-#[derive(Clone, Copy, Debug)]
+#[derive(Clone, Copy)]
 pub enum Matched<'a> {
     /// `judge`.
     Judge,

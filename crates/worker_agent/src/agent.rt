@@ -22,7 +22,7 @@ use worker_wire::{LeaseAnswer, lease_request, report_request};
 
 /// A worker that has begun: its core with the action that is to be done, the lease that it had last, and whether its
 /// last request met a fault of the network.
-#[derive(Debug, Drop)]
+#[derive(Drop)]
 pub(crate) struct Agent {
     core: WorkerCore,
     action: Action,

@@ -4,7 +4,7 @@ use crate::Tested;
 use farm_types::Key;
 
 /// What a worker does next.
-#[derive(Clone, Copy, Debug, PartialEq, Eq)]
+#[derive(Clone, Copy, PartialEq, Eq)]
 pub enum Action {
     /// To draw a key for the next lease.
     Draw,
@@ -19,7 +19,7 @@ pub enum Action {
 }
 
 /// Why a worker stops.
-#[derive(Clone, Copy, Debug, PartialEq, Eq)]
+#[derive(Clone, Copy, PartialEq, Eq)]
 pub enum End {
     /// The farm had no run to hand out.
     Idle,

@@ -11,7 +11,7 @@ use std::marker::Model;
 pub const MAX_TRIES: u8 = 3;
 
 /// A worker between two actions.
-#[derive(Debug, Drop)]
+#[derive(Drop)]
 pub struct WorkerCore {
     left: u32,
     lost: u8,

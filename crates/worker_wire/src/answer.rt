@@ -10,7 +10,7 @@ use serde_json::Value;
 use std::alloc::Global;
 
 /// A run that was handed out.
-#[derive(Debug, PartialEq, Eq, Drop)]
+#[derive(PartialEq, Eq, Drop)]
 pub struct LeaseAnswer {
     /// The number of the run, from 1.
     pub run: u32,
@@ -21,7 +21,7 @@ pub struct LeaseAnswer {
 }
 
 /// Why a body is no answer to a lease.
-#[derive(Clone, Copy, Debug, PartialEq, Eq)]
+#[derive(Clone, Copy, PartialEq, Eq)]
 pub enum AnswerFault {
     /// It is no JSON object that has the members in their forms.
     Shape,
