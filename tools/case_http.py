@@ -80,6 +80,14 @@ class Connection:
             taken += piece
         return taken
 
+    def take_request(self) -> str:
+        """A request: its head, and the body by its Content-Length."""
+        head = b""
+        while not head.endswith(b"\r\n\r\n") and (byte := self.link.recv(1)):
+            head += byte
+        size = re.search(rb"(?i)\r\ncontent-length: *([0-9]+)", head)
+        return (head + self.take(int(size[1]) if size else 0)).decode()
+
     def is_quiet(self, seconds: float = MOMENT) -> bool:
         """Whether nothing comes for a moment."""
         return not select.select([self.link], [], [], seconds)[0]
