@@ -334,6 +334,21 @@ class Connections(Case):
         self.assertIn(told.rpartition(b"HTTP/1.1 ")[2], [
             answer(429, f'{{"count":0,"day":{it},"refused":"DailyLimit"}}')[9:] for it in (day - 1, day)], told)
 
+    def test_a_page_of_the_log_has_at_most_100000_bytes_of_entries(self) -> None:
+        service = self.serve()
+        for number in range(1, 7):
+            suspects = ",".join(f'["{it:040x}",1]' for it in range(1, 1001))
+            body = (OPEN % 1).replace(SUSPECTS, suspects).replace("00000001-f2", f"000000{number:02}-f2")
+            self.assertTrue(service.talk(request("POST", "/v1/searches", body)).startswith(b"HTTP/1.1 200 OK"))
+        entries = [it.hex() for it in records(self.journal)]
+        # Without the suspects an open has 77 bytes: 8 and 1, 16 and 4, the name's 11, 20, 4, 2, 4, 4, 1 and 1, and 1 more
+        # would be a miss rate's.
+        self.assertEqual({len(it) // 2 for it in entries[1:]}, {8 + 1 + 16 + 4 + 11 + 20 + 4 + 2 + 22000 + 4 + 4 + 1 + 1})
+        for first, last in ((1, 5), (2, 5), (3, 6), (6, 7), (7, 7), (8, 8)):
+            held = "".join(entries[first - 1:last])
+            self.assertEqual(service.talk(get(f"/v1/log/{first}")),
+                             answer(200, f'{{"entries":"{held}","from":{first},"reply":"log"}}'))
+
     def test_a_fault_of_the_disk_is_told_with_503_and_the_rest_goes_on(self) -> None:
         size = self.journal.stat().st_size
         service = self.serve(restore_signals=False, preexec_fn=lambda: resource.setrlimit(resource.RLIMIT_FSIZE, (size + 9,) * 2))
