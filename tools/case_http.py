@@ -16,6 +16,7 @@ from typing import Any, Optional
 TOOLS = pathlib.Path(__file__).resolve().parent
 PROGRAM = os.environ.get("CULPRIT_FINDER") or str(TOOLS.parent / "finder")
 PATIENCE = 120.0  # seconds that something may take which takes well below one: the machine may be slow, and loaded
+MEMORY = next((it for it in ["/dev/shm"] if os.access(it, os.W_OK)), None)  # a folder whose syncs take no time
 MOMENT = 0.005  # seconds for which nothing may come where nothing is due
 PORT = 8080
 
@@ -169,24 +170,27 @@ def records(journal: pathlib.Path) -> list[bytes]:
     return found
 
 
-class Case(unittest.TestCase):
-    """A folder for a class, with a journal that was just founded."""
+def new_journal() -> pathlib.Path:
+    """A journal that was just founded, in a folder of its own."""
+    journal = pathlib.Path(tempfile.mkdtemp(prefix="http ", dir=MEMORY)) / "farm.journal"
+    assert call("found", journal, 60000, 10, "east:0") == "founded\n"
+    return journal
 
-    folder: pathlib.Path
-    journal: pathlib.Path
+
+def audit(journal: pathlib.Path) -> str:
+    """What an audit says of a journal's bytes."""
+    return call("audit", given=journal.read_bytes())
+
+
+class Case(unittest.TestCase):
+    """A journal of its own for each test."""
 
     def setUp(self) -> None:
-        self.folder = pathlib.Path(tempfile.mkdtemp(prefix="http "))
-        self.addCleanup(shutil.rmtree, self.folder, ignore_errors=True)
-        self.journal = self.folder / "farm.journal"
-        self.assertEqual(call("found", self.journal, 60000, 10, "east:0"), "founded\n")
+        self.journal = new_journal()
+        self.addCleanup(shutil.rmtree, self.journal.parent, ignore_errors=True)
 
     def serve(self, handlers: int = 2, links: int = 1_000_000, **more: Any) -> Service:
         """The service of this test's journal."""
         service = Service(self.journal, handlers, links, **more)
         self.addCleanup(service.close)
         return service
-
-    def audited(self) -> str:
-        """What an audit says of the journal's bytes."""
-        return call("audit", given=self.journal.read_bytes())

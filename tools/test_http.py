@@ -3,13 +3,14 @@
 
     CULPRIT_FINDER=PROGRAM python3 tools/test_http.py [CLASS[.TEST]]
 
-The tables of tools/cases_http/requests.txt have a title each, behind `#`, and a row a line: the bytes of a connection,
-` => ` and each answer. In the bytes `\\r`, `\\n` and `\\t` stand for control characters, a part between bars that begins
-with a number, as `|63*x|`, for so many times the rest of it; at `\\W` the client waits for a moment in which nothing may
-come, and at `\\E` it says that no more is sent. Bytes without a backslash are a method, a target and a body, of a
-request of HTTP/1.1 with Host and Content-Length. An answer is a status and the name of a refusal with what it says of a
-field or a number, `405` with the methods that are allowed, `200` with the name of a page, `100`, or `end`, where the
-connection ends without one. `closes` stands before an answer that closes, and `head` before one without its body.
+The tables of tools/cases_http/requests.txt have a title each, behind `#`, and a row a line: the bytes of a
+connection, ` => ` and each answer. In the bytes `\\r`, `\\n` and `\\t` stand for control characters, a part between
+bars that begins with a number, as `|63*x|`, for so many times the rest of it; at `\\W` the client waits for a moment
+in which nothing may come, and at `\\E` it says that no more is sent. Bytes without a backslash are a method, a target
+and a body, of a request of HTTP/1.1 with Host and Content-Length. An answer is a status and the name of a refusal
+with what it says of a field or a number, `405` with the methods that are allowed, `200` with the name of a page,
+`100`, or `end`, where the connection ends without one. `closes` stands before an answer that closes, and `head`
+before one without its body.
 
 What is wanted was worked out by hand from docs/FORMATS.md, and not taken from the program.
 """
@@ -18,6 +19,7 @@ from __future__ import annotations
 import json
 import re
 import resource
+import shutil
 import socket
 import subprocess
 import threading
@@ -25,14 +27,29 @@ import time
 import unittest
 from typing import Callable
 
-from case_http import INTERIM, PROGRAM, TOOLS, Case, Connection, Service, answer, call, records, request, spelled
+from case_http import (INTERIM, PROGRAM, TOOLS, Case, Connection, Service, answer, audit, call, new_journal, records,
+                       request, spelled)
 
 FOUNDED = "010000ea60000a02d0"  # of a founding, behind its moment: leases of 60 s, 10 orders a day, days of UTC
-NUMBERS = '{"confirmed":0,"counted":0,"ended":0,"entries":1,"orders":0,"reply":"%s","searches":0,"searching":0,"verifying":0}'
-PAGES = {"farm": NUMBERS % "farm", "totals": NUMBERS % "totals", "orders": '{"orders":[],"reply":"orders"}'}
-PROBE = b"GET /v1/orders HTTP/1.1\r\nHost: farm\r\n\r\n"
-PROBED = answer(200, PAGES["orders"])
+ORDERS = '{"orders":[],"reply":"orders"}'
+GET = "GET {} HTTP/1.1\r\nHost: farm\r\n\r\n"
+PROBE = GET.format("/v1/orders").encode()
+PROBED = answer(200, ORDERS)
 Row = tuple[str, list[str]]
+
+
+def totals(reply: str, entries: int, searches: int = 0) -> str:
+    """The farm's numbers where its searches all go on, and no run counts."""
+    return (f'{{"confirmed":0,"counted":0,"ended":0,"entries":{entries},"orders":0,"reply":"{reply}",'
+            f'"searches":{searches},"searching":{searches},"verifying":0}}')
+
+
+PAGES = {"farm": totals("farm", 1), "totals": totals("totals", 1), "orders": ORDERS}
+
+
+def get(target: str) -> bytes:
+    """A GET without a length."""
+    return GET.format(target).encode()
 
 
 def tables() -> dict[str, list[Row]]:
@@ -80,13 +97,19 @@ def answer_of(text: str, founding: bytes) -> bytes:
     return answer(status, body, allow=allow, closes="closes" in marks, withheld="head" in marks)
 
 
-class Requests(Case):
-    """Each row of the tables: alone, with a request right behind it, and in pieces of 1 and 7 bytes."""
+class Requests(unittest.TestCase):
+    """Each row of the tables: alone, with a request right behind it, and in pieces of 1 and 7 bytes. No row adds an
+    entry, so one service answers them all."""
 
-    def setUp(self) -> None:
-        super().setUp()
-        self.service = self.serve()
-        self.founding = records(self.journal)[0]
+    @classmethod
+    def setUpClass(cls) -> None:
+        journal = new_journal()
+        cls.addClassCleanup(shutil.rmtree, journal.parent, ignore_errors=True)
+        cls.founding = records(journal)[0]
+        cls.service = Service(journal)
+        cls.addClassCleanup(cls.service.close)
+
+    def test_00_a_founding_in_bytes(self) -> None:
         self.assertEqual(self.founding[8:].hex(), FOUNDED)
 
     def send_parts(self, link: Connection, text: str, size: int) -> None:
@@ -116,7 +139,7 @@ class Requests(Case):
             self.assertEqual(link.rest(), b"")
 
     def play_table(self, rows: list[Row]) -> None:
-        """Plays each row of a table. No request of a table adds an entry."""
+        """Plays each row of a table."""
         for row in rows:
             self.play(row)
             if not re.search(r"\\[EW]", row[0]):
@@ -124,8 +147,7 @@ class Requests(Case):
             if len(row[0]) < 600 and "*" not in row[0]:
                 self.play(row, size=1)
                 self.play(row, size=7)
-        self.service.close()
-        self.assertEqual(self.audited(), "legal entries 1 searches 0 orders 0\n")
+        self.assertEqual(self.service.talk(get("/v1/totals")), answer(200, PAGES["totals"]))
 
 
 def test_of(rows: list[Row]) -> Callable[[Requests], None]:
@@ -148,24 +170,10 @@ AWAITED = request("POST", "/v1/leases", '{"key":"00000000-0000-0000-0000-0000000
 CLOSING = request("POST", "/v1/runs/7/report", '{"verdict":"pass"}', "Connection: close\r\n")
 NO_RUN = answer(409, '{"refused":"NoRun"}')
 UNKNOWN = answer(404, '{"refused":"UnknownRun","run":7}', closes=True)
-GET = "GET {} HTTP/1.1\r\nHost: farm\r\n\r\n"
-
-
-def get(target: str) -> bytes:
-    """A GET without a length."""
-    return GET.format(target).encode()
-
-
 def leased(run: int, position: int) -> str:
     """The reply to a lease at `NOW`."""
     return (f'{{"commit":"0000000000000000000000000000{716468000000 + position}","deadline":{NOW + 60000},'
             f'"position":{position},"reply":"lease","run":{run},"search":1,"stage":"search","test":"suite/case"}}')
-
-
-def totals(reply: str, entries: int, searches: int = 0) -> str:
-    """The farm's numbers where its searches all go on, and no run counts."""
-    return (f'{{"confirmed":0,"counted":0,"ended":0,"entries":{entries},"orders":0,"reply":"{reply}",'
-            f'"searches":{searches},"searching":{searches},"verifying":0}}')
 
 
 class Connections(Case):
@@ -188,7 +196,7 @@ class Connections(Case):
         service.close()
         found = records(self.journal)
         self.assertEqual(len(found), len(entries))
-        self.assertRegex(self.audited(), rf"\Alegal entries {sum(entries)} searches [0-9]+ orders 0\n\Z")
+        self.assertRegex(audit(self.journal), rf"\Alegal entries {sum(entries)} searches [0-9]+ orders 0\n\Z")
 
     def play_cuts(self, sent: bytes, answers: list[tuple[int, bytes]]) -> None:
         """Cuts what is sent in two at each place. An answer comes once the bytes up to its place have come, and no
@@ -280,16 +288,19 @@ class Connections(Case):
         sent += get("/v1/list/1") + get("/v1/list/2") + get("/v1/searches/1/runs/0") + get("/v1/searches/0/runs/0")
         sent += get("/v1/list/0") + request("POST", "/v1/list/1")
         skipped = (f'{{"commit":"0000000000000000000000000000716468000002","deadline":{NOW + 60000},"fate":"skipped",'
-                   f'"leased":{NOW},"position":2,"reported":{NOW},"run":1,"stage":"search","verdict":"skip","worker":"w"}}')
+                   f'"leased":{NOW},"position":2,"reported":{NOW},"run":1,"stage":"search","verdict":"skip",'
+                   '"worker":"w"}')
         out = (f'{{"commit":"0000000000000000000000000000716468000003","deadline":{NOW + 60000},"leased":{NOW},'
                '"position":3,"run":2,"stage":"search","worker":"w"}')
         runs = '{"from":%d,"reply":"runs","runs":[%s],"search":1}'
         wanted = [
             answer(200, OPENED),
             answer(200, leased(1, 2)),
-            answer(200, '{"fate":"skipped","reply":"report","run":1,"search":1,"standing":"searching","verdict":"skip"}'),
-            answer(200, '{"budget":33,"counted":0,"leases":1,"reply":"search","search":1,"shares":[2000,2000,2000,2000,2000],'
-                        '"standing":"searching","test":"suite/case","untestable":[2],"verified":0}'),
+            answer(200, '{"fate":"skipped","reply":"report","run":1,"search":1,"standing":"searching",'
+                        '"verdict":"skip"}'),
+            answer(200, '{"budget":33,"counted":0,"leases":1,"reply":"search","search":1,'
+                        '"shares":[2000,2000,2000,2000,2000],"standing":"searching",'
+                        '"test":"suite/case","untestable":[2],"verified":0}'),
             answer(200, leased(2, 3)),
             answer(200, runs % (1, f"{skipped},{out}")),
             answer(200, runs % (3, "")),
@@ -312,8 +323,8 @@ class Connections(Case):
         self.assert_recorded(service, [1])
 
     def test_a_closed_farm_refuses_a_lease_and_a_report_and_shows_its_pages(self) -> None:
-        self.journal.write_bytes(bytes.fromhex("0143756c7072697446696e646572203201000000110000000005265c00010000ea60000a02d001"
-                                               "000000090000000005f5e1000900"))
+        self.journal.write_bytes(bytes.fromhex("0143756c7072697446696e6465722032" "01000000110000000005265c00" + FOUNDED
+                                               + "01000000090000000005f5e1000900"))
         service = self.serve()
         sent = AWAITED.replace(b"Expect: 100-continue\r\n", b"") + CLOSING.replace(b"Connection: close\r\n", b"")
         closed = answer(409, '{"refused":"Closed"}')
@@ -341,9 +352,8 @@ class Connections(Case):
             body = (OPEN % 1).replace(SUSPECTS, suspects).replace("00000001-f2", f"000000{number:02}-f2")
             self.assertTrue(service.talk(request("POST", "/v1/searches", body)).startswith(b"HTTP/1.1 200 OK"))
         entries = [it.hex() for it in records(self.journal)]
-        # Without the suspects an open has 77 bytes: 8 and 1, 16 and 4, the name's 11, 20, 4, 2, 4, 4, 1 and 1, and 1 more
-        # would be a miss rate's.
-        self.assertEqual({len(it) // 2 for it in entries[1:]}, {8 + 1 + 16 + 4 + 11 + 20 + 4 + 2 + 22000 + 4 + 4 + 1 + 1})
+        opened = 8 + 1 + 16 + 4 + 11 + 20 + 4 + 2 + 22000 + 4 + 4 + 1 + 1
+        self.assertEqual([len(it) // 2 for it in entries], [8 + 1 + 8] + 6 * [opened])
         for first, last in ((1, 5), (2, 5), (3, 6), (6, 7), (7, 7), (8, 8)):
             held = "".join(entries[first - 1:last])
             self.assertEqual(service.talk(get(f"/v1/log/{first}")),
@@ -351,15 +361,17 @@ class Connections(Case):
 
     def test_a_fault_of_the_disk_is_told_with_503_and_the_rest_goes_on(self) -> None:
         size = self.journal.stat().st_size
-        service = self.serve(restore_signals=False, preexec_fn=lambda: resource.setrlimit(resource.RLIMIT_FSIZE, (size + 9,) * 2))
+        service = self.serve(restore_signals=False,
+                             preexec_fn=lambda: resource.setrlimit(resource.RLIMIT_FSIZE, (size + 9, size + 9)))
         sent = request("POST", "/v1/searches", OPEN % 1) + get("/v1/totals")
         self.assertEqual(service.talk(sent), answer(503, '{"refused":"StoreFault"}') + answer(200, PAGES["totals"]))
         service.close()
-        self.assertEqual(self.audited(), "legal entries 1 searches 0 orders 0\n")
+        self.assertEqual(audit(self.journal), "legal entries 1 searches 0 orders 0\n")
 
 
 SERVED_OPEN = ('{"key":"00000000000000000000000000000001","test":"t","base":"0000000000000000000000000000000000000000",'
-               '"suspects":[["0000000000000000000000000000000000000001",1],["0000000000000000000000000000000000000002",1]],'
+               '"suspects":[["0000000000000000000000000000000000000001",1],'
+               '["0000000000000000000000000000000000000002",1]],'
                '"calm":1,"rate":[1,2],"bar":[9999,10000],"width":8,"reruns":1}')
 
 
@@ -391,7 +403,7 @@ class Served(Case):
                 self.assertEqual(len({opened for opened, _ in found}), 1)
                 self.assertEqual(sorted(run for _, run in found), [1, 2, 3, 4])
                 self.assertEqual(service.ended(), (0, totals("farm", 6, 1) + "\n", ""))
-                self.assertEqual(self.audited(), "legal entries 6 searches 1 orders 0\n")
+                self.assertEqual(audit(self.journal), "legal entries 6 searches 1 orders 0\n")
                 self.journal.unlink()
                 call("found", self.journal, 60000, 10, "east:0")
 
@@ -450,7 +462,7 @@ class Served(Case):
             wanted = totals("farm", 1) if handlers == 2 else totals("farm", 2, 1)
             self.assertEqual(page, answer(200, wanted))
             service.close()
-            self.assertEqual(self.audited(), "legal entries 2 searches 1 orders 0\n")
+            self.assertEqual(audit(self.journal), "legal entries 2 searches 1 orders 0\n")
 
 
 if __name__ == "__main__":

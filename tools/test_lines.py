@@ -1,6 +1,6 @@
 #!/usr/bin/env python3
-"""Tests of `run` by scripts that are too long for a case: full pages, the greatest farm, and streams that come in pieces
-or fail.
+"""Tests of `run` by scripts that are too long for a case: full pages, the farm with the most searches, and streams that
+come in pieces or fail.
 
     CULPRIT_FINDER=PROGRAM python3 tools/test_lines.py [CLASS[.TEST]]
 
@@ -21,7 +21,8 @@ from case_http import PATIENCE, PROGRAM, Connection
 
 QUOTES = '"' * 200  # the name whose text is the longest
 FIRST = 100000000
-FARM = '{"confirmed":0,"counted":0,"ended":0,"entries":%d,"orders":0,"reply":"farm","searches":%d,"searching":%d,"verifying":0}\n'
+FARM = ('{"confirmed":0,"counted":0,"ended":0,"entries":%d,"orders":0,"reply":"farm","searches":%d,"searching":%d,'
+        '"verifying":0}\n')
 
 
 def text(data: Any) -> str:
@@ -36,8 +37,8 @@ def ask(do: str, at: int = FIRST, **members: Any) -> str:
 
 def opening(number: int, test: str = "t") -> str:
     """The open of a search of one suspect, whose key is a number."""
-    return ask("open", key=f"{number:032x}", test=test, base=f"{0:040}", suspects=[[f"{1:040}", 1]], calm=1, rate=[1, 10],
-               bar=[9, 10], width=1, reruns=1)
+    return ask("open", key=f"{number:032x}", test=test, base=f"{0:040}", suspects=[[f"{1:040}", 1]], calm=1,
+               rate=[1, 10], bar=[9, 10], width=1, reruns=1)
 
 
 def run(script: str) -> list[str]:
@@ -72,8 +73,8 @@ class Pages(unittest.TestCase):
         opened = [text({"budget": 34, "reply": "open", "search": it, "standing": "searching"}) for it in range(1, 2001)]
         self.assertEqual(found[:2002], [*opened, text({"refused": "TooManySearches"}), opened[6]])
         for first, line in zip(froms, found[2002:]):
-            searches = [{"counted": 0, "leases": 0, "opened": FIRST, "search": it, "standing": "searching", "suspects": 1,
-                         "test": QUOTES} for it in range(first, min(first + 100, 2001))]
+            searches = [{"counted": 0, "leases": 0, "opened": FIRST, "search": it, "standing": "searching",
+                         "suspects": 1, "test": QUOTES} for it in range(first, min(first + 100, 2001))]
             self.assertEqual(line, text({"from": first, "reply": "list", "searches": searches}))
             self.assertLess(len(line), 62000)
         self.assertEqual(found[2006:], [FARM % (2001, 2000, 2000)])

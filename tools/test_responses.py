@@ -3,11 +3,12 @@
 
     CULPRIT_FINDER=PROGRAM python3 tools/test_responses.py [CLASS[.TEST]]
 
-The tables of tools/cases_http/responses.txt have a title each, behind `#`, and a row a line: a response, ` => ` and what
-the worker then comes to. A response is its bytes, spelled as in requests.txt, or a status and a body, to the lease, or
-behind `report` to the report of a run. It is sent to each try of the request, and the connection then stays open, unless
-`\\E` ends it. What the worker comes to is `idle` or `limit`, by the end of its line, or the status which it says that the
-service answered: 0 where there was no whole response. Without one, and with 503 and 507, a request is tried three times.
+The tables of tools/cases_http/responses.txt have a title each, behind `#`, and a row a line: a response, ` => ` and
+what the worker then comes to. A response is its bytes, spelled as in requests.txt, or a status and a body, to the
+lease, or behind `report` to the report of a run. It is sent to each try of the request, and the connection then stays
+open, unless `\\E` ends it. What the worker comes to is `idle` or `limit`, by the end of its line, or the status which
+it says that the service answered: 0 where there was no whole response. Without one, and with 503 and 507, a request
+is tried three times.
 
 What is wanted was worked out by hand from docs/FORMATS.md, and not taken from the program.
 """
@@ -152,7 +153,8 @@ class Responses(unittest.TestCase):
 
     def test_five_runs_may_be_leased_the_farm_has_two_and_the_first_answer_to_a_report_is_lost(self) -> None:
         noted, no_run = whole(200, "{}"), whole(409, '{"refused":"NoRun"}')
-        script = [("A", lease(1)), ("1 fail", None), ("1 fail", noted), ("B", lease(2, "u")), ("2 pass", noted), ("C", no_run)]
+        script = [("A", lease(1)), ("1 fail", None), ("1 fail", noted), ("B", lease(2, "u")), ("2 pass", noted),
+                  ("C", no_run)]
         self.assertEqual(self.play_lost(5, "fail pass", script), (0, "leased 2 reported 2 idle\n", ""))
 
     def test_one_run_may_be_leased_and_two_tries_of_its_lease_are_lost_with_different_statuses(self) -> None:
@@ -160,8 +162,8 @@ class Responses(unittest.TestCase):
         self.assertEqual(self.play_lost(1, "pass", script), (0, "leased 1 reported 1 limit\n", ""))
 
     def test_each_request_has_three_tries_and_the_status_of_the_third_is_told(self) -> None:
-        script = [("A", None), ("A", whole(503, "")), ("A", lease(1)), ("1 fail", whole(503, "")), ("1 fail", whole(507, "")),
-                  ("1 fail", whole(507, ""))]
+        script = [("A", None), ("A", whole(503, "")), ("A", lease(1)), ("1 fail", whole(503, "")),
+                  ("1 fail", whole(507, "")), ("1 fail", whole(507, ""))]
         self.assertEqual(self.play_lost(2, "fail", script), (14, "", "the service answered 507\n"))
 
     def test_a_tree_that_cant_be_tested_is_reported_as_such_as_often_as_it_is_lost(self) -> None:
