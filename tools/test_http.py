@@ -225,6 +225,23 @@ class Connections(Case):
         self.assertEqual(len(sent), 90)
         self.play_cuts(sent, [(90, answer(403, '{"refused":"Foreign"}', closes=True))])
 
+    def test_connections_stay_open_between_requests_and_hold_no_handler(self) -> None:
+        service = self.serve(1)
+        links = [service.connect() for _ in range(20)]
+        for pause in (0.0, 0.3):
+            for _ in range(2):
+                for link in links:
+                    link.send(get("/v1/totals"))
+                for link in reversed(links):
+                    wanted = answer(200, PAGES["totals"])
+                    self.assertEqual(link.take(len(wanted)), wanted)
+            self.assertTrue(all(it.is_quiet(0) for it in links))
+            time.sleep(pause)
+        for link in links:
+            link.end()
+            self.assertEqual(link.rest(), b"")
+            link.link.close()
+
     def test_an_open_is_repeated_on_a_new_connection_and_gets_its_first_reply(self) -> None:
         service = self.serve()
         for _ in range(2):
