@@ -284,7 +284,7 @@ class Play:
         self.open()
         deeds = [self.lease] * 9 + [self.report] * 8 + [self.page] * 2 + [self.repeat, self.open]
         for _ in range(steps):
-            self.script.at += self.dice.choice([0, 1, 1_000, 10_000])
+            self.script.at += self.dice.choice([0, 0, 1_000, 20_000, LEASE])
             (self.cancel if self.dice.random() < 0.01 else self.dice.choice(deeds))()
         for search in self.searches:
             self.script.ask("search", search.page(), search=search.number)
