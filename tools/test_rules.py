@@ -120,7 +120,9 @@ class Plans(Rows):
             ("the first entry that is left is due", f"{EVEN} 3 1", "l1 +30 l2 l4 - +30 l1 - +30 l2 l4 -"),
             ("a run at a position that the plan no longer has takes up room, and strikes nothing", f"{EVEN} 3 1",
              "l1 l2 l4 p1 l3 - p2 l3 - f3 l3 -"),
-            ("it may take up all room there is", EVEN, "l2 +60 l2 p2 - +60 l3 -"))
+            ("it may take up all room there is", EVEN, "l2 +60 l2 p2 - +60 l3 -"),
+            ("of two runs at a position of which the plan has one entry, the second strikes nothing",
+             "1*6 1 1/10 19/20 4 1", "l1 l3 l4 f4 l2 l3 p1 l2 -"))  # the plan is 2 2 3 4, and 3 2 3 are out
 
 
 class Skipped(Rows):
