@@ -96,6 +96,8 @@ class Player:
             self.clock += self.dice.randrange(15_000)
             if self.dice.random() < 0.02:
                 self.clock += self.dice.randint(1, 6) * 3_600_000
+            if self.dice.random() < 0.05:  # just before a lease expires, or as it does
+                self.clock = max([self.clock, *(it.deadline - self.dice.randrange(2) for it in self.farm.leases[-2:])])
             late = self.dice.randrange(20_000) if self.dice.random() < 0.08 else 0
             self.ask({"at": self.clock - late, **(self.opening() if step < 3 else self.line())})
         for search in range(1, len(self.farm.searches) + 2):
@@ -285,6 +287,62 @@ class Journals(Play):
         heir = f"{self.journal}.{player.farm.entries}.{len(orders)}"
         self.assertEqual(call("inherit", heir, "60000", "1", "east:60", given=handed.encode()), "founded\n")
         self.assertEqual(call("close", heir), handed)
+
+
+class Altered(Play):
+    """Journals with an entry that may not stand where it does."""
+
+    def hold_refused(self, records: list[bytes]) -> None:
+        """Holds that the last of the entries, one a record, is illegal, by its history and by what is kept of it."""
+        head = b"\x01CulpritFinder 2"
+        parts = [b"\x01" + len(it).to_bytes(4, "big") + it for it in records]
+        self.journal.write_bytes(head + b"".join(parts) + b"\x00")
+        self.assertEqual(call("audit", given=self.journal.read_bytes()), f"illegal at {len(records) - 1}\n")
+        ran = subprocess.run([PROGRAM, "show", self.journal], capture_output=True, timeout=PATIENCE, check=False)
+        gate = len(head) + sum(map(len, parts[:-1]))
+        self.assertEqual((ran.returncode, ran.stderr.decode()), (6, f"the journal is damaged at byte {gate}\n"))
+
+    def records(self) -> list[bytes]:
+        """The records of the journal."""
+        found, rest = [], self.journal.read_bytes()[16:]
+        while rest[0]:
+            size = int.from_bytes(rest[1:5], "big")
+            found.append(rest[5:5 + size])
+            rest = rest[5 + size:]
+        return found
+
+    @staticmethod
+    def changed(record: bytes) -> Optional[bytes]:
+        """The entry with another deadline, fate or day than the rule's, where it has one."""
+        last = {3: (record[-1] + 1) % 256, 4: record[-1] % 3 + 1, 6: (record[-1] + 1) % 256, 8: 3 - record[-1]}
+        return record[:-1] + bytes([last[record[8]]]) if record[8] in last else None
+
+    def test_an_entry_twice_or_too_early_or_changed_is_refused_at_its_place(self) -> None:
+        seen: collections.Counter[int] = collections.Counter()
+        for seed in range(401, 405):
+            player = Player(seed, Farm(daily=2, founded=START))
+            self.journal.write_bytes(founded(player.farm))
+            player.play(200)
+            call("run", str(self.journal), given=script_of(player.lines))
+            records = self.records()
+            self.assertEqual(len(records), player.farm.entries)
+            for kind in (2, 3, 4, 5, 6, 8):
+                places = [it for it in range(2, len(records)) if records[it][8] == kind]
+                for place in player.dice.sample(places, min(2, len(places))):
+                    with self.subTest(seed=seed, kind=kind, place=place):
+                        self.hold_altered(records[:place], records[place], player.dice.choice(records[:place]))
+                    seen[kind] += 1
+        self.assertEqual(len(seen), 6, "some kind of entries came up in no play")
+
+    def hold_altered(self, earlier: list[bytes], entry: bytes, again: bytes) -> None:
+        """Holds that no earlier entry, and no change of the one behind them, may stand there."""
+        last = earlier[-1][:8]
+        before = int.from_bytes(last, "big") - 1
+        self.hold_refused([*earlier, last + again[8:]])
+        self.hold_refused([*earlier, before.to_bytes(8, "big") + entry[8:]])
+        other = self.changed(entry)
+        if other:
+            self.hold_refused([*earlier, other])
 
 
 class Limits(Play):
