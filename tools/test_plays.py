@@ -9,11 +9,11 @@ skips, cancellations, orders, and keys that stood before, with what they asked f
 from __future__ import annotations
 
 import collections
-import itertools
 import json
 import os
 import pathlib
 import random
+import struct
 import subprocess
 import tempfile
 import unittest
@@ -152,13 +152,21 @@ class Player:
         if pick < 106:
             return self.fresh()
         if pick < 114:
-            return dice.choice(earlier)
+            return self.again(dice.choice(earlier))
         if pick < 120:
             return {**self.fresh(), "key": dice.choice(earlier)["key"]}
         if pick < 224:
             return self.report()
         return {"do": dice.choice(("farm", "orders", "search", "runs", "list")), "search": dice.randint(1, 24),
                 "from": dice.randint(1, 4)}
+
+    def again(self, line: Line) -> Line:
+        """An earlier line; of an open, in half of the cases, with its rate, bar or base spelled in another way."""
+        if line["do"] != "open" or self.dice.random() < 0.5:
+            return line
+        (a, b), (t, u) = line["rate"], line["bar"]
+        others: list[Line] = [{"rate": [2 * a, 2 * b]}, {"bar": [2 * t, 2 * u]}, {"base": line["base"].upper()}]
+        return {**line, **self.dice.choice(others)}
 
     def report(self) -> Line:
         """A report, mostly of one of the last runs that has none."""
@@ -396,29 +404,30 @@ class Limits(Play):
         self.hold(call("run", given=script_of(player.lines)), player.lines, player.replies)
         self.assertEqual(player.replies[2_000:2_002], [{"refused": "TooManySearches"}, player.replies[1_999]])
 
-    def test_a_farm_takes_1_000_000_entries_and_then_repeats_and_shows(self) -> None:
-        opened = '{"budget":34,"reply":"open","search":1,"standing":"searching"}'
-        asked, told = self.journal.with_name("asked"), self.journal.with_name("told")
-        with asked.open("w") as lines:
-            lines.write(json.dumps({"at": START, "key": "0" * 32, **self.TWO}) + "\n")
-            for number in (*range(1, 1_000_000), 1):
-                lines.write(f'{{"at":{START + 60_000 * number},"do":"lease","key":"{number:032x}","worker":"w"}}\n')
-            lines.write('{"at":86400000,"do":"farm"}\n')
-        with asked.open("rb") as lines, told.open("wb") as replies:
-            subprocess.run([PROGRAM, "run"], stdin=lines, stdout=replies, timeout=5 * PATIENCE, check=True)
+    def test_a_farm_takes_1_000_000_entries_and_then_repeats_shows_and_is_closed(self) -> None:
+        opened = (START.to_bytes(8, "big") + b"\x02" + bytes(16) + b"\0\0\0\x01\x01t" + bytes.fromhex(BASE)
+                  + b"\0\0\0\x01\0\x02" + b"".join(bytes.fromhex(commit(it)) + b"\0\x01" for it in (1, 2))
+                  + b"\0\x01\0\x0a\0\x09\0\x0a\x01\x01")
+        leases = [struct.pack(">QBQQ2sIIBHQ", START + 60_000 * it, 3, 0, it, b"\x01w", it, 1, 1, 1,
+                              START + 60_000 * (it + 1)) for it in range(1, 999_997)]
+        with self.journal.open("wb") as file:
+            file.write(founded(Farm(founded=START))[:-1])
+            for begin in range(0, len(leases), 20_000):
+                record = (b"" if begin else opened) + b"".join(leases[begin:begin + 20_000])
+                file.write(b"\x01" + len(record).to_bytes(4, "big") + record)
+            file.write(b"\0")
+        lines: list[Line] = [{"at": START + 60_000 * it, "do": "lease", "key": f"{it:032x}", "worker": "w"}
+                             for it in (999_997, 999_998, 999_999, 1)]
 
-        def lease(number: int) -> str:
-            return (f'{{"commit":"{commit(1)}","deadline":{START + 60_000 * (number + 1)},"position":1,'
-                    f'"reply":"lease","run":{number},"search":1,"stage":"search","test":"t"}}')
+        def leased(number: int) -> Reply:
+            return {"reply": "lease", "run": number, "search": 1, "stage": "search", "position": 1, "test": "t",
+                    "commit": commit(1), "deadline": START + 60_000 * (number + 1)}
 
-        shown = ('{"confirmed":0,"counted":0,"ended":0,"entries":1000000,"orders":0,"reply":"farm","searches":1,'
-                 '"searching":1,"verifying":0}')
-        wanted = itertools.chain([opened], map(lease, range(1, 999_999)), ['{"refused":"Full"}', lease(1), shown])
-        with told.open() as replies:
-            for number, (found, right) in enumerate(zip(replies, wanted), 1):
-                if found != right + "\n":
-                    self.assertEqual(found, right + "\n", f"line {number}")
-        self.assertEqual(number, 1_000_002)
+        shown = {"reply": "farm", "entries": 1_000_000, "searches": 1, "searching": 1, "verifying": 0, "confirmed": 0,
+                 "ended": 0, "counted": 0, "orders": 0}
+        self.hold(call("run", str(self.journal), given=script_of([*lines, {"at": START, "do": "farm"}])),
+                  [*lines, {"do": "farm"}], [leased(999_997), leased(999_998), {"refused": "Full"}, leased(1), shown])
+        self.assertEqual(call("close", str(self.journal)), "closed 0\n")
 
 
 if __name__ == "__main__":
