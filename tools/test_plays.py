@@ -137,11 +137,11 @@ class Player:
         pick = self.dice.randrange(20)
         if pick < 3:
             return self.opening()
-        if pick == 3:
+        if pick < 5:
             return self.opening(FAULTY)
-        if pick == 4:
+        if pick == 5:
             return self.keyed({"do": "cancel", "search": self.dice.randint(1, 16)})
-        if pick < 7:
+        if pick < 8:
             return self.keyed({"do": "revert", "agent": "a"})
         return self.keyed({"do": "lease", "worker": "w"})
 
@@ -186,7 +186,7 @@ class Player:
         fixed = random.Random(self.seed * 10_000 + number)
         culprit = fixed.choice((99, 1, 1, 1, 2, 4))
         untestable = {it for it in range(21) if fixed.random() < 1 / 6}
-        if position in untestable or self.dice.random() < 1 / 60:
+        if position in untestable or self.dice.random() < 1 / 30:
             return "skip"
         return "fail" if (culprit <= position) == (self.dice.random() < 0.95) else "pass"
 
@@ -205,11 +205,11 @@ class Play(unittest.TestCase):
             self.assertEqual(text, text_of(reply), f"line {number}: {line}")
         self.assertEqual(said.count("\n"), len(lines))
 
-    def cut(self, player: Player, begin: int = 0) -> None:
-        """Plays the lines from one on over the journal, opened anew at several places, with the same replies."""
+    def cut(self, player: Player) -> None:
+        """Plays the lines over the journal, opened anew at several places, with the same replies."""
         count = len(player.lines)
-        places = sorted(player.dice.sample(range(begin + 1, count), 4))
-        for low, high in zip([begin, *places], [*places, count]):
+        places = sorted(player.dice.sample(range(1, count), 4))
+        for low, high in zip([0, *places], [*places, count]):
             said = call("run", str(self.journal), given=script_of(player.lines[low:high]))
             self.hold(said, player.lines[low:high], player.replies[low:high])
 
