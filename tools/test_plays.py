@@ -45,7 +45,7 @@ FATES = ["fate counted", "fate late", "fate over", "fate skipped", "late skip"]
 STANDINGS = ["searching", "verifying", "confirmed", "vindicated", "no culprit", "inconclusive", "cancelled"]
 CAUSES = ["NoSuspects", "TooManySuspects", "WeightRange", "CalmRange", "RepeatedCommit", "Rate", "Miss", "Bar", "Width",
           "Reruns"]
-REFUSALS = ["KeyClash", "NoRun", "UnknownRun", "UnknownSearch", "SearchEnded", "NoRevert", "DailyLimit"]
+REFUSALS = ["KeyClash", "UnknownRun", "UnknownSearch", "SearchEnded", "NoRevert", "NoRun", "DailyLimit"]
 RECORDED = ("open", "lease", "report", "cancel", "revert")
 
 
@@ -96,8 +96,11 @@ class Player:
             self.clock += self.dice.randrange(15_000)
             if self.dice.random() < 0.02:
                 self.clock += self.dice.randint(1, 6) * 3_600_000
-            if self.dice.random() < 0.05:  # just before a lease expires, or as it does
-                self.clock = max([self.clock, *(it.deadline - self.dice.randrange(2) for it in self.farm.leases[-2:])])
+            out = [it.deadline for it in self.farm.leases[-10:] if it.reply is None and it.deadline > self.clock]
+            if out and self.dice.random() < 0.05:  # just before a lease expires, or as it does
+                self.clock = min(out) - self.dice.randrange(2)
+                self.ask({"at": self.clock, **self.keyed({"do": "lease", "worker": "v"})})
+                continue
             late = self.dice.randrange(20_000) if self.dice.random() < 0.08 else 0
             self.ask({"at": self.clock - late, **(self.opening() if step < 3 else self.line())})
         for search in range(1, len(self.farm.searches) + 2):
@@ -237,7 +240,8 @@ class InMemory(Play):
                 self.cut(player)
                 self.audit(player.farm)
                 seen += player.seen
-        self.came_up(seen, REPLIES + FATES + STANDINGS + CAUSES + [it for it in REFUSALS if it != "DailyLimit"])
+        rare = ["NoRun", "DailyLimit"]  # with leases of a minute, and ten orders a day
+        self.came_up(seen, REPLIES + FATES + STANDINGS + CAUSES + [it for it in REFUSALS if it not in rare])
 
 
 class Journals(Play):
