@@ -27,6 +27,13 @@ INPUT_LIMIT = 2**30
 REFUSED_S = 10.0  # for how long a connect that is refused is made again
 
 
+def bare_program() -> str:
+    """The program itself, where the launcher was named."""
+    if os.path.basename(PROGRAM) != "finder":
+        return PROGRAM
+    return subprocess.run([PROGRAM, "--path"], capture_output=True, text=True, check=True).stdout.strip()
+
+
 def call(*words: Any, given: Union[bytes, IO[bytes], int] = b"", out: Union[IO[bytes], int] = subprocess.PIPE,
          closed: tuple[int, ...] = ()) -> tuple[int, str, str]:
     """The program's status, what it wrote, and what it said, with these standard streams closed as it begins."""
@@ -88,6 +95,12 @@ class Limits(unittest.TestCase):
                 break
         out, said = script.communicate(timeout=PATIENCE)
         self.assertEqual((script.returncode, out.decode(), said), (13, FARM % 1, b"the input is too long\n"))
+
+
+    def test_words_that_the_launcher_takes_are_none_of_the_programs(self) -> None:
+        for words in (["--help"], ["-h"], ["--version"], ["show", "--help"]):
+            ran = subprocess.run([bare_program(), *words], capture_output=True, input=b"{}", check=False)
+            self.assertEqual((ran.returncode, ran.stdout, ran.stderr), (2, b"", b"usage\n"))
 
 
 class Streams(Case):
