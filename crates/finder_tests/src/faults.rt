@@ -1,7 +1,6 @@
 //! A script that is run over a journal, with a fault at each call of its disk, and what a crash leaves then.
 
-use crate::played::{Played, calm_call, play, play_calm, put_status};
-use crate::texts::put;
+use crate::played::{calm_call, play, play_calm};
 use farm_disk::{DiskFail, MemDisk};
 use finder_program::Status;
 use std::alloc::{AllocError, Global};
@@ -40,22 +39,7 @@ fn goes_on<H: Threads + Wait + Eprint + Sync>(
     Ok(played.status == Status::Done && played.written.as_slice() == replies)
 }
 
-/// Puts behind a text how many entries a journal holds: what its farm's page shows.
-fn put_entries(out: &mut String, shown: &Played) -> Result<(), AllocError> {
-    if shown.status != Status::Done {
-        put_status(out, " [", shown.status)?;
-        return out.push(']');
-    }
-    let (_, rest) = shown
-        .text()
-        .split_once("\"entries\":")
-        .unwrap_or(("", "none"));
-    let (number, _) = rest.split_once(',').unwrap_or((rest, ""));
-    out.push(' ')?;
-    out.push_str(number)
-}
-
-/// Puts behind a text how many entries an image holds, as it stands there.
+/// Puts behind a text how many entries an image holds, as it stands there: what its farm's page shows.
 fn play_image<H: Threads + Wait + Eprint + Sync>(
     rt: &H,
     alloc: Global,
@@ -63,7 +47,15 @@ fn play_image<H: Threads + Wait + Eprint + Sync>(
     image: &[u8],
 ) -> Result<(), AllocError> {
     let shown = play_calm(rt, alloc, calm_call("show J", b""), image)?;
-    put_entries(out, &shown)
+    if shown.status != Status::Done {
+        return write!(out, " [{}]", shown.status);
+    }
+    let (_, rest) = shown
+        .text()
+        .split_once("\"entries\":")
+        .unwrap_or(("", "none"));
+    let (number, _) = rest.split_once(',').unwrap_or((rest, ""));
+    write!(out, " {number}")
 }
 
 /// Puts behind a text what the images of a crash hold now, and whether other replies come over them.
@@ -87,13 +79,6 @@ fn play_images<H: Threads + Wait + Eprint + Sync>(
     Ok(())
 }
 
-/// Puts behind a text how a script ended, and with how many replies.
-fn put_end(out: &mut String, status: Status, written: &[u8]) -> Result<(), AllocError> {
-    put_status(out, "", status)?;
-    put(out, ", ", lines_in(written))?;
-    out.push_str(" replies; entries")
-}
-
 /// Plays the script where one call of the disk fails, and puts what it comes to behind a text.
 fn play_fault<H: Threads + Wait + Eprint + Sync>(
     rt: &H,
@@ -106,7 +91,7 @@ fn play_fault<H: Threads + Wait + Eprint + Sync>(
 ) -> Result<(), AllocError> {
     let disk = MemDisk::of(Vec::from_slice(alloc, journal)?, vec![in alloc; fail]?);
     let (status, written, disk) = play(rt, alloc, calm_call("run J", script.as_bytes()), disk)?;
-    put_end(out, status, &written)?;
+    write!(out, "{status}, {} replies; entries", lines_in(&written))?;
     play_images(rt, alloc, out, &disk, script, replies)?;
     out.push_str(if replies.starts_with(&written) {
         "\n"
@@ -135,16 +120,6 @@ fn play_each<H: Threads + Wait + Eprint + Sync>(
     Ok(())
 }
 
-/// Puts behind a text how a journal was founded, and how a whole script ended.
-fn put_founded(out: &mut String, founded: &Played, whole: &Played) -> Result<(), AllocError> {
-    put_status(out, "", founded.status)?;
-    put(out, ": ", founded.disk.len())?;
-    out.push_str(" bytes\n")?;
-    put_status(out, "", whole.status)?;
-    put(out, ": ", lines_in(&whole.written))?;
-    out.push_str(" replies\n")
-}
-
 /// Founds a journal, plays the script over it, and then with each fault.
 pub(crate) fn play_faults<H: Threads + Wait + Eprint + Sync>(
     rt: &H,
@@ -155,6 +130,7 @@ pub(crate) fn play_faults<H: Threads + Wait + Eprint + Sync>(
     let founded = play_calm(rt, alloc, calm_call("found J 60000 10 east:0", b""), b"")?;
     let asked = calm_call("run J", script.as_bytes());
     let whole = play_calm(rt, alloc, asked, &founded.disk)?;
-    put_founded(out, &founded, &whole)?;
+    writeln!(out, "{}: {} bytes", founded.status, founded.disk.len())?;
+    writeln!(out, "{}: {} replies", whole.status, lines_in(&whole.written))?;
     play_each(rt, alloc, out, &founded.disk, script, &whole.written)
 }
