@@ -16,7 +16,7 @@ slow_disk-send : IsSend SlowDisk.the_row
 slow_disk-send = search (told_list-send, sendable, crosses) depth 20
 
 passed-send : IsSend Passed.the_row
-passed-send = search (told_list-send, sendable, crosses) depth 20
+passed-send = search (sendable, crosses) depth 20
 
 brand-send : IsSend Brand.the_row
 brand-send = search (sendable, crosses) depth 20
