@@ -1,6 +1,6 @@
 //! Totals that are posted and read.
 ghost use Rattle.std.specs.Prelude.{◌≡◌, true};
-ghost use Rattle.list_prefix.specs.Prefix.{IsPrefix};
+ghost use Rattle.common_types.specs.Prefix.{IsPrefix};
 
 use farm_board::{Board, BoardPass};
 use farm_core::{Farm, Prepared};

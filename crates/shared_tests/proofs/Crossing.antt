@@ -4,8 +4,8 @@ use denote.Param.Send.{IsSend, IsSync, sendable}
 use Rattle.std.proofs.Crossing.{crosses}
 use Rattle.farm_disk.specs.declared.dated.DatedDisk as dated
 use Rattle.farm_disk.specs.declared.disk.Disk.{Ghosts}
-use Rattle.past_moments.specs.contracts.passed.Passed as Passed
-use Rattle.past_moments.specs.contracts.passed.PassedPast.TheImpl as past
+use Rattle.common_types.specs.contracts.passed.Passed as Passed
+use Rattle.common_types.specs.contracts.passed.PassedPast.TheImpl as past
 use Rattle.std.specs.contracts.marker.Brand as Brand
 use Rattle.shared_farm.specs.contracts.farm.SharedFarm as SharedFarm
 use Rattle.shared_farm.specs.contracts.beginning.BrandBeginning.TheImpl as begun

@@ -2,10 +2,10 @@
 ghost use Rattle.turn_lock.specs.Known.{IsReady};
 
 use crate::asks::{key, lease, moment};
+use common_types::Passed;
 use farm_disk::DatedDisk;
 use farm_entry::{Answer, Reply};
 use farm_store::{Ask, CallFault, MAX_BATCH};
-use past_moments::Passed;
 use shared_farm::{Pass, SharedFarm};
 use std::alloc::Global;
 use std::sync::Wait;

@@ -2,10 +2,10 @@
 ghost use Rattle.std.specs.Prelude.{◌≡◌};
 ghost use Rattle.turn_lock.specs.Known.{IsReady};
 
+use common_types::Passed;
 use farm_disk::DatedDisk;
 use farm_entry::{Command, Reply};
 use farm_types::Moment;
-use past_moments::Passed;
 use shared_farm::{Pass, SharedFarm};
 use std::alloc::Global;
 use std::sync::Wait;

@@ -3,10 +3,10 @@ ghost use Rattle.turn_lock.specs.Known.{IsReady};
 
 use crate::asks::{key, lease, moment};
 use crate::calls::call;
+use common_types::Passed;
 use farm_disk::DatedDisk;
 use farm_entry::Command;
 use farm_types::Moment;
-use past_moments::Passed;
 use shared_farm::{Pass, SharedFarm};
 use std::alloc::Global;
 use std::sync::Wait;

@@ -27,11 +27,11 @@ mod steps;
 mod words;
 
 use callers::{Plan, played};
+use common_types::Passed;
 use counts::Counts;
 use farm_disk::{CalmDisk, DatedDisk};
 use farm_store::CreateFault;
 use file_disk::{FileDisk, Opening};
-use past_moments::Passed;
 use sharing::play_shared;
 use std::alloc::{AllocError, Global};
 use std::io;
