@@ -16,7 +16,7 @@ import sys
 import tempfile
 
 ROOT = os.path.dirname(os.path.dirname(os.path.abspath(__file__)))
-CRATES = ["fault_types", "told_list", "past_moments", "item_list", "farm_disk", "file_disk", "farm_journal"]
+CRATES = ["common_types", "farm_disk", "file_disk", "farm_journal"]
 TURNS = 7
 
 PROGRAM = """//! Appends payloads to a new journal in the file `journal`, and prints the nanoseconds that they took.

@@ -1,7 +1,7 @@
 -- The bytes of answers, as they are put.
 use Rattle.std.proofs.Common.{◌≡◌, ◌++◌, ◌∷◌, [], append-nil}
 use Rattle.http_requests.specs.Items.{Item}
-use Rattle.list_prefix.specs.Prefix.{IsPrefix}
+use Rattle.common_types.specs.Prefix.{IsPrefix}
 use Rattle.connection_laws.specs.Outcomes.{Step}
 use Rattle.connection_laws.specs.Answers.{item_bytes, response_bytes, interim_of, response_of, transcript}
 

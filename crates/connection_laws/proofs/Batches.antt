@@ -11,9 +11,9 @@ use Rattle.farm_store.specs.declared.asking.TheConstants.{MAX_BATCH}
 use Rattle.std.specs.List.{range_with_len}
 use Rattle.connection_laws.specs.Moments.{Given, at_count}
 use Rattle.http_requests.specs.Items.{Item}
-use Rattle.list_prefix.specs.Prefix.{IsPrefix}
-use Rattle.list_prefix.proofs.Prefixes.{IsPrefix-refl, IsPrefix-trans, IsPrefix-length}
-use Rattle.fault_types.specs.Counts.{Rose}
+use Rattle.common_types.specs.Prefix.{IsPrefix}
+use Rattle.common_types.proofs.Prefixes.{IsPrefix-refl, IsPrefix-trans, IsPrefix-length}
+use Rattle.common_types.specs.Counts.{Rose}
 use Rattle.connection_laws.specs.Batches.{AreAsked, AreAnsweredBy, AreAtOnce, failed_steps, uncalled_steps}
 use Rattle.connection_laws.specs.Progress.{Progress, progress_after, decision_on, progress_past, recorded_place, recorded_places, new_place}
 use Rattle.connection_laws.proofs.Progress.{after-longer}

@@ -6,8 +6,8 @@ use Rattle.connection_laws.specs.Moments.{Given}
 use Rattle.http_requests.specs.Items.{Item, Items, End}
 use Rattle.link_io.specs.Links.{LinkState}
 use Rattle.link_io.specs.declared.source.TheConstants.{INPUT_LIMIT}
-use Rattle.list_prefix.specs.Prefix.{IsPrefix}
-use Rattle.list_prefix.proofs.Prefixes.{IsPrefix-length, IsPrefix-refl, IsPrefix-trans}
+use Rattle.common_types.specs.Prefix.{IsPrefix}
+use Rattle.common_types.proofs.Prefixes.{IsPrefix-length, IsPrefix-refl, IsPrefix-trans}
 use Rattle.connection_laws.specs.Answers.{transcript}
 use Rattle.connection_laws.specs.Held.{HeldFrom}
 use Rattle.connection_laws.specs.Kinds.{Kind, faulty, commands, totals, log, kind_of}

@@ -5,8 +5,8 @@ use Rattle.farm_entry.specs.declared.entry.Entry.{Entry}
 use Rattle.connection_laws.specs.Moments.{Given}
 use Rattle.http_requests.specs.Fronts.{Opens, behind}
 use Rattle.http_requests.specs.Items.{Item, Items, End, ended}
-use Rattle.list_prefix.specs.Prefix.{IsPrefix}
-use Rattle.list_prefix.proofs.Prefixes.{IsPrefix-refl, IsPrefix-trans, IsPrefix-equal}
+use Rattle.common_types.specs.Prefix.{IsPrefix}
+use Rattle.common_types.proofs.Prefixes.{IsPrefix-refl, IsPrefix-trans, IsPrefix-equal}
 use Rattle.connection_laws.specs.Answers.{transcript}
 use Rattle.connection_laws.specs.Progress.{Progress, progress_after, progress_at, IsBefore, IsWithin}
 use Rattle.connection_laws.specs.Held.{Held, HeldFrom, IsReadOut, IsSoFar}

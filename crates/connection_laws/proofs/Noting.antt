@@ -4,9 +4,9 @@ use Rattle.std.specs.Prelude.{⊤}
 use Rattle.farm_entry.specs.declared.entry.Entry.{Entry}
 use Rattle.link_io.specs.Links.{LinkState}
 use Rattle.link_io.specs.Notes.{Note, TakesNotes}
-use Rattle.past_moments.proofs.Rows.{IsAmong-AreAmong, IsAmong-append_second}
-use Rattle.past_moments.specs.Rows.{AreAmong}
-use Rattle.past_moments.specs.declared.row.Row.{Row}
+use Rattle.common_types.proofs.Rows.{IsAmong-AreAmong, IsAmong-append_second}
+use Rattle.common_types.specs.Rows.{AreAmong}
+use Rattle.common_types.specs.declared.row.Row.{Row}
 use Rattle.connection_laws.specs.Told.{IsNoted, noted_in}
 
 pub TakesNotes-refl : (notes : Option (List Note)) → TakesNotes notes notes

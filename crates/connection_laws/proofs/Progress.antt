@@ -6,9 +6,9 @@ use Rattle.farm_entry.specs.declared.decision.Decision.TheVariants.{New, Refuse,
 use Rattle.farm_entry.specs.declared.entry.Entry.{Entry}
 use Rattle.connection_laws.specs.Moments.{Given}
 use Rattle.http_requests.specs.Items.{Item}
-use Rattle.list_prefix.specs.Prefix.{IsPrefix}
-use Rattle.list_prefix.proofs.Prefixes.{IsPrefix-refl, IsPrefix-trans, IsPrefix-append}
-use Rattle.fault_types.specs.Counts.{Rose}
+use Rattle.common_types.specs.Prefix.{IsPrefix}
+use Rattle.common_types.proofs.Prefixes.{IsPrefix-refl, IsPrefix-trans, IsPrefix-append}
+use Rattle.common_types.specs.Counts.{Rose}
 use Rattle.connection_laws.specs.Progress.{Progress, progress_after, decision_on, recorded_place, recorded_places, progress_past, IsBefore, IsWithin}
 use Rattle.connection_laws.specs.Marks.{Mark, Follows}
 use Rattle.connection_laws.specs.Outcomes.{ItemOutcome, faulted, misread, answered, counted, copied, failed, failed_too, unread, uncalled, Step}

@@ -3,8 +3,8 @@ use Rattle.std.proofs.Common.{ℕ, ◌+◌, ◌≤◌, List, [], ◌∷◌, ◌+
 use Rattle.farm_entry.specs.Playing.{after}
 use Rattle.farm_entry.specs.declared.entry.Entry.{Entry}
 use Rattle.http_requests.specs.Items.{Item}
-use Rattle.list_prefix.specs.Prefix.{IsPrefix}
-use Rattle.list_prefix.proofs.Prefixes.{IsPrefix-length, IsPrefix-trans}
+use Rattle.common_types.specs.Prefix.{IsPrefix}
+use Rattle.common_types.proofs.Prefixes.{IsPrefix-length, IsPrefix-trans}
 use Rattle.connection_laws.specs.Answers.{interim_of, item_bytes, response_bytes, response_of, transcript}
 use Rattle.connection_laws.specs.Moments.{Given}
 use Rattle.connection_laws.specs.Outcomes.{ItemOutcome, faulted, misread, answered, counted, copied, failed, failed_too, unread, uncalled, Step}

@@ -4,7 +4,7 @@ use Rattle.farm_entry.specs.declared.entry.Entry.{Entry}
 use Rattle.connection_laws.specs.Moments.{Given}
 use Rattle.link_io.specs.Links.{LinkState, fresh_link}
 use Rattle.link_io.specs.Notes.{Note}
-use Rattle.past_moments.specs.declared.row.Row.{Row}
+use Rattle.common_types.specs.declared.row.Row.{Row}
 use Rattle.connection_laws.specs.Marks.{Mark, Follows}
 use Rattle.connection_laws.specs.Outcomes.{Step}
 use Rattle.connection_laws.specs.Owners.{AreLeftIn, HoldsMore, Holding, IsOwnedBy, Owned, none_owned}

@@ -4,7 +4,7 @@ use Rattle.connection_laws.specs.Moments.{Given}
 use Rattle.http_requests.specs.Fronts.{Opens}
 use Rattle.http_requests.specs.Items.{Item, Items, End, closed}
 use Rattle.link_io.specs.declared.source.TheConstants.{INPUT_LIMIT}
-use Rattle.list_prefix.specs.Prefix.{IsPrefix}
+use Rattle.common_types.specs.Prefix.{IsPrefix}
 use Rattle.connection_laws.specs.Answers.{transcript}
 use Rattle.connection_laws.specs.Progress.{Progress, progress_after, progress_at, IsWithin}
 use Rattle.connection_laws.specs.Marks.{Mark}

@@ -7,7 +7,7 @@ use Rattle.farm_entry.specs.declared.decision.Decision.TheVariants.{New, Refuse,
 use Rattle.farm_entry.specs.declared.entry.Entry.{Entry}
 use Rattle.farm_store.specs.declared.asking.Ask.{Ask}
 use Rattle.farm_store.specs.declared.asking.TheConstants.{MAX_BATCH}
-use Rattle.list_prefix.specs.Prefix.{IsPrefix}
+use Rattle.common_types.specs.Prefix.{IsPrefix}
 use Rattle.connection_laws.specs.Marks.{Mark}
 use Rattle.connection_laws.specs.Outcomes.{ItemOutcome, faulted, misread, answered, counted, copied, failed, failed_too, unread, uncalled, Step}
 

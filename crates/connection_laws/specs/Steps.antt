@@ -9,8 +9,8 @@ use Rattle.farm_store.specs.declared.asking.Ask.{Ask}
 use Rattle.connection_laws.specs.Moments.{Given, at_moment, at_count}
 use Rattle.farm_wire.specs.declared.fault.WireFault.{WireFault}
 use Rattle.http_requests.specs.Items.{Item}
-use Rattle.list_prefix.specs.Prefix.{IsPrefix}
-use Rattle.fault_types.specs.Counts.{Rose}
+use Rattle.common_types.specs.Prefix.{IsPrefix}
+use Rattle.common_types.specs.Counts.{Rose}
 use Rattle.connection_laws.specs.Progress.{Progress, decision_on, progress_past}
 use Rattle.connection_laws.specs.Kinds.{faulty, commands, totals, log, kind_of}
 use Rattle.connection_laws.specs.Outcomes.{ItemOutcome, faulted, misread, answered, counted, copied, failed, failed_too, unread, uncalled, Step}

@@ -5,8 +5,8 @@ use Rattle.farm_entry.specs.declared.entry.Entry.{Entry}
 use Rattle.http_requests.specs.Items.{Item}
 use Rattle.link_io.specs.Links.{LinkState}
 use Rattle.link_io.specs.Notes.{Note}
-use Rattle.past_moments.specs.Rows.{IsAmong}
-use Rattle.past_moments.specs.declared.row.Row.{Row}
+use Rattle.common_types.specs.Rows.{IsAmong}
+use Rattle.common_types.specs.declared.row.Row.{Row}
 use Rattle.connection_laws.specs.Answers.{interim_of, item_bytes}
 use Rattle.connection_laws.specs.Outcomes.{ItemOutcome, faulted, misread, answered, counted, copied, failed, failed_too, unread, uncalled, Step}
 use Rattle.connection_laws.specs.Progress.{decision_on}

@@ -10,8 +10,8 @@ use Rattle.atomic_table.specs.Table.{State, Me, Act, keeps, Valid, stepped, step
 use Rattle.atomic_table.proofs.Lists.{at_set, at_snoc, at_longer, exchanged, set_again, set_else, set_here}
 use Rattle.farm_entry.specs.Legal.{IsLegal}
 use Rattle.farm_entry.specs.declared.entry.Entry.{Entry}
-use Rattle.list_prefix.specs.Prefix.{IsPrefix}
-use Rattle.list_prefix.proofs.Prefixes.{IsPrefix-refl, IsPrefix-longer, IsPrefix-nil, IsPrefix-trans, longer-IsPrefix_first, longer-IsPrefix_second}
+use Rattle.common_types.specs.Prefix.{IsPrefix}
+use Rattle.common_types.proofs.Prefixes.{IsPrefix-refl, IsPrefix-longer, IsPrefix-nil, IsPrefix-trans, longer-IsPrefix_first, longer-IsPrefix_second}
 use Rattle.farm_board.specs.Rule.{At, AreOf, IsJoined, IsKept, IsPosted, IsReading, version_of}
 use Rattle.farm_board.specs.Steps.{Begins, Checks, Ends, Peeks, Puts, Starts, Tells}
 use Rattle.farm_board.specs.Views.{idle, met, posting, put_together, reading, resting, spent, told}

@@ -2,7 +2,7 @@
 use Rattle.std.specs.Prelude.{◌≡◌, ◌+◌, ◌-◌, ◌%◌, ◌++◌, ◌∷◌, [], ℕ, List, slice_set}
 use Rattle.atomic_table.specs.Table.{Step, Me}
 use Rattle.farm_entry.specs.declared.entry.Entry.{Entry}
-use Rattle.list_prefix.specs.Prefix.{IsPrefix}
+use Rattle.common_types.specs.Prefix.{IsPrefix}
 use Rattle.farm_board.specs.Rule.{AreOf, IsJoined, IsPosted}
 use Rattle.farm_board.specs.Views.{idle, posting, reading, resting, told}
 use Rattle.farm_board.specs.declared.row.View.{View}

@@ -5,7 +5,7 @@ use Rattle.farm_entry.specs.Legal.{IsLegal}
 use Rattle.farm_entry.specs.Pages.{totals}
 use Rattle.farm_entry.specs.declared.entry.Entry.{Entry}
 use Rattle.farm_entry.specs.declared.reply.Totals.{Totals}
-use Rattle.list_prefix.specs.Prefix.{longer}
+use Rattle.common_types.specs.Prefix.{longer}
 use Rattle.farm_board.specs.declared.row.View.{View}
 
 -- a seat that is in the middle of nothing

@@ -20,7 +20,7 @@ ghost use Rattle.std.specs.Prelude.{
 ghost use Rattle.farm_entry.specs.Legal.{IsLegal};
 ghost use Rattle.farm_entry.specs.Pages.{totals as totals_of};
 ghost use Rattle.farm_entry.specs.declared.entry.Entry.{Entry as HistoryEntry};
-ghost use Rattle.list_prefix.specs.Prefix.{IsPrefix, longer};
+ghost use Rattle.common_types.specs.Prefix.{IsPrefix, longer};
 ghost use Rattle.farm_board.specs.Row.{number_of, numbers_of, totals_from};
 ghost use Rattle.farm_board.specs.Rule.{AreOf, IsPosted};
 ghost use Rattle.farm_board.specs.Views.{idle, posting, resting};

@@ -6,10 +6,10 @@
 //! knows a history that it has seen, and what it reads are the totals of a legal history that begins with it. That a
 //! reader sees what was posted since is shown by a test alone.
 //!
-//! The crate stands on `farm_entry` for totals and histories, on `list_prefix`, on `atomic_table` for words under a
-//! rule, and on `crossbeam_utils`, which keeps the board away from what its neighbours write and spaces the tries of a
-//! reader. Contracts see a board as the name of its table, and a pass as a `Reader` of `specs/Reader`. The layers
-//! above may use every name below.
+//! The crate stands on `farm_entry` for totals and histories, on `common_types` for prefixes, on `atomic_table` for
+//! words under a rule, and on `crossbeam_utils`, which keeps the board away from what its neighbours write and spaces
+//! the tries of a reader. Contracts see a board as the name of its table, and a pass as a `Reader` of `specs/Reader`.
+//! The layers above may use every name below.
 #![tactic(auto)]
 
 mod board;

@@ -1,6 +1,6 @@
 -- Which calls of a disk in memory are to fail.
 use Rattle.std.specs.Prelude.{ℕ, List, [], ◌∷◌, Option, Some, None, if◌then◌else◌, ◌==◌}
-use Rattle.fault_types.specs.Counts.{next_count}
+use Rattle.common_types.specs.Counts.{next_count}
 use Rattle.farm_disk.specs.declared.in_memory.fault_plan.DiskFail.{DiskFail}
 
 -- the calls that are to fail; how many calls were made; and how many of them were to fail

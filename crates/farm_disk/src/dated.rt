@@ -3,7 +3,7 @@ ghost use Rattle.std.specs.Prelude.{◌≡◌, ℕ, true};
 ghost use Rattle.farm_disk.specs.Images.{moment};
 
 use crate::Disk;
-use past_moments::Past;
+use common_types::Past;
 
 /// A disk that gives a value for each of its moments that is over.
 ///

@@ -1,6 +1,6 @@
 //! A disk, and what a crash may leave of it.
 ghost use Rattle.std.specs.Prelude.{◌≡◌, ◌≤◌, ◌+◌, ℕ, Bool, true, length, take, drop};
-ghost use Rattle.fault_types.specs.Counts.{Rose};
+ghost use Rattle.common_types.specs.Counts.{Rose};
 ghost use Rattle.farm_disk.specs.Images.{DiskState};
 ghost use Rattle.farm_disk.specs.Model.{IsSound};
 ghost use Rattle.farm_disk.specs.Answers.{

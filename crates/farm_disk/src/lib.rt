@@ -4,7 +4,7 @@
 //! contract above can speak of every image of every moment of a call, whatever disk stands behind it. The one over a
 //! file of the system is in `file_disk`.
 //!
-//! The crate stands on `told_list` and on `past_moments`. The layers above may use
+//! The crate stands on `common_types`. The layers above may use
 //! - the trait `Disk` with its answers `Did`, `Size` and `Written`;
 //! - the trait `DatedDisk`, of a disk that gives values for its moments that are over;
 //! - `CalmDisk` and `MemDisk`, disks in memory that tell everything; `MemDisk` fails at the calls that it is told to,
@@ -22,7 +22,7 @@ mod in_memory;
 pub mod laws;
 
 pub use call::Call;
+pub use common_types::Memory;
 pub use dated::DatedDisk;
 pub use disk::{Did, Disk, Size, Written};
-pub use fault_types::Memory;
 pub use in_memory::{CalmDisk, DiskFail, MemDisk};

@@ -4,10 +4,10 @@ use Rattle.std.proofs.Crossing.{crosses}
 use Rattle.farm_disk.specs.contracts.in_memory.calm_disk.CalmDisk as CalmDisk
 use Rattle.farm_disk.specs.contracts.in_memory.calm_disk.CalmDiskDatedDisk.TheImpl as dated
 use Rattle.farm_disk.specs.contracts.in_memory.calm_disk.CalmDiskDisk.TheImpl.{ghosts}
-use Rattle.past_moments.specs.contracts.passed.Passed as Passed
-use Rattle.past_moments.specs.contracts.passed.PassedPast.TheImpl as past
+use Rattle.common_types.specs.contracts.passed.Passed as Passed
+use Rattle.common_types.specs.contracts.passed.PassedPast.TheImpl as past
 use Rattle.shared_farm.specs.contracts.farm.SharedFarm as SharedFarm
-use Rattle.told_list.proofs.Crossing.{told_list-send}
+use Rattle.common_types.proofs.Crossing.{told_list-send}
 use Rattle.shared_farm.proofs.Crossing.{shared_farm-sync, along}
 use Rattle.farm_drill.specs.contracts.farm.CommandsAlone as CommandsAlone
 use Rattle.farm_drill.specs.contracts.farm.CommandsAloneBeginning.TheImpl as begun

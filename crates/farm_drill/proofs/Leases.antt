@@ -32,7 +32,7 @@ use Rattle.farm_laws.proofs.Moments.{moments-until_last}
 use Rattle.farm_laws.proofs.Replies.{slice_get-last}
 use Rattle.farm_entry.specs.Answer.{IsAnswer}
 use Rattle.farm_entry.specs.declared.answer.Answer.TheVariants as answer
-use Rattle.list_prefix.specs.Prefix.{IsPrefix}
+use Rattle.common_types.specs.Prefix.{IsPrefix}
 use Rattle.drill_plan.specs.Start.{drill_founding, drill_moment}
 use Rattle.farm_drill.specs.Asked.{AskSays, IsDone, IsRefused}
 use Rattle.farm_drill.specs.Ends.{IsFull, NoneIsDue}

@@ -1,7 +1,7 @@
 -- The runs without a report, one after the other.
 use Rattle.std.proofs.Common.{◌≡◌, ◌+◌, ◌<◌, ◌≤◌, ℕ, zero, suc, Bool, true, not, List, [], ◌∷◌, All, Contains, length, take, get_or, refl, sym, subst, ◌∙◌, arith}
 use Rattle.std.proofs.lemmas.List.{take_all}
-use Rattle.list_prefix.specs.Prefix.{IsPrefix}
+use Rattle.common_types.specs.Prefix.{IsPrefix}
 use Rattle.farm_entry.specs.History.{all_leases, is_reported}
 use Rattle.farm_entry.specs.declared.entry.Entry.{Entry}
 use Rattle.farm_entry.specs.declared.lease.LeasedRun.{LeasedRun}

@@ -31,7 +31,7 @@ use Rattle.farm_laws.proofs.OrdersOnce.{days-limited}
 use Rattle.shared_farm.specs.Rests.{IsByCommands}
 use Rattle.farm_entry.specs.Answer.{IsAnswer}
 use Rattle.farm_entry.specs.declared.answer.Answer.TheVariants as answer
-use Rattle.list_prefix.specs.Prefix.{IsPrefix}
+use Rattle.common_types.specs.Prefix.{IsPrefix}
 use Rattle.drill_plan.specs.Start.{drill_founding, revert_ms}
 use Rattle.drill_plan.specs.declared.limits.TheConstants.{DRILL_DAILY}
 use Rattle.farm_drill.specs.Asked.{AskSays, IsDone, IsRefused}

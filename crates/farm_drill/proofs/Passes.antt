@@ -2,8 +2,8 @@
 use Rattle.std.proofs.Common.{◌≡◌, ◌<◌, ◌+◌, ◌-◌, ◌⊎◌, ◌++◌, [], ℕ, true, List, length, Option, Some, max, min, refl, sym, ap, subst, ◌∙◌, ⊎_elim, arith, append-nil}
 use Rattle.atomic_table.specs.Seated.{TableId}
 use Rattle.farm_entry.specs.declared.entry.Entry.{Entry}
-use Rattle.list_prefix.specs.Prefix.{IsPrefix}
-use Rattle.past_moments.specs.Rows.{IsAmong}
+use Rattle.common_types.specs.Prefix.{IsPrefix}
+use Rattle.common_types.specs.Rows.{IsAmong}
 use Rattle.turn_lock.specs.Known.{IsOwned, Known, WasPending, both_pending, both_stakes, first_stake, given, no_turn, stake_given, stake_kept}
 use Rattle.turn_lock.specs.Places.{IsOneOf, both_places}
 use Rattle.turn_lock.specs.declared.view.Stake.{Stake}

@@ -1,6 +1,6 @@
 -- One step of the caller: a run that is leased and reported, or an order.
 use Rattle.std.proofs.Common.{◌≡◌, ◌⊎◌, inl, inr, ◌+◌, ◌-◌, ◌<◌, ◌≤◌, ◌++◌, ◌∷◌, [], true, false, List, Contains, length, Some, None, sym, subst, ◌∙◌, ⊎_elim, append-nil, arith}
-use Rattle.list_prefix.specs.Prefix.{IsPrefix}
+use Rattle.common_types.specs.Prefix.{IsPrefix}
 use Rattle.farm_types.specs.declared.key.Key.{Key}
 use Rattle.farm_entry.specs.History.{all_leases, is_closed, is_reported, key_in, place_of_key}
 use Rattle.farm_entry.specs.Legal.{IsLegal}

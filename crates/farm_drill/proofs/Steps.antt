@@ -1,7 +1,7 @@
 -- What the commands of the caller come to, by what the store answered.
 use Rattle.std.proofs.Common.{◌≡◌, ◌+◌, ◌++◌, ◌∷◌, ◌≤◌, ◌<◌, [], ℕ, Bool, true, false, List, All, Contains, MatchBool, length, take, get_or, None, Result, Ok, Err, is_ok, is_some, append_assoc, length-append, refl, sym, ap, subst, ◌∙◌, arith, take-suc, add-one}
 use Rattle.std.proofs.lemmas.List.Elements.{All-push, All-weaker}
-use Rattle.list_prefix.specs.Prefix.{IsPrefix}
+use Rattle.common_types.specs.Prefix.{IsPrefix}
 use Rattle.weight_exact.specs.declared.run.Verdict.{Verdict}
 use Rattle.farm_types.specs.declared.key.Key.{Key}
 use Rattle.farm_types.specs.declared.moment.Moment.{Moment}

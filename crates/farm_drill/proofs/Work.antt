@@ -6,7 +6,7 @@ use Rattle.farm_entry.specs.declared.command.Command.{Command}
 use Rattle.farm_entry.specs.declared.command.Command.TheVariants as command
 use Rattle.farm_entry.specs.declared.entry.Entry.{Entry}
 use Rattle.farm_entry.specs.declared.lease.LeasedRun.{LeasedRun}
-use Rattle.list_prefix.specs.Prefix.{IsPrefix}
+use Rattle.common_types.specs.Prefix.{IsPrefix}
 use Rattle.drill_plan.specs.Plan.{planned_verdict}
 use Rattle.worker_core.specs.Core.{Core}
 use Rattle.worker_core.specs.Origins.{ComesFrom}

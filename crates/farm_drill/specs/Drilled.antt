@@ -1,6 +1,6 @@
 -- What the history of a whole drill is.
 use Rattle.std.specs.Prelude.{ℕ, List}
-use Rattle.list_prefix.specs.Prefix.{IsPrefix}
+use Rattle.common_types.specs.Prefix.{IsPrefix}
 use Rattle.farm_entry.specs.Legal.{IsLegal}
 use Rattle.farm_entry.specs.declared.entry.Entry.{Entry}
 use Rattle.drill_plan.specs.Start.{IsStart}

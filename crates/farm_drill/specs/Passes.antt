@@ -1,6 +1,6 @@
 -- What a worker's pass knows by the plan, and what the worker keeps of it.
 use Rattle.std.specs.Prelude.{◌≡◌, [], Some}
-use Rattle.list_prefix.specs.Prefix.{IsPrefix}
+use Rattle.common_types.specs.Prefix.{IsPrefix}
 use Rattle.turn_lock.specs.Known.{Known}
 use Rattle.farm_drill.specs.Planned.{ArePlanned}
 

@@ -2,7 +2,7 @@
 ghost use Rattle.std.specs.Prelude.{◌≡◌, ◌++◌, [], IfOk, OnOk};
 ghost use Rattle.farm_drill.specs.Asked.{AskSays};
 ghost use Rattle.farm_entry.specs.Legal.{IsLegal};
-ghost use Rattle.list_prefix.specs.Prefix.{IsPrefix};
+ghost use Rattle.common_types.specs.Prefix.{IsPrefix};
 ghost use Rattle.shared_farm.specs.Rests.{IsByCommands};
 
 use farm_disk::CalmDisk;

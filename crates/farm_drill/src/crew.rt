@@ -1,6 +1,6 @@
 //! The workers of a drill, each in a thread of its own.
 ghost use Rattle.std.specs.Prelude.{◌≡◌, ◌<◌, ◌++◌, [], IfOk};
-ghost use Rattle.list_prefix.specs.Prefix.{IsPrefix};
+ghost use Rattle.common_types.specs.Prefix.{IsPrefix};
 ghost use Rattle.shared_farm.specs.Rests.{IsByCommands};
 ghost use Rattle.turn_lock.specs.Known.{IsReady};
 ghost use Rattle.farm_drill.specs.Passes.{IsByPlan, KeepsPlan};

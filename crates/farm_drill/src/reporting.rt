@@ -1,7 +1,7 @@
 //! Reports of the caller.
 ghost use Rattle.std.specs.Prelude.{◌≡◌, ◌⊎◌, ◌++◌, ℕ, [], true, false, replicate, Contains, None, IfOk, OnOk, MatchBool};
 ghost use Rattle.std.specs.List.{cons_option};
-ghost use Rattle.list_prefix.specs.Prefix.{IsPrefix};
+ghost use Rattle.common_types.specs.Prefix.{IsPrefix};
 ghost use Rattle.drill_plan.specs.Plan.{planned_verdict};
 ghost use Rattle.drill_plan.specs.Start.{drill_moment};
 ghost use Rattle.farm_entry.specs.Decision.{decide};

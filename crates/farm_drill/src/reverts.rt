@@ -1,6 +1,6 @@
 //! The reverts of a drill.
 ghost use Rattle.std.specs.Prelude.{◌≡◌, ◌++◌, ◌+◌, ◌≤◌, ◌∷◌, List, [], length, IfOk, OnOk, MatchBool, None};
-ghost use Rattle.list_prefix.specs.Prefix.{IsPrefix};
+ghost use Rattle.common_types.specs.Prefix.{IsPrefix};
 ghost use Rattle.farm_entry.specs.declared.entry.Entry.{Entry};
 ghost use Rattle.farm_entry.specs.declared.limits.TheConstants.{MAX_SEARCHES};
 ghost use Rattle.farm_entry.specs.History.{order_lines, place_of_key};

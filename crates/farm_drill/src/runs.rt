@@ -1,6 +1,6 @@
 //! What is left of the runs when the workers have ended.
 ghost use Rattle.std.specs.Prelude.{◌≡◌, ◌++◌, ◌∷◌, ◌⊎◌, ℕ, [], true, IfOk, OnOk, IfSome, IfNone, MatchBool, None};
-ghost use Rattle.list_prefix.specs.Prefix.{IsPrefix};
+ghost use Rattle.common_types.specs.Prefix.{IsPrefix};
 ghost use Rattle.farm_entry.specs.History.{all_leases, is_reported, place_of_key};
 ghost use Rattle.farm_entry.specs.Legal.{IsLegal};
 ghost use Rattle.drill_plan.specs.Start.{drill_founding};

@@ -1,6 +1,6 @@
 //! The drill.
 ghost use Rattle.std.specs.Prelude.{◌≡◌, ◌≤◌, ◌++◌, ◌∷◌, ℕ, List, [], IfOk, OnOk, string_bytes};
-ghost use Rattle.list_prefix.specs.Prefix.{IsPrefix};
+ghost use Rattle.common_types.specs.Prefix.{IsPrefix};
 ghost use Rattle.farm_entry.specs.declared.entry.Entry.{Entry};
 ghost use Rattle.farm_entry.specs.declared.limits.TheConstants.{MAX_SEARCHES};
 ghost use Rattle.drill_plan.specs.Start.{IsStart, drill_founding};

@@ -1,5 +1,5 @@
+use common_types::ItemList;
 use farm_types::{CommitId, Key, Name};
-use item_list::ItemList;
 use suspect_range::Suspect;
 use weight_exact::Verdict;
 

@@ -3,11 +3,11 @@
 //! comes to at each history, and which histories are legal.
 //!
 //! The crate stands on `farm_types`, `flake_rate`, `suspect_range` and `weight_exact` for the values that these hold,
-//! on `item_list` for its lists, on `farm_rules` for the rules that its definitions are made of, and on `thiserror`
+//! on `common_types` for its lists, on `farm_rules` for the rules that its definitions are made of, and on `thiserror`
 //! for the texts of its refusals. The types are plain: their fields are public, and what is legal is said of whole
 //! histories. The layers above may use every name below. Contracts see lists and the opening of a search as what they
-//! hold, see settings through `settings_lease_ms`, `settings_daily` and `settings_zone_minutes` of `specs/`, and say
-//! by `settings_fault` why numbers are no settings.
+//! hold, see settings through `settings_lease_ms`, `settings_daily` and `settings_zone_minutes` of `specs/`, and say by
+//! `settings_fault` why numbers are no settings.
 //!
 //! The definitions stand in `specs/`, to be read in this order: `Ask` (the search that a request asks for), `Setup`
 //! (from an opening to its weights), `History` (what a list of entries holds), `Standing`, `Due`, `Orders`, `RunPages`,

@@ -1,5 +1,5 @@
+use common_types::ItemList;
 use farm_types::{CommitId, Name};
-use item_list::ItemList;
 
 /// An order to revert a culprit, as it is shown.
 #[derive(PartialEq, Eq, Drop)]

@@ -1,6 +1,6 @@
 use crate::{Fate, OrderPage, RunPage, SearchList, SkipFate, Standing};
+use common_types::ItemList;
 use farm_types::{CommitId, Name, Stage};
-use item_list::ItemList;
 use weight_exact::Verdict;
 
 /// What a farm answers to a command that it doesn't refuse. Where an entry answers the command, a standing is the one

@@ -1,6 +1,6 @@
 use crate::{Fate, SkipFate};
+use common_types::ItemList;
 use farm_types::{CommitId, Moment, Name, Stage};
-use item_list::ItemList;
 use weight_exact::Verdict;
 
 /// What the first report of a run said, and what it did to the search.

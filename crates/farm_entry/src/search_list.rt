@@ -1,6 +1,6 @@
 use crate::Standing;
+use common_types::ItemList;
 use farm_types::{CommitId, Moment, Name};
-use item_list::ItemList;
 
 /// A search, as it is shown in the list of all.
 #[derive(PartialEq, Eq, Drop)]

@@ -5,7 +5,7 @@ use Rattle.std.proofs.lemmas.Bool.{and_parts, leb-true, ltb-true, not-true}
 use Rattle.std.proofs.lemmas.List.Elements.{All-append, All-cons, All-nil}
 use Rattle.std.proofs.lemmas.List.Folds.{list_any_at}
 use Rattle.std.proofs.lemmas.List.Quantifiers.{all_pairs_push}
-use Rattle.decimal_text.specs.Decimals.{number}
+use Rattle.common_types.specs.Decimals.{number}
 use Rattle.farm_entry.specs.Closing.{CanBeCarried}
 use Rattle.farm_entry.specs.declared.limits.TheConstants.{MAX_CARRIED}
 use Rattle.farm_rules.specs.Orders.{Ordered, has_order}

@@ -4,7 +4,7 @@ use Rattle.std.proofs.lemmas.Bool.{ne_eqb}
 use Rattle.std.proofs.lemmas.Option.{none-some, same_Some}
 use Rattle.std.specs.Prelude.{codes, if◌then◌else◌}
 use Rattle.std.specs.Str.{bytes_eq}
-use Rattle.decimal_text.specs.Decimals.{number}
+use Rattle.common_types.specs.Decimals.{number}
 use Rattle.judge.specs.Form.{after_keyword}
 use Rattle.judge.specs.Text.{first_number}
 use Rattle.farm_handover.specs.Handover.{closes, counts}

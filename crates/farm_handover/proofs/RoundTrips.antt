@@ -11,7 +11,7 @@ use Rattle.std.proofs.lemmas.List.Elements.{All-append, All-cons, All-nil}
 use Rattle.std.proofs.lemmas.List.Folds.{list_any_none}
 use Rattle.std.proofs.lemmas.Str.Parse.{numerals_by_value, tells_by_index}
 use Rattle.std.proofs.Math.Seq.{get_or-append_seam}
-use Rattle.decimal_text.specs.Decimals.{number}
+use Rattle.common_types.specs.Decimals.{number}
 use Rattle.hex.specs.Hex.{is_hex_digit}
 use Rattle.farm_entry.specs.Closing.{CanBeCarried}
 use Rattle.farm_entry.specs.declared.limits.TheConstants.{MAX_CARRIED}

@@ -23,8 +23,8 @@ use Rattle.http_answers.specs.Answers.{allow_line, body_put, close_line, status_
 use Rattle.http_answers.specs.Pieces.{parts_joined}
 use Rattle.http_requests.specs.Items.{Item, Items, closed}
 use Rattle.http_requests.specs.declared.request.Request.{Request}
-use Rattle.list_prefix.specs.Prefix.{IsPrefix}
-use Rattle.list_prefix.proofs.Prefixes.{IsPrefix-equal, IsPrefix-refl}
+use Rattle.common_types.specs.Prefix.{IsPrefix}
+use Rattle.common_types.proofs.Prefixes.{IsPrefix-equal, IsPrefix-refl}
 use Rattle.shared_farm.specs.Turns.{IsTurn}
 use Rattle.turn_lock.specs.Known.{Known}
 use Rattle.farm_http.specs.Batches.{ArePutAs, BatchState, IsBatch, IsPutAs, all_answered}

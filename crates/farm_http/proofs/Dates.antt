@@ -16,7 +16,7 @@ use Rattle.farm_entry.specs.declared.answer.Answer.{Answer}
 use Rattle.farm_store.specs.declared.asking.Ask.{Ask}
 use Rattle.farm_store.specs.declared.asking.CallFault.{CallFault}
 use Rattle.farm_store.specs.declared.asking.CallFault.TheVariants as fault
-use Rattle.list_prefix.specs.Prefix.{IsPrefix}
+use Rattle.common_types.specs.Prefix.{IsPrefix}
 use Rattle.shared_farm.specs.Turns.{IsTurn}
 use Rattle.turn_lock.specs.Known.{Known}
 use Rattle.farm_http.specs.Turns.{HasAnswers}

@@ -29,8 +29,8 @@ use Rattle.http_requests.proofs.Heads.{HasHead-busy}
 use Rattle.link_io.specs.Links.{LinkState}
 use Rattle.link_io.specs.declared.source.TheConstants.{INPUT_LIMIT}
 use Rattle.link_io.proofs.Told.{append_known-nil}
-use Rattle.list_prefix.specs.Prefix.{IsPrefix}
-use Rattle.list_prefix.proofs.Prefixes.{IsPrefix-trans, IsPrefix-length}
+use Rattle.common_types.specs.Prefix.{IsPrefix}
+use Rattle.common_types.proofs.Prefixes.{IsPrefix-trans, IsPrefix-length}
 use Rattle.connection_laws.specs.Owners.{Holding, holding_of}
 use Rattle.connection_laws.proofs.Owners.{HoldsMore-nothing}
 use Rattle.farm_http.specs.Callers.{CallerState, mark_of}
@@ -40,8 +40,8 @@ use Rattle.connection_laws.specs.Told.{AreSaid, Saying, if_put, noted_in}
 use Rattle.connection_laws.proofs.Said.{AreSaid-append, AreSaid-put}
 use Rattle.link_io.specs.Intake.{Intake, no_intake}
 use Rattle.link_io.specs.Notes.{TakesNotes}
-use Rattle.past_moments.proofs.Rows.{AreAmong-refl}
-use Rattle.past_moments.specs.Rows.{AreAmong}
+use Rattle.common_types.proofs.Rows.{AreAmong-refl}
+use Rattle.common_types.specs.Rows.{AreAmong}
 use Rattle.farm_http.specs.Noting.{ArePreceded, IsUnbegun}
 use Rattle.farm_http.specs.Received.{AsksInterim, ReceivedState, is_complete}
 use Rattle.farm_http.specs.declared.front.Answered.{Answered}

@@ -4,7 +4,7 @@ use Rattle.std.specs.Io.KnownBytes.{append_known}
 use Rattle.std.specs.Result.{IsErrAnd}
 use Rattle.connection_laws.specs.declared.served.ServeFault.{ServeFault}
 use Rattle.http_requests.specs.declared.request.Request.{Request}
-use Rattle.list_prefix.specs.Prefix.{IsPrefix}
+use Rattle.common_types.specs.Prefix.{IsPrefix}
 use Rattle.farm_http.specs.Bytes.{PutSays}
 use Rattle.farm_http.specs.declared.front.Answered.{Answered}
 use Rattle.farm_http.proofs.Single.{one_answered}

@@ -16,8 +16,8 @@ use Rattle.http_words.specs.declared.endpoint.Endpoint.{Endpoint}
 use Rattle.http_words.specs.declared.endpoint.Endpoint.TheVariants as endpoint
 use Rattle.http_words.specs.declared.fault.Fault.{Fault}
 use Rattle.httparse.specs.Grammar.{RequestHead}
-use Rattle.list_prefix.specs.Prefix.{IsPrefix}
-use Rattle.list_prefix.proofs.Prefixes.{IsPrefix-refl, IsPrefix-trans}
+use Rattle.common_types.specs.Prefix.{IsPrefix}
+use Rattle.common_types.proofs.Prefixes.{IsPrefix-refl, IsPrefix-trans}
 use Rattle.turn_lock.specs.Known.{Known}
 use Rattle.connection_laws.specs.Owners.{holding_of}
 use Rattle.connection_laws.proofs.Owners.{HoldsMore-nothing}

@@ -17,10 +17,10 @@ use Rattle.http_requests.specs.Items.{Item}
 use Rattle.link_io.specs.Intake.{Intake}
 use Rattle.link_io.specs.Links.{LinkState}
 use Rattle.link_io.specs.Notes.{Note, TakesNotes, note_at, with_note}
-use Rattle.list_prefix.proofs.Prefixes.{IsPrefix-length}
-use Rattle.list_prefix.specs.Prefix.{IsPrefix}
-use Rattle.past_moments.specs.Rows.{AreAmong}
-use Rattle.past_moments.specs.declared.row.Row.{Row}
+use Rattle.common_types.proofs.Prefixes.{IsPrefix-length}
+use Rattle.common_types.specs.Prefix.{IsPrefix}
+use Rattle.common_types.specs.Rows.{AreAmong}
+use Rattle.common_types.specs.declared.row.Row.{Row}
 use Rattle.shared_farm.specs.Logs.{IsOver}
 use Rattle.turn_lock.specs.Known.{Known}
 use Rattle.farm_http.specs.Noting.{ArePreceded, AreQuiet, IsOutFor, IsUnbegun, MayNote, TookNote}

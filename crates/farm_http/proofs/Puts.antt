@@ -8,8 +8,8 @@ use Rattle.connection_laws.specs.declared.served.ServeFault.{ServeFault}
 use Rattle.farm_entry.specs.declared.answer.Answer.{Answer}
 use Rattle.http_requests.specs.declared.request.Request.{Request}
 use Rattle.link_io.proofs.Told.{append_known-append}
-use Rattle.list_prefix.specs.Prefix.{IsPrefix}
-use Rattle.list_prefix.proofs.Prefixes.{IsPrefix-trans}
+use Rattle.common_types.specs.Prefix.{IsPrefix}
+use Rattle.common_types.proofs.Prefixes.{IsPrefix-trans}
 use Rattle.farm_http.specs.Bytes.{OutState, IsGathered, IsCutOff, OutSays, PutSays, farm_response, farm_responses, request_bytes, requests_bytes}
 
 -- ---- bytes of several answers

@@ -16,7 +16,7 @@ use Rattle.http_requests.specs.Fronts.{Opens, behind}
 use Rattle.http_requests.proofs.FrontLaws.{behind-append, opens-more}
 use Rattle.link_io.specs.Links.{LinkState}
 use Rattle.link_io.proofs.Told.{append_known-nil, append_known-append}
-use Rattle.list_prefix.proofs.Prefixes.{IsPrefix-refl}
+use Rattle.common_types.proofs.Prefixes.{IsPrefix-refl}
 use Rattle.turn_lock.specs.Known.{Known}
 use Rattle.farm_http.specs.Callers.{CallerState, IsAfter, mark_of}
 use Rattle.farm_http.specs.Connection.{IsServing}
@@ -25,8 +25,8 @@ use Rattle.connection_laws.specs.Told.{noted_in}
 use Rattle.connection_laws.proofs.Noting.{TakesNotes-refl}
 use Rattle.link_io.specs.Intake.{Intake}
 use Rattle.link_io.specs.Notes.{TakesNotes}
-use Rattle.past_moments.proofs.Rows.{AreAmong-refl}
-use Rattle.past_moments.specs.Rows.{AreAmong}
+use Rattle.common_types.proofs.Rows.{AreAmong-refl}
+use Rattle.common_types.specs.Rows.{AreAmong}
 use Rattle.farm_http.specs.Received.{AsksInterim, IsTaken, ReceivedState, nothing_received}
 use Rattle.farm_http.specs.declared.front.Answered.{Answered}
 use Rattle.farm_http.proofs.Asked.{asks-append}

@@ -22,8 +22,8 @@ use Rattle.http_words.specs.declared.endpoint.Endpoint.{Endpoint}
 use Rattle.http_words.specs.declared.endpoint.Endpoint.TheVariants as endpoint
 use Rattle.http_words.specs.declared.fault.Fault.{Fault}
 use Rattle.http_words.specs.declared.route.Route.{Route}
-use Rattle.list_prefix.specs.Prefix.{IsPrefix}
-use Rattle.list_prefix.proofs.Prefixes.{IsPrefix-equal, IsPrefix-refl}
+use Rattle.common_types.specs.Prefix.{IsPrefix}
+use Rattle.common_types.proofs.Prefixes.{IsPrefix-equal, IsPrefix-refl}
 use Rattle.turn_lock.specs.Known.{Known}
 use Rattle.farm_http.specs.Batches.{BatchState, IsBatch, all_answered}
 use Rattle.farm_http.specs.Bytes.{PutSays, request_bytes}

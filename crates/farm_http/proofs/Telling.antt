@@ -8,7 +8,7 @@ use Rattle.farm_entry.specs.declared.reply.Totals.{Totals}
 use Rattle.farm_wire.specs.Replies.{totals_data}
 use Rattle.http_requests.specs.declared.request.Request.{Request}
 use Rattle.http_words.specs.declared.status_code.StatusCode.TheVariants as status
-use Rattle.list_prefix.specs.Prefix.{IsPrefix}
+use Rattle.common_types.specs.Prefix.{IsPrefix}
 use Rattle.serde_json.specs.Written.{compact_text}
 use Rattle.farm_http.specs.Bytes.{request_bytes}
 use Rattle.farm_http.specs.Told.{told_bytes, totals_response}

@@ -7,12 +7,12 @@ use Rattle.farm_entry.specs.declared.answer.Answer.{Answer}
 use Rattle.farm_store.specs.declared.asking.Ask.{Ask}
 use Rattle.farm_store.specs.declared.asking.CallFault.{CallFault}
 use Rattle.farm_store.specs.declared.asking.CallFault.TheVariants as fault
-use Rattle.list_prefix.specs.Prefix.{IsPrefix}
-use Rattle.list_prefix.proofs.Prefixes.{IsPrefix-refl, IsPrefix-trans, IsPrefix-append}
+use Rattle.common_types.specs.Prefix.{IsPrefix}
+use Rattle.common_types.proofs.Prefixes.{IsPrefix-refl, IsPrefix-trans, IsPrefix-append}
 use Rattle.shared_farm.specs.Answered.{FitRecord}
 use Rattle.shared_farm.specs.Turns.{IsTurn, failed_by}
 use Rattle.std.specs.List.{range_with_len}
-use Rattle.fault_types.specs.Counts.{Rose}
+use Rattle.common_types.specs.Counts.{Rose}
 use Rattle.turn_lock.specs.Known.{Known, stake_after}
 use Rattle.connection_laws.specs.Batches.{AreAnsweredBy}
 use Rattle.connection_laws.specs.Progress.{Progress, IsWithin, recorded_places}

@@ -9,7 +9,7 @@ use Rattle.farm_entry.specs.declared.answer.Answer.{Answer}
 use Rattle.http_answers.specs.Answers.{allow_line, body_put, close_line, status_line}
 use Rattle.http_answers.specs.Pieces.{parts_joined}
 use Rattle.http_requests.specs.declared.request.Request.{Request}
-use Rattle.list_prefix.specs.Prefix.{IsPrefix}
+use Rattle.common_types.specs.Prefix.{IsPrefix}
 use Rattle.farm_http.specs.declared.responses.Says.{Says}
 
 -- what is said, over plain values

@@ -12,7 +12,7 @@ use Rattle.http_requests.specs.Items.{Item, Items, closed}
 use Rattle.http_requests.specs.Next.{MayFollow}
 use Rattle.link_io.specs.Intake.{Intake}
 use Rattle.link_io.specs.declared.sink.Sink as sink
-use Rattle.list_prefix.specs.Prefix.{IsPrefix}
+use Rattle.common_types.specs.Prefix.{IsPrefix}
 use Rattle.farm_http.specs.Callers.{CallerState, IsAfter}
 use Rattle.farm_http.specs.Noting.{ArePreceded, IsUnbegun}
 use Rattle.farm_http.specs.declared.front.Answered.{Answered}

@@ -1,7 +1,7 @@
 //! Commands asked of the farm, and their answers put.
 ghost use Rattle.std.specs.Prelude.{◌≡◌, ◌≢◌, ◌≤◌, [], Bool, List, All, Ok, OnOk, length, map, true};
-ghost use Rattle.fault_types.specs.Counts.{Rose};
-ghost use Rattle.past_moments.specs.Rows.{AreAmong};
+ghost use Rattle.common_types.specs.Counts.{Rose};
+ghost use Rattle.common_types.specs.Rows.{AreAmong};
 ghost use Rattle.turn_lock.specs.Known.{IsReady};
 ghost use Rattle.http_requests.specs.Next.{IsNextFor};
 ghost use Rattle.connection_laws.specs.Answers.{no_memory, response_of};

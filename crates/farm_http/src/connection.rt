@@ -1,7 +1,7 @@
 //! One connection, from one request to the next.
 ghost use Rattle.std.specs.Prelude.{◌≡◌, ◌≤◌, ◌+◌, [], OnOk, true, length};
 ghost use Rattle.farm_entry.specs.Legal.{IsLegal};
-ghost use Rattle.fault_types.specs.Counts.{Rose};
+ghost use Rattle.common_types.specs.Counts.{Rose};
 ghost use Rattle.http_requests.specs.Next.{IsNextFor};
 ghost use Rattle.link_io.specs.Links.{LinkState, link_state};
 ghost use Rattle.link_io.specs.declared.source.TheConstants.{INPUT_LIMIT};

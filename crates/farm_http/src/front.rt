@@ -1,13 +1,13 @@
 //! The requests at the front of the bytes held, answered.
 ghost use Rattle.std.specs.Prelude.{◌≡◌, ◌≤◌, [], Bool, OnOk, true};
-ghost use Rattle.fault_types.specs.Counts.{Rose};
+ghost use Rattle.common_types.specs.Counts.{Rose};
 ghost use Rattle.turn_lock.specs.Known.{IsReady};
 ghost use Rattle.http_requests.specs.Next.{IsNextFor};
 ghost use Rattle.connection_laws.specs.Moments.{GivenBy};
 ghost use Rattle.connection_laws.specs.Progress.{Progress, IsWithin};
 ghost use Rattle.farm_entry.specs.Legal.{IsLegal};
-ghost use Rattle.list_prefix.specs.Prefix.{IsPrefix};
-ghost use Rattle.past_moments.specs.Rows.{AreAmong};
+ghost use Rattle.common_types.specs.Prefix.{IsPrefix};
+ghost use Rattle.common_types.specs.Rows.{AreAmong};
 ghost use Rattle.connection_laws.specs.Answers.{response_of, response_to};
 ghost use Rattle.connection_laws.specs.Outcomes.{counted, faulted};
 ghost use Rattle.farm_http.specs.Bytes.{PutSays, request_bytes};

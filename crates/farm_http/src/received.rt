@@ -1,7 +1,7 @@
 //! The bytes that were taken of a link and aren't answered yet.
 ghost use Rattle.std.specs.Prelude.{◌≡◌, ◌≤◌, ◌<◌, ◌+◌, ◌++◌, ◌==◌, ◌&&◌, ◌||◌, not, true, false, IfOk, OnOk, OnErr, length, drop, vec_len};
 ghost use Rattle.std.specs.Vec.{vec_capacity};
-ghost use Rattle.fault_types.specs.Counts.{Rose};
+ghost use Rattle.common_types.specs.Counts.{Rose};
 ghost use Rattle.link_io.specs.declared.source.TheConstants.{INPUT_LIMIT, PIECE};
 ghost use Rattle.connection_laws.specs.Answers.{interim_of};
 ghost use Rattle.http_requests.specs.Next.{AwaitsHead, Says};

@@ -1,7 +1,7 @@
 //! The answers to requests, gathered and put to a link.
 ghost use Rattle.std.specs.Prelude.{◌≡◌, ◌≤◌, ◌<◌, ◌++◌, ℕ, [], true, false, OnOk, OnErr, IsErrOf, length, take};
 ghost use Rattle.std.specs.Io.KnownBytes.{append_known};
-ghost use Rattle.fault_types.specs.Counts.{Rose};
+ghost use Rattle.common_types.specs.Counts.{Rose};
 ghost use Rattle.connection_laws.specs.Answers.{no_memory, plain};
 ghost use Rattle.farm_http.specs.Bytes.{OutSays, PutSays, request_bytes, said};
 ghost use Rattle.farm_http.specs.Faults.{OnPutFault};

@@ -1,9 +1,9 @@
 //! The serving of one connection.
 ghost use Rattle.std.specs.Prelude.{◌≡◌, ◌≤◌};
 ghost use Rattle.farm_entry.specs.Legal.{IsLegal};
-ghost use Rattle.fault_types.specs.Counts.{Rose};
+ghost use Rattle.common_types.specs.Counts.{Rose};
 ghost use Rattle.link_io.specs.Links.{link_state};
-ghost use Rattle.list_prefix.specs.Prefix.{IsPrefix};
+ghost use Rattle.common_types.specs.Prefix.{IsPrefix};
 ghost use Rattle.turn_lock.specs.Known.{IsReady};
 ghost use Rattle.connection_laws.specs.Marks.{Follows};
 ghost use Rattle.connection_laws.specs.Moments.{GivenBy};

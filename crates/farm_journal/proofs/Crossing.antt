@@ -2,7 +2,7 @@
 use denote.RattleType.{RattleType}
 use denote.Param.Send.{IsSend, sendable}
 use Rattle.std.proofs.Crossing.{crosses}
-use Rattle.told_list.proofs.Crossing.{told_list-send}
+use Rattle.common_types.proofs.Crossing.{told_list-send}
 use Rattle.farm_disk.specs.declared.disk.Disk.{Ghosts}
 use Rattle.farm_journal.specs.contracts.journal.Journal as Journal
 

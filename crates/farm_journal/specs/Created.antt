@@ -1,6 +1,6 @@
 -- What creating a journal leaves.
 use Rattle.std.specs.Prelude.{ℕ, ◌≡◌, ◌≤◌, ◌⊎◌, true, false, List, [], ◌∷◌, length, slice_index, Result, Ok, Err, ⊤}
-use Rattle.fault_types.specs.Counts.{Rose}
+use Rattle.common_types.specs.Counts.{Rose}
 use Rattle.farm_disk.specs.Images.{DiskState, IsSettled}
 use Rattle.farm_journal.specs.Layout.{unborn, holds, opens, is_unborn}
 use Rattle.farm_journal.specs.State.{JournalState}

@@ -1,6 +1,6 @@
 -- Facts on what a call on a journal answered.
 use Rattle.std.specs.Prelude.{ℕ, ◌≡◌, Result, Ok, Err, ⊤}
-use Rattle.fault_types.specs.Counts.{Rose}
+use Rattle.common_types.specs.Counts.{Rose}
 use Rattle.farm_journal.specs.declared.fault.JournalFault.{JournalFault}
 use Rattle.farm_journal.specs.declared.fault.JournalFault.TheVariants.{StoreFault, Memory}
 

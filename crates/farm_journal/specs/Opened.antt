@@ -1,6 +1,6 @@
 -- What opening a journal answers.
 use Rattle.std.specs.Prelude.{ℕ, ◌≡◌, List, Result, Ok, Err, ⊤}
-use Rattle.fault_types.specs.Counts.{Rose}
+use Rattle.common_types.specs.Counts.{Rose}
 use Rattle.farm_journal.specs.Layout.{Opening, unborn, damaged, holds}
 use Rattle.farm_journal.specs.State.{JournalState}
 use Rattle.farm_journal.specs.declared.fault.OpeningFault.{OpeningFault}

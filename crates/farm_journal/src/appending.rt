@@ -1,6 +1,6 @@
 //! Appending a record at the closed gate of a file of version 2.
 ghost use Rattle.std.specs.Prelude.{◌≡◌, ◌≤◌, ◌<◌, ◌+◌, ◌++◌, ◌∷◌, [], ◌^◌, ℕ, List, true, length, max, OnOk, IsErrOf};
-ghost use Rattle.fault_types.specs.Counts.{Rose};
+ghost use Rattle.common_types.specs.Counts.{Rose};
 ghost use Rattle.farm_disk.specs.Images.{LeavesOnly, moment};
 ghost use Rattle.farm_journal.specs.Layout.{IsPayload};
 ghost use Rattle.farm_journal.specs.Gates.{Rests, Waits, IsEither};

@@ -16,7 +16,7 @@ ghost use Rattle.std.specs.Prelude.{
   OnOk,
   IsErrOf,
 };
-ghost use Rattle.fault_types.specs.Counts.{Rose};
+ghost use Rattle.common_types.specs.Counts.{Rose};
 ghost use Rattle.farm_disk.specs.Images.{EachImage, IsSettled, LeavesOnly, LeavesSinceSync};
 ghost use Rattle.farm_journal.specs.Layout.{framed, gate_of, is_unborn, IsPayload};
 ghost use Rattle.farm_journal.specs.Gates.{Rests};

@@ -1,7 +1,7 @@
 //! The calls of a disk with a `Result`, so that they can be carried by `?`.
 ghost use Rattle.std.specs.Prelude.{◌≡◌, ◌≤◌, ◌+◌, true, length, max, take, drop, IfOk, OnOk, IsErrOf};
 ghost use Rattle.farm_journal.specs.declared.disk_calls.DiskFault.TheVariants.{Memory};
-ghost use Rattle.fault_types.specs.Counts.{Rose};
+ghost use Rattle.common_types.specs.Counts.{Rose};
 ghost use Rattle.farm_journal.specs.Outcome.{WriteEnds, CutEnds, SyncEnds};
 ghost use Rattle.farm_disk.specs.Answers.{rested};
 

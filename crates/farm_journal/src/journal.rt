@@ -52,12 +52,11 @@ use crate::payload::Payload;
 use crate::payloads::Payloads;
 use crate::reading::{Found, Missed, find};
 use crate::storing::store;
+use common_types::{Past, ToldList};
 use farm_disk::{DatedDisk, Disk};
-use past_moments::Past;
 use std::alloc::Global;
 use std::marker::Model;
 use std::mem;
-use told_list::ToldList;
 
 /// A journal: payloads on a disk, each of which stays once it was acknowledged, wherever a crash comes.
 ///

@@ -5,7 +5,7 @@
 //! closed gate with a closed gate behind it, syncing, opening the gate and syncing. So a crash at any moment leaves the
 //! payloads from before, or these and the new one, whatever it makes of the bytes that were being written.
 //!
-//! The crate stands on `farm_disk` and the base crates `past_moments` and `told_list`. The layers above may use
+//! The crate stands on `farm_disk` and the base crate `common_types`. The layers above may use
 //! - `Journal`: `create`, `open_on`, `append`, `repair`, and what it tells of itself;
 //! - `Payload` and `Payloads`, and the limits of the layout;
 //! - `laws`, on what the definitions come to.

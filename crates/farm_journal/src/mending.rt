@@ -1,6 +1,6 @@
 //! What became of a record whose append failed.
 ghost use Rattle.std.specs.Prelude.{◌≡◌, ◌≤◌, ◌<◌, ◌+◌, ℕ, List, true, length, IfOk, OnErr, OnOk};
-ghost use Rattle.fault_types.specs.Counts.{Rose};
+ghost use Rattle.common_types.specs.Counts.{Rose};
 ghost use Rattle.farm_disk.specs.Images.{LeavesOnly, moment};
 ghost use Rattle.farm_journal.specs.Gates.{Waits, IsEither};
 ghost use Rattle.farm_journal.specs.Mended.{Mends};

@@ -1,6 +1,6 @@
 //! Reading a disk whole.
 ghost use Rattle.std.specs.Prelude.{◌≡◌, ◌≤◌, ◌+◌, ℕ, true, length, vec_len, IfOk, OnOk, IsErrOf};
-ghost use Rattle.fault_types.specs.Counts.{Rose};
+ghost use Rattle.common_types.specs.Counts.{Rose};
 ghost use Rattle.farm_disk.specs.Images.{IsSettled, moment};
 ghost use Rattle.farm_journal.specs.ReadsOnly.{ReadsOnly};
 

@@ -10,8 +10,8 @@ use crate::fault::OpeningFault;
 use crate::layout::{FIRST_GATE, MAGIC, MAX_PAYLOAD};
 use crate::payload::Payload;
 use crate::payloads::Payloads;
+use common_types::ToldList;
 use std::alloc::Global;
-use told_list::ToldList;
 
 /// What was found: the payloads, the same for contracts alone, and the offset of the closed gate.
 #[derive(Drop)]

@@ -1,6 +1,6 @@
 //! Storing a payload on a disk of either version.
 ghost use Rattle.std.specs.Prelude.{◌≡◌, ◌≤◌, ◌<◌, ◌+◌, ◌⊎◌, ◌++◌, ◌∷◌, [], ◌^◌, ℕ, List, true, length, OnOk, IsErrOf};
-ghost use Rattle.fault_types.specs.Counts.{Rose};
+ghost use Rattle.common_types.specs.Counts.{Rose};
 ghost use Rattle.farm_disk.specs.Images.{LeavesOnly, moment};
 ghost use Rattle.farm_journal.specs.Layout.{IsPayload};
 ghost use Rattle.farm_journal.specs.Gates.{Rests, Stands, Waits, IsEither};

@@ -1,6 +1,6 @@
 //! Making a file of version 1 one of version 2.
 ghost use Rattle.std.specs.Prelude.{◌≡◌, ◌≤◌, ◌<◌, ◌+◌, ◌^◌, ℕ, List, true, length, OnOk, IsErr, IsErrOf};
-ghost use Rattle.fault_types.specs.Counts.{Rose};
+ghost use Rattle.common_types.specs.Counts.{Rose};
 ghost use Rattle.farm_disk.specs.Images.{LeavesOnly};
 ghost use Rattle.farm_journal.specs.Gates.{Rests, Stands};
 ghost use Rattle.farm_journal.specs.declared.layout.TheConstants.{FIRST_GATE};

@@ -3,7 +3,7 @@
 //!
 //! Among the laws: a legal history grows entry by entry (`legal_histories_grow_by_entries`); each entry that a command
 //! made has a reply, which stays the same (`replies_stay`); a search that has ended stays as it ended
-//! (`ends_are_final`). Those that need more than these lemmas stand in `history_laws`, on which no code stands.
+//! (`ends_are_final`). Those that need more than these lemmas stand in `leaf_laws`, on which no code stands.
 //!
 //! The crate stands on `farm_entry` for the types and the definitions, and on the crates below it for their laws. The
 //! layers above cite its lemmas, of which these serve most: `Induct` (a legal history grows entry by entry),

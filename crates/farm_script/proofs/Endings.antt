@@ -6,7 +6,7 @@ use Rattle.std.proofs.lemmas.Bool.{false≢true}
 use Rattle.std.specs.Prelude.{Err, ◌↔◌}
 use Rattle.std.specs.Io.KnownBytes.{prepend_known}
 use Rattle.std.specs.Option.{ForSome}
-use Rattle.fault_types.specs.Counts.{Rose}
+use Rattle.common_types.specs.Counts.{Rose}
 use Rattle.link_io.specs.Streams.{Streams}
 use Rattle.farm_script.specs.Lines.{as_line, counted_lines}
 use Rattle.farm_script.specs.Script.{Answered, IsByHeld, Rule}

@@ -5,7 +5,7 @@ use Rattle.std.proofs.lemmas.List.{append-nil}
 use Rattle.farm_types.specs.declared.moment.Moment.{Moment}
 use Rattle.farm_disk.specs.declared.disk.Disk as disk
 use Rattle.farm_disk.proofs.Moments.{leaves_only-weaker}
-use Rattle.fault_types.specs.Counts.{Rose}
+use Rattle.common_types.specs.Counts.{Rose}
 use Rattle.farm_journal.specs.Faults.{HasCause, OnMemory, OnStoreFault}
 use Rattle.farm_journal.specs.declared.fault.JournalFault.{JournalFault}
 use Rattle.farm_journal.specs.declared.fault.JournalFault.TheVariants.{StoreFault, Memory}

@@ -1,6 +1,6 @@
 -- How a fault at a line ends the run.
 use Rattle.std.specs.Prelude.{◌≡◌, ℕ, ◌≤◌, List, [], Result, IfErr, IsErrOf, ⊤}
-use Rattle.fault_types.specs.Counts.{Rose}
+use Rattle.common_types.specs.Counts.{Rose}
 use Rattle.link_io.specs.declared.sink.PutFault.{PutFault}
 use Rattle.link_io.specs.declared.sink.PutFault.TheVariants as put
 use Rattle.farm_journal.specs.declared.fault.JournalFault.{JournalFault}

@@ -1,6 +1,6 @@
 //! The lines that end in a piece.
 ghost use Rattle.std.specs.Prelude.{◌≡◌, ◌<◌, ◌≤◌, ◌++◌, ◌∷◌, ℕ, List, [], length, MatchOption, OnOk, OnErr, IsErrOf};
-ghost use Rattle.fault_types.specs.Counts.{Rose};
+ghost use Rattle.common_types.specs.Counts.{Rose};
 ghost use Rattle.farm_store.specs.Bytes.{StandsFor};
 ghost use Rattle.farm_script.specs.FarmRule.{farm_rule};
 ghost use Rattle.farm_script.specs.LineFaults.{HasCause};

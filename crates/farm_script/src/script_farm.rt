@@ -1,7 +1,7 @@
 //! What answers the commands of a script.
 
 ghost use Rattle.std.specs.Prelude.{◌≡◌, ◌≢◌, ◌≤◌, ◌++◌, ℕ, Bool, List, [], IfOk, OnOk};
-ghost use Rattle.fault_types.specs.Counts.{Rose};
+ghost use Rattle.common_types.specs.Counts.{Rose};
 ghost use Rattle.farm_disk.specs.Images.{DiskState};
 ghost use Rattle.farm_journal.specs.Faults.{OnMemory, OnStoreFault};
 ghost use Rattle.farm_entry.specs.Answer.{IsAnswer};

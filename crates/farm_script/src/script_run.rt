@@ -1,7 +1,7 @@
 //! The run of a script.
 
 ghost use Rattle.std.specs.Prelude.{◌≡◌, ◌≢◌, ◌≤◌, [], OnOk, OnErr, IsErrOf};
-ghost use Rattle.fault_types.specs.Counts.{Rose};
+ghost use Rattle.common_types.specs.Counts.{Rose};
 ghost use Rattle.link_io.specs.Streams.{streams};
 ghost use Rattle.farm_store.specs.Bytes.{StandsFor};
 ghost use Rattle.farm_script.specs.FarmRule.{farm_rule};

@@ -4,10 +4,10 @@ use Rattle.farm_disk.specs.Images.{DiskState, LeavesSince}
 use Rattle.farm_disk.proofs.Moments.{leaves-weaker}
 use Rattle.farm_entry.specs.declared.entry.Entry.{Entry}
 use Rattle.link_io.specs.Notes.{Note}
-use Rattle.list_prefix.specs.Prefix.{IsPrefix}
-use Rattle.list_prefix.proofs.Prefixes.{IsPrefix-nil}
+use Rattle.common_types.specs.Prefix.{IsPrefix}
+use Rattle.common_types.proofs.Prefixes.{IsPrefix-nil}
 use Rattle.connection_laws.specs.Told.{IsNoted}
-use Rattle.past_moments.specs.declared.row.Row.{Row}
+use Rattle.common_types.specs.declared.row.Row.{Row}
 use Rattle.shared_farm.specs.Logs.{AreLogged, HoldsAll}
 use Rattle.shared_farm.proofs.Logging.{holds-earlier, logged-of}
 use Rattle.farm_serve.specs.Acknowledged.{IsAcknowledged, acknowledged_by}

@@ -8,9 +8,9 @@ use Rattle.farm_disk.specs.declared.disk.Disk as disk
 use Rattle.farm_entry.specs.declared.entry.Entry.{Entry}
 use Rattle.farm_store.specs.Bytes.{StandsFor}
 use Rattle.farm_store.specs.State.{IsStored, IsWithOrWithout, StoreState}
-use Rattle.fault_types.specs.Counts.{Rose}
-use Rattle.list_prefix.proofs.Prefixes.{IsPrefix-refl, IsPrefix-trans}
-use Rattle.list_prefix.specs.Prefix.{IsPrefix}
+use Rattle.common_types.specs.Counts.{Rose}
+use Rattle.common_types.proofs.Prefixes.{IsPrefix-refl, IsPrefix-trans}
+use Rattle.common_types.specs.Prefix.{IsPrefix}
 use Rattle.shared_farm.specs.Rests.{AreTurns, CameBy, IsLeftBetween, Rest, TurnLeaves, begun_of}
 use Rattle.farm_serve.proofs.Counts.{Rose-from, Rose-later}
 use Rattle.farm_serve.proofs.Marks.{Follows-refl, Follows-trans}

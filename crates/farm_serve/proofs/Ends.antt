@@ -15,7 +15,7 @@ use Rattle.farm_store.specs.State.{IsStored, StoreState}
 use Rattle.connection_laws.specs.Told.{Saying}
 use Rattle.link_io.specs.Notes.{Note}
 use Rattle.farm_types.specs.declared.moment.Moment.{Moment}
-use Rattle.fault_types.specs.Counts.{Rose}
+use Rattle.common_types.specs.Counts.{Rose}
 use Rattle.link_io.specs.declared.sink.PutFault.{PutFault}
 use Rattle.link_io.specs.declared.sink.PutFault.TheVariants as put
 use Rattle.net_io.specs.Events.{NetworkEvent}

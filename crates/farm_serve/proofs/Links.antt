@@ -13,11 +13,11 @@ use Rattle.connection_laws.specs.declared.served.Served.{Served}
 use Rattle.farm_entry.specs.declared.entry.Entry.{Entry}
 use Rattle.farm_http.specs.Faults.{OnLinkFault}
 use Rattle.farm_types.specs.declared.moment.Moment.{Moment}
-use Rattle.fault_types.specs.Counts.{Rose}
+use Rattle.common_types.specs.Counts.{Rose}
 use Rattle.link_io.specs.Links.{LinkState, fresh_link}
 use Rattle.link_io.specs.Notes.{Note}
-use Rattle.past_moments.specs.declared.row.Row.{Row}
-use Rattle.list_prefix.specs.Prefix.{IsPrefix}
+use Rattle.common_types.specs.declared.row.Row.{Row}
+use Rattle.common_types.specs.Prefix.{IsPrefix}
 use Rattle.farm_serve.proofs.Counts.{Rose-zero}
 use Rattle.farm_serve.proofs.Marks.{Follows-refl, IsHeldOf-more, any_counts}
 use Rattle.farm_serve.specs.Links.{IsServedLink}

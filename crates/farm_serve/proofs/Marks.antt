@@ -13,8 +13,8 @@ use Rattle.farm_types.specs.declared.moment.Moment.{Moment}
 use Rattle.farm_entry.specs.declared.entry.Entry.{Entry}
 use Rattle.link_io.specs.Links.{LinkState}
 use Rattle.link_io.specs.Notes.{Note}
-use Rattle.list_prefix.specs.Prefix.{IsPrefix}
-use Rattle.list_prefix.proofs.Prefixes.{IsPrefix-refl, IsPrefix-trans}
+use Rattle.common_types.specs.Prefix.{IsPrefix}
+use Rattle.common_types.proofs.Prefixes.{IsPrefix-refl, IsPrefix-trans}
 use Rattle.farm_serve.specs.Links.{IsHeldBack}
 
 pub Follows-refl : (m : Mark) → Follows m m

@@ -13,7 +13,7 @@ use Rattle.farm_http.specs.Callers.{mark_of}
 use Rattle.farm_types.specs.declared.moment.Moment.{Moment}
 use Rattle.link_io.specs.Links.{LinkState}
 use Rattle.net_io.specs.Events.{NetworkEvent}
-use Rattle.past_moments.specs.Rows.{IsAmong}
+use Rattle.common_types.specs.Rows.{IsAmong}
 use Rattle.turn_lock.specs.Known.{IsOwned, IsReady, Known, WasPending, all_parts, both_stakes, first_stake, given, stake_kept}
 use Rattle.turn_lock.specs.Loans.{AreOut}
 use Rattle.turn_lock.specs.Places.{ArePlaces, both_places}

@@ -10,15 +10,15 @@ use Rattle.connection_laws.proofs.Noting.{noted-more}
 use Rattle.farm_entry.specs.declared.entry.Entry.{Entry}
 use Rattle.farm_http.specs.Callers.{mark_of, noted_by}
 use Rattle.farm_types.specs.declared.moment.Moment.{Moment}
-use Rattle.fault_types.specs.Counts.{Rose}
+use Rattle.common_types.specs.Counts.{Rose}
 use Rattle.link_io.specs.Links.{LinkState}
 use Rattle.link_io.specs.Notes.{Note}
 use Rattle.link_io.specs.Telling.{add_told}
-use Rattle.past_moments.proofs.Rows.{AreAmong-before, AreAmong-behind, AreAmong-refl}
-use Rattle.past_moments.specs.Rows.{AreAmong}
-use Rattle.past_moments.specs.declared.row.Row.{Row}
+use Rattle.common_types.proofs.Rows.{AreAmong-before, AreAmong-behind, AreAmong-refl}
+use Rattle.common_types.specs.Rows.{AreAmong}
+use Rattle.common_types.specs.declared.row.Row.{Row}
 use Rattle.net_io.specs.Events.{NetworkEvent, accepted, accept_ended, accept_failed, connected, connect_failed, returned}
-use Rattle.list_prefix.proofs.Prefixes.{IsPrefix-trans}
+use Rattle.common_types.proofs.Prefixes.{IsPrefix-trans}
 use Rattle.turn_lock.specs.Known.{Known, IsReady, borrowed, both_lendings, lending_kept}
 use Rattle.turn_lock.specs.Loans.{AreOut, AreSame, HasOut, weigh}
 use Rattle.turn_lock.specs.declared.view.Lending.{Lending}

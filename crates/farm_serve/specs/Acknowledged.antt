@@ -4,7 +4,7 @@ use Rattle.connection_laws.specs.Told.{Saying}
 use Rattle.farm_disk.specs.Images.{DiskState, LeavesSince}
 use Rattle.farm_entry.specs.declared.entry.Entry.{Entry}
 use Rattle.link_io.specs.Notes.{Note}
-use Rattle.past_moments.specs.Rows.{IsAmong}
+use Rattle.common_types.specs.Rows.{IsAmong}
 use Rattle.shared_farm.specs.Logs.{HoldsAll}
 
 -- Before the byte at this place was put to a link, the link took a note of a moment of the disk that was over, and each

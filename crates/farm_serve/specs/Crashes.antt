@@ -5,8 +5,8 @@ use Rattle.farm_disk.specs.Images.{DiskState, LeavesSince, moment}
 use Rattle.farm_entry.specs.declared.entry.Entry.{Entry}
 use Rattle.farm_journal.specs.ReadsOnly.{ReadsOnly}
 use Rattle.farm_store.specs.Bytes.{StandsFor}
-use Rattle.fault_types.specs.Counts.{Rose}
-use Rattle.list_prefix.specs.Prefix.{IsPrefix}
+use Rattle.common_types.specs.Counts.{Rose}
+use Rattle.common_types.specs.Prefix.{IsPrefix}
 use Rattle.shared_farm.specs.Logs.{HoldsAll}
 use Rattle.shared_farm.specs.Rests.{AreTurns, Rest}
 

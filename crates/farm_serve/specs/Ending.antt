@@ -1,6 +1,6 @@
 -- How the service ended.
 use Rattle.std.specs.Prelude.{◌≡◌, ℕ, Bool, true, false, if◌then◌else◌, Result, Ok, Err, ⊤}
-use Rattle.fault_types.specs.Counts.{Rose}
+use Rattle.common_types.specs.Counts.{Rose}
 use Rattle.link_io.specs.declared.sink.PutFault.{PutFault}
 use Rattle.link_io.specs.declared.sink.PutFault.TheVariants as put
 use Rattle.farm_serve.specs.declared.ending.Ending.{Ending}

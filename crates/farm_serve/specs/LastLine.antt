@@ -7,7 +7,7 @@ use Rattle.farm_entry.specs.declared.reply.Reply.TheVariants as reply
 use Rattle.farm_entry.specs.declared.reply.Totals.{Totals}
 use Rattle.serde_json.specs.Written.{compact_text}
 use Rattle.farm_wire.specs.Replies.{reply_data}
-use Rattle.fault_types.specs.Counts.{Rose}
+use Rattle.common_types.specs.Counts.{Rose}
 use Rattle.link_io.specs.declared.sink.PutFault.{PutFault}
 use Rattle.link_io.specs.declared.sink.PutFault.TheVariants as put
 use Rattle.farm_serve.specs.Ending.{ending_of}

@@ -3,7 +3,7 @@ use Rattle.std.specs.Prelude.{◌≡◌, ◌≤◌, ◌+◌, ℕ, List, [], IfSo
 use Rattle.farm_entry.specs.Legal.{IsLegal}
 use Rattle.farm_entry.specs.declared.entry.Entry.{Entry}
 use Rattle.link_io.specs.Links.{LinkState, fresh_link}
-use Rattle.list_prefix.specs.Prefix.{IsPrefix}
+use Rattle.common_types.specs.Prefix.{IsPrefix}
 use Rattle.turn_lock.specs.Known.{Known, IsReady, borrowed}
 use Rattle.farm_serve.specs.Entries.{AtEntry}
 use Rattle.farm_serve.specs.Standings.{IsClosed}

@@ -12,7 +12,7 @@ use Rattle.farm_store.specs.Bytes.{StandsFor}
 use Rattle.farm_store.specs.Opened.{IsMissedBy}
 use Rattle.farm_store.specs.State.{IsStored}
 use Rattle.farm_types.specs.declared.moment.Moment.{Moment}
-use Rattle.fault_types.specs.Counts.{Rose}
+use Rattle.common_types.specs.Counts.{Rose}
 use Rattle.net_io.specs.Events.{NetworkEvent}
 use Rattle.connection_laws.specs.Owners.{AreAllOwned, Owned}
 use Rattle.connection_laws.specs.Told.{Saying}

@@ -7,7 +7,7 @@ use Rattle.farm_entry.specs.declared.entry.Entry.{Entry}
 use Rattle.farm_http.specs.Callers.{mark_of, noted_by}
 use Rattle.farm_store.specs.State.{StoreState}
 use Rattle.farm_types.specs.declared.moment.Moment.{Moment}
-use Rattle.fault_types.specs.Counts.{Rose}
+use Rattle.common_types.specs.Counts.{Rose}
 use Rattle.link_io.specs.Notes.{Note}
 use Rattle.net_io.specs.Events.{NetworkEvent}
 use Rattle.turn_lock.specs.Known.{Known, IsReady, all_parts, first_stake}

@@ -4,7 +4,7 @@ ghost use Rattle.connection_laws.specs.Marks.{Follows};
 ghost use Rattle.connection_laws.specs.Moments.{MayGive};
 ghost use Rattle.farm_http.specs.Callers.{mark_of};
 ghost use Rattle.farm_types.specs.declared.moment.Moment.{Moment};
-ghost use Rattle.fault_types.specs.Counts.{Rose};
+ghost use Rattle.common_types.specs.Counts.{Rose};
 ghost use Rattle.link_io.specs.Links.{link_state};
 ghost use Rattle.turn_lock.specs.Known.{IsReady, first_stake};
 ghost use Rattle.turn_lock.specs.Places.{ArePlaces};

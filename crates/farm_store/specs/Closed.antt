@@ -1,7 +1,7 @@
 -- What closing a farm on a disk comes to.
 use Rattle.std.specs.Prelude.{◌≡◌, ◌+◌, ℕ, ⊤, true, false, length, List, [], ◌∷◌, ◌++◌, Result, Ok, Err, if◌then◌else◌}
 use Rattle.farm_types.specs.declared.moment.Moment.{Moment}
-use Rattle.fault_types.specs.Counts.{Rose}
+use Rattle.common_types.specs.Counts.{Rose}
 use Rattle.farm_entry.specs.Closing.{is_busy}
 use Rattle.farm_entry.specs.Decision.{moment_used}
 use Rattle.farm_entry.specs.History.{is_closed}

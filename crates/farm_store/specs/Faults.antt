@@ -1,6 +1,6 @@
 -- Why a call on a store was not answered.
 use Rattle.std.specs.Prelude.{◌≡◌, ℕ, Result, Ok, Err, ⊤}
-use Rattle.fault_types.specs.Counts.{Rose}
+use Rattle.common_types.specs.Counts.{Rose}
 use Rattle.farm_journal.specs.declared.fault.JournalFault.{JournalFault}
 use Rattle.farm_journal.specs.declared.fault.JournalFault.TheVariants as journal
 use Rattle.farm_store.specs.declared.asking.CallFault.{CallFault}

@@ -2,11 +2,11 @@
 ghost use Rattle.std.specs.Prelude.{◌≡◌, ◌≤◌, length};
 ghost use Rattle.farm_store.specs.Sizes.{command_size, asks_size};
 
+use common_types::ItemList;
 use entry_codec::MAX_ENTRY_BYTES;
 use farm_entry::{Answer, Command, Refusal};
 use farm_journal::{JournalFault, MAX_PAYLOAD};
 use farm_types::Moment;
-use item_list::ItemList;
 use thiserror::Error;
 
 /// The most asks of one batch. The fewest is one.

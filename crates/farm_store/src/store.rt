@@ -53,6 +53,7 @@ use crate::deciding::{AskList, AskParts, Deciding, OneAsk, OneRun};
 use crate::founding::inherit;
 use crate::recording::record_from;
 use crate::showing::page_in;
+use common_types::Past;
 use entry_codec::write_entries;
 use farm_core::Farm;
 use farm_disk::{DatedDisk, Disk};
@@ -62,7 +63,6 @@ use farm_entry::{
 use farm_journal::{CreateFault, Journal, JournalFault, OpeningFault, Repaired};
 use farm_rules::OrderedCommit;
 use farm_types::{Memory, Moment};
-use past_moments::Past;
 use std::alloc::Global;
 use std::marker::Model;
 

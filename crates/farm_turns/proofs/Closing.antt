@@ -7,8 +7,8 @@ use Rattle.farm_entry.specs.declared.entry.What.{What}
 use Rattle.farm_entry.specs.declared.entry.What.TheVariants.{Founded, Opened, Leased, Reported, Skipped, Cancelled, Ordered, Carried, Closed}
 use Rattle.farm_laws.proofs.Bounds.{openings-bounded}
 use Rattle.farm_laws.proofs.Induct.{IsLegal-first, IsLegal-push}
-use Rattle.turn_laws.specs.TurnOrder.{AreTurns}
-use Rattle.turn_laws.proofs.NextTurns.{founded-turns}
+use Rattle.farm_turns.specs.TurnOrder.{AreTurns}
+use Rattle.farm_turns.proofs.NextTurns.{founded-turns}
 use Rattle.farm_turns.specs.Moves.{AreFew, MayMove, MayUndo, Turns, change_of, count_after, count_before, made, move_in, turns_in, undone}
 use Rattle.farm_turns.specs.Turns.{change_at, changes_of, no_turns, turns_after, turns_of}
 use Rattle.farm_turns.specs.TurnsInside.{AreFarmTurns}

@@ -5,3 +5,9 @@ pub mod Closing
 pub mod Walks
 pub mod Going
 pub mod Crossing
+pub mod Along
+pub mod FromOn
+pub mod NeverLeased
+pub mod NextTurns
+pub mod Parts
+pub mod Turns

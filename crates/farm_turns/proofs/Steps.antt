@@ -26,9 +26,9 @@ use Rattle.farm_laws.proofs.Opened.{opened-stays}
 use Rattle.farm_laws.proofs.Stepped.{KindFacts, Stepped, stepped}
 use Rattle.farm_laws.specs.Steps.{IsAbout}
 use Rattle.farm_laws.proofs.Counting.{about-one, about-opens_none}
-use Rattle.turn_laws.specs.TurnOrder.{AreTurns, IsOfActive}
-use Rattle.turn_laws.proofs.NextTurns.{ended-turns, leased-there, leased-turns, opened-struck, opened-turns, opened_ended-turns, other-turns}
-use Rattle.turn_laws.proofs.Parts.{not-both, strike-snoc}
+use Rattle.farm_turns.specs.TurnOrder.{AreTurns, IsOfActive}
+use Rattle.farm_turns.proofs.NextTurns.{ended-turns, leased-there, leased-turns, opened-struck, opened-turns, opened_ended-turns, other-turns}
+use Rattle.farm_turns.proofs.Parts.{not-both, strike-snoc}
 use Rattle.farm_turns.specs.Moves.{MayMove, MayUndo, StandsIn, Turns, about_move, added, change_of, count_after, count_before, goes_on, is_going, joined, made, move_in, moved_last, place_of, reported_move, struck, undone}
 use Rattle.farm_turns.specs.Turns.{change_at, turns_after}
 use Rattle.farm_turns.specs.declared.moves.Change.{Change}

@@ -8,10 +8,10 @@ use Rattle.farm_entry.specs.Due.{next_run}
 use Rattle.farm_entry.specs.declared.lease.DueRun.{DueRun}
 use Rattle.farm_entry.specs.declared.limits.TheConstants.{MAX_SEARCHES}
 use Rattle.farm_laws.proofs.Bounds.{openings-bounded}
-use Rattle.turn_laws.specs.TurnOrder.{IsTurnOrder, due_in_search, first_due_from, from_on}
-use Rattle.turn_laws.proofs.Along.{next-first}
-use Rattle.turn_laws.proofs.FromOn.{walk-end, walk-next, walk-start}
-use Rattle.turn_laws.proofs.Parts.{has-either, parts-order}
+use Rattle.farm_turns.specs.TurnOrder.{IsTurnOrder, due_in_search, first_due_from, from_on}
+use Rattle.farm_turns.proofs.Along.{next-first}
+use Rattle.farm_turns.proofs.FromOn.{walk-end, walk-next, walk-start}
+use Rattle.farm_turns.proofs.Parts.{has-either, parts-order}
 use Rattle.farm_turns.specs.TurnsInside.{AreFarmTurns}
 use Rattle.farm_turns.specs.Walking.{IsAt}
 use Rattle.farm_turns.specs.declared.turns.FarmTurns.TheInside.{Inside}

@@ -2,3 +2,5 @@ pub mod Moves
 pub mod Turns
 pub mod TurnsInside
 pub mod Walking
+pub mod TurnOrder
+pub mod WhoseTurn

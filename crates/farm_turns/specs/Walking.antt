@@ -3,7 +3,7 @@ use Rattle.std.specs.Prelude.{ℕ, ◌≡◌, ◌≢◌, true, List}
 use Rattle.active_order.specs.Order.{has}
 use Rattle.farm_entry.specs.Due.{next_run}
 use Rattle.farm_entry.specs.declared.entry.Entry.{Entry}
-use Rattle.turn_laws.specs.TurnOrder.{first_due_from}
+use Rattle.farm_turns.specs.TurnOrder.{first_due_from}
 
 -- it has come to a search, or with 0 to the end, and none of those before has a run to make
 pub record IsAt (H : List Entry) (moment : ℕ) (order : List ℕ) (search : ℕ) : Type 0 where

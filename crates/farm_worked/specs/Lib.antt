@@ -1,3 +1,4 @@
 pub mod Example
 pub mod Untestable
 pub mod Following
+pub mod Serving

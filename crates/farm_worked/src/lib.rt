@@ -3,9 +3,10 @@
 //!
 //! `specs/Example` has the farms, `specs/Untestable` those on which trees can't be tested, `specs/Following` a closed
 //! one and one that follows it, `proofs/LargeFarm` and `proofs/Thousand` what is proved of the one with a thousand
-//! suspects, which is too large to be played whole. `worker_worked` has a worker that serves a farm of these.
+//! suspects, which is too large to be played whole. [`serving`] has a worker that serves a farm of these.
 #![tactic(auto)]
 
+pub mod serving;
 pub mod shown;
 pub mod skips;
 pub mod succession;

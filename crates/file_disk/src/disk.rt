@@ -1,6 +1,6 @@
 //! A disk over a file: the trusted edge, which tells contracts nothing of its content.
 ghost use Rattle.std.specs.Prelude.{◌≡◌, ◌≤◌, [], false, IfOk};
-ghost use Rattle.fault_types.specs.Counts.{Rose};
+ghost use Rattle.common_types.specs.Counts.{Rose};
 ghost use Rattle.farm_disk.specs.Answers.{OnFailed};
 ghost use Rattle.file_disk.specs.FileDisk.{disk_file, file_faults, file_path};
 
@@ -10,13 +10,12 @@ use crate::opening::Opening;
 use crate::system_file::SystemFile;
 use crate::unsynced::Unsynced;
 use crate::written::{put_again, put_all, put_ends_again};
+use common_types::{Passed, ToldList};
 use farm_disk::{DatedDisk, Did, Disk, Memory, Size, Written};
-use past_moments::Passed;
 use std::alloc::Global;
 use std::fs::File;
 use std::io;
 use std::rt::Files;
-use told_list::ToldList;
 
 /// A file as a disk. It is opened at its first use. A missing file reads as empty, and the first write makes it;
 /// that its name in its folder outlasts a crash isn't claimed. Nobody else may write to it: from its first use on the

@@ -5,7 +5,7 @@ use Rattle.farm_journal.specs.declared.fault.CreateFault.TheVariants as creating
 use Rattle.farm_journal.specs.declared.fault.OpeningFault.{OpeningFault}
 use Rattle.farm_journal.specs.declared.fault.OpeningFault.TheVariants as opening
 use Rattle.farm_script.specs.declared.run_end.RunEnd.TheVariants as script
-use Rattle.fault_types.specs.Counts.{Rose}
+use Rattle.common_types.specs.Counts.{Rose}
 use Rattle.farm_serve.specs.Outside.{DiskSeen, OutputSeen}
 use Rattle.finder_program.specs.Disks.{HasStoreCause}
 use Rattle.finder_program.specs.EvidenceCommand.{EvidencePut}

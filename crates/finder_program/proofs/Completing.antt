@@ -23,7 +23,7 @@ use Rattle.farm_store.specs.Closed.{after_closing}
 use Rattle.farm_store.specs.Founded.{IsRefusedBy}
 use Rattle.farm_store.specs.Opened.{IsMissedBy}
 use Rattle.farm_types.specs.declared.moment.Moment.{Moment}
-use Rattle.fault_types.specs.Counts.{Rose}
+use Rattle.common_types.specs.Counts.{Rose}
 use Rattle.search_evidence.specs.Evidence.{evidence_text}
 use Rattle.link_io.specs.Streams.{Streams}
 use Rattle.link_io.specs.declared.source.TheConstants.{INPUT_LIMIT}

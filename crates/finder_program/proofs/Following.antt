@@ -10,16 +10,16 @@ use Rattle.farm_serve.specs.Outside.{DiskSeen, NetworkSeen, Outside, OutputSeen,
 use Rattle.farm_store.proofs.Excluded.{stands-not_damaged}
 use Rattle.farm_store.specs.Damage.{IsDamagedAt}
 use Rattle.farm_store.specs.Opened.{IsMissedBy}
-use Rattle.fault_types.specs.Counts.{Rose}
-use Rattle.follow_law.specs.Taking.{Held}
+use Rattle.common_types.specs.Counts.{Rose}
+use Rattle.journal_follow.specs.Taking.{Held}
 use Rattle.journal_follow.specs.Opened.{IsOpened}
 use Rattle.journal_follow.specs.Shown.{IsKept, Shows, ShowsBetween}
 use Rattle.journal_follow.specs.State.{FollowerState}
 use Rattle.journal_follow.specs.declared.fault.FollowFault.{FollowFault}
 use Rattle.journal_follow.specs.declared.fault.FollowFault.TheVariants as fault
 use Rattle.journal_follow.specs.declared.following.Followed.{Followed}
-use Rattle.list_prefix.specs.Prefix.{IsPrefix}
-use Rattle.list_prefix.proofs.Prefixes.{IsPrefix-append, IsPrefix-refl, IsPrefix-trans}
+use Rattle.common_types.specs.Prefix.{IsPrefix}
+use Rattle.common_types.proofs.Prefixes.{IsPrefix-append, IsPrefix-refl, IsPrefix-trans}
 use Rattle.finder_program.proofs.Completing.{no-store_fault, text-completes}
 use Rattle.farm_serve.proofs.Openings.{any_moment-opened, since_sync-opened}
 use Rattle.finder_program.proofs.Unread.{unread-not_opened}

@@ -14,7 +14,7 @@ use Rattle.farm_rules.specs.Orders.{Ordered}
 use Rattle.farm_store.specs.Inherited.{inheriting}
 use Rattle.farm_store.specs.State.{IsStored, StoreState}
 use Rattle.farm_types.specs.declared.moment.Moment.{Moment}
-use Rattle.fault_types.specs.Counts.{Rose}
+use Rattle.common_types.specs.Counts.{Rose}
 use Rattle.link_io.specs.Streams.{Streams}
 use Rattle.link_io.specs.declared.source.TheConstants.{INPUT_LIMIT}
 use Rattle.farm_serve.specs.Outside.{DiskSeen, disk_seen}

@@ -1,6 +1,6 @@
 -- How a call of `work` ends.
 use Rattle.std.proofs.Common.{◌≡◌, ◌⊎◌, ℕ, List, [], inl, inr, Result, Ok, Err, refl, subst}
-use Rattle.fault_types.specs.Counts.{Rose}
+use Rattle.common_types.specs.Counts.{Rose}
 use Rattle.worker_agent.specs.Steps.{agent_start}
 use Rattle.worker_agent.specs.Work.{nothing}
 use Rattle.worker_agent.specs.declared.worked.Worked.{Worked}

@@ -13,7 +13,7 @@ use Rattle.farm_store.specs.State.{IsStored}
 use Rattle.farm_store.specs.declared.closing.CloseFault.{CloseFault}
 use Rattle.farm_store.specs.declared.closing.CloseFault.TheVariants as fault
 use Rattle.farm_types.specs.declared.moment.Moment.{Moment}
-use Rattle.fault_types.specs.Counts.{Rose}
+use Rattle.common_types.specs.Counts.{Rose}
 use Rattle.farm_serve.specs.Outside.{DiskSeen, OutputSeen}
 use Rattle.finder_program.specs.Opening.{IsNotOpened}
 use Rattle.finder_program.specs.TextPut.{TextPut}

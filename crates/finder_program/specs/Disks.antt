@@ -1,7 +1,7 @@
 -- What a status says of the disk of a journal.
 use Rattle.std.specs.Prelude.{◌≡◌, ⊤}
 use Rattle.farm_serve.specs.Outside.{DiskSeen}
-use Rattle.fault_types.specs.Counts.{Rose}
+use Rattle.common_types.specs.Counts.{Rose}
 use Rattle.finder_program.specs.declared.status.Status.{Status}
 use Rattle.finder_program.specs.declared.status.Status.TheVariants.{StoreFault}
 

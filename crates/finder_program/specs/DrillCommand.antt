@@ -1,6 +1,6 @@
 -- What the command `drill` does.
 use Rattle.std.specs.Prelude.{◌≡◌, ◌⊎◌, ℕ, List}
-use Rattle.fault_types.specs.Counts.{Rose}
+use Rattle.common_types.specs.Counts.{Rose}
 use Rattle.farm_entry.specs.declared.entry.Entry.{Entry}
 use Rattle.farm_drill.specs.Drilled.{IsDrilled}
 use Rattle.farm_drill.specs.Line.{drill_line}

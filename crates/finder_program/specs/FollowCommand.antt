@@ -3,14 +3,14 @@ use Rattle.std.specs.Prelude.{◌≡◌, ◌≢◌, ◌⊎◌, ◌++◌, ℕ, Bo
 use Rattle.farm_disk.specs.Images.{IsSettled, LeavesOnly, LeavesSinceSync}
 use Rattle.farm_entry.specs.declared.entry.Entry.{Entry}
 use Rattle.farm_serve.specs.Outside.{NetworkSeen, Outside, OutputSeen}
-use Rattle.fault_types.specs.Counts.{Rose}
-use Rattle.follow_law.specs.Taking.{Held}
+use Rattle.common_types.specs.Counts.{Rose}
+use Rattle.journal_follow.specs.Taking.{Held}
 use Rattle.journal_follow.specs.Following.{Follows}
 use Rattle.journal_follow.specs.Shown.{IsKept, Shows, ShowsBetween}
 use Rattle.journal_follow.specs.declared.fault.FollowFault.{FollowFault}
 use Rattle.journal_follow.specs.declared.fault.FollowFault.TheVariants as fault
 use Rattle.journal_follow.specs.declared.following.Followed.{Followed}
-use Rattle.list_prefix.specs.Prefix.{IsPrefix}
+use Rattle.common_types.specs.Prefix.{IsPrefix}
 use Rattle.finder_program.specs.Opening.{IsNotOpened}
 use Rattle.finder_program.specs.TextPut.{TextPut}
 use Rattle.finder_program.specs.declared.status.Status.{Status}

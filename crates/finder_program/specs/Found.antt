@@ -10,7 +10,7 @@ use Rattle.farm_journal.specs.declared.fault.CreateFault.TheVariants as fault
 use Rattle.farm_store.specs.Founded.{IsRefusedBy, IsUnbornOrFounding, founding}
 use Rattle.farm_store.specs.State.{IsStored}
 use Rattle.farm_types.specs.declared.moment.Moment.{Moment}
-use Rattle.fault_types.specs.Counts.{Rose}
+use Rattle.common_types.specs.Counts.{Rose}
 use Rattle.farm_serve.specs.Outside.{DiskSeen, OutputSeen}
 use Rattle.finder_program.specs.TextPut.{TextPut}
 use Rattle.finder_program.specs.RanOut.{RanOut}

@@ -11,7 +11,7 @@ use Rattle.farm_store.specs.Founded.{IsRefusedBy}
 use Rattle.farm_store.specs.Inherited.{IsUnbornOrInheriting, inheriting}
 use Rattle.farm_store.specs.State.{IsStored}
 use Rattle.farm_types.specs.declared.moment.Moment.{Moment}
-use Rattle.fault_types.specs.Counts.{Rose}
+use Rattle.common_types.specs.Counts.{Rose}
 use Rattle.link_io.specs.Streams.{Streams}
 use Rattle.link_io.specs.declared.source.TheConstants.{INPUT_LIMIT}
 use Rattle.farm_serve.specs.Outside.{DiskSeen, OutputSeen}

@@ -1,7 +1,7 @@
 -- What the command `judge` does.
 use Rattle.std.specs.Prelude.{◌≡◌, ℕ, ◌<◌, ◌≤◌, ◌⊎◌, List, [], length, take, drop, Some, Result, Ok, Err, MatchResult}
 use Rattle.std.specs.Io.KnownBytes.{append_known}
-use Rattle.fault_types.specs.Counts.{Rose}
+use Rattle.common_types.specs.Counts.{Rose}
 use Rattle.judge.specs.Answer.{judged}
 use Rattle.link_io.specs.Streams.{Streams}
 use Rattle.link_io.specs.declared.source.TheConstants.{INPUT_LIMIT}

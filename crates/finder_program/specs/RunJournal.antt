@@ -11,7 +11,7 @@ use Rattle.farm_script.specs.declared.run_end.RunEnd.{RunEnd}
 use Rattle.farm_script.specs.declared.run_end.RunEnd.TheVariants as script
 use Rattle.farm_store.specs.Bytes.{StandsFor}
 use Rattle.farm_store.specs.State.{StoreState}
-use Rattle.fault_types.specs.Counts.{Rose}
+use Rattle.common_types.specs.Counts.{Rose}
 use Rattle.link_io.specs.Streams.{Streams}
 use Rattle.link_io.specs.declared.source.TheConstants.{INPUT_LIMIT}
 use Rattle.farm_serve.specs.Outside.{DiskSeen}

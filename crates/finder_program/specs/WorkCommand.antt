@@ -1,7 +1,7 @@
 -- What the command `work` does.
 use Rattle.std.specs.Prelude.{◌≡◌, ◌⊎◌, ◌++◌, ℕ, Bool, true, false, List, [], ◌∷◌, Option, Result, Ok, Err, codes, decimal}
 use Rattle.farm_types.specs.declared.key.Key.{Key}
-use Rattle.fault_types.specs.Counts.{Rose}
+use Rattle.common_types.specs.Counts.{Rose}
 use Rattle.net_io.specs.Events.{NetworkEvent}
 use Rattle.worker_agent.specs.Told.{Told}
 use Rattle.worker_agent.specs.Work.{Works}

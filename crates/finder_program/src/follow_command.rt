@@ -14,7 +14,7 @@ ghost use Rattle.finder_program.specs.FollowCommand.{
 ghost use Rattle.finder_program.specs.TextPut.{TextPut};
 ghost use Rattle.journal_follow.specs.Following.{IsOfFollowing};
 ghost use Rattle.journal_follow.specs.Shown.{IsKept, ShowsBetween};
-ghost use Rattle.list_prefix.specs.Prefix.{IsPrefix};
+ghost use Rattle.common_types.specs.Prefix.{IsPrefix};
 ghost use Rattle.std.specs.Prelude.{Err};
 
 use crate::opening::status_of_opening;

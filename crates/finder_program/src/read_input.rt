@@ -2,7 +2,7 @@
 
 ghost use Rattle.std.specs.Prelude.{◌≡◌, ◌≤◌, ℕ, List, IfOk, IsErrOf, length};
 ghost use Rattle.std.specs.Io.KnownBytes.{prepend_known};
-ghost use Rattle.fault_types.specs.Counts.{Rose};
+ghost use Rattle.common_types.specs.Counts.{Rose};
 ghost use Rattle.finder_program.specs.ReadInput.{WasRead};
 
 use link_io::{INPUT_LIMIT, PIECE, Source, TakeFailed, take_piece};

@@ -5,7 +5,7 @@ ghost use Rattle.farm_script.specs.declared.run_end.RunEnd.TheVariants as script
 ghost use Rattle.farm_serve.specs.Outside.{disk_seen};
 ghost use Rattle.finder_program.specs.Disks.{HasStoreCause};
 ghost use Rattle.finder_program.specs.RunJournal.{IsStoreFaultOf, JournalRunEnds, StoreRan, journal_end};
-ghost use Rattle.fault_types.specs.Counts.{Rose};
+ghost use Rattle.common_types.specs.Counts.{Rose};
 ghost use Rattle.link_io.specs.Streams.{streams};
 
 use crate::opening::status_of_opening;

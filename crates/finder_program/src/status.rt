@@ -5,8 +5,8 @@ ghost use Rattle.std.specs.Io.KnownBytes.{Appends};
 ghost use Rattle.finder_program.specs.Statuses.{error_line};
 
 use crate::read_input::InputFault;
+use common_types::Memory;
 use farm_handover::HandoverFault;
-use fault_types::Memory;
 use judge::JudgeFault;
 use link_io::PutFault;
 use std::io::Write;

@@ -1,7 +1,7 @@
 -- Words that fit a command, and words that fit none.
 use Rattle.std.proofs.Common.{◌≡◌, ap, refl, sym, Bool, true, false, List, ℕ, Some, None, if◌then◌else◌}
 use Rattle.std.proofs.lemmas.Option.{none-some, same_Some}
-use Rattle.word_matches.specs.Forms.{fits, fitting}
+use Rattle.finder_words.specs.Forms.{fits, fitting}
 
 -- what was matched is what the words are, and they fit
 pub words-matched : {X : Type 0} (read : List (List ℕ) → X) (none : X) (matched words : List (List ℕ))

@@ -5,7 +5,7 @@ use Rattle.std.specs.Prelude.{codes, int_le, is_none, neg_ℤ, if◌then◌else�
 use Rattle.std.specs.Str.{bytes_eq}
 use Rattle.std.proofs.Math.Dec.{leb→le}
 use Rattle.std.proofs.lemmas.Option.{same_Some}
-use Rattle.decimal_text.specs.Decimals.{number}
+use Rattle.common_types.specs.Decimals.{number}
 use Rattle.std.specs.Option.{option_map, option_or}
 use Rattle.farm_entry.specs.Limits.{IsZone}
 use Rattle.farm_entry.specs.Settings.{daily_fault, lease_fault, settings_fault, zone_fault}

@@ -1,3 +1,8 @@
 pub mod Fitting
 pub mod Foundings
 pub mod Ranges
+pub mod Cases
+pub mod Commands
+pub mod Named
+pub mod Parsing
+pub mod Plain

@@ -3,7 +3,7 @@ use Rattle.std.proofs.Common.{◌≡◌, ◌&&◌, ◌<◌, ◌≤◌, ◌^◌, 
 use Rattle.std.proofs.lemmas.Bool.{lt-leb}
 use Rattle.std.specs.Prelude.{if◌then◌else◌, nat_le}
 use Rattle.std.specs.Option.{option_and_then}
-use Rattle.decimal_text.specs.Decimals.{number}
+use Rattle.common_types.specs.Decimals.{number}
 use Rattle.finder_words.specs.Words.{count_named}
 
 -- both tests fail where the second does

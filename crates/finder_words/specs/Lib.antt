@@ -1,2 +1,4 @@
 pub mod Named
 pub mod Words
+pub mod CommandLine
+pub mod Forms

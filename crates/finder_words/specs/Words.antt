@@ -7,8 +7,8 @@ use Rattle.farm_entry.specs.Settings.{settings_daily, settings_fault, settings_l
 use Rattle.farm_entry.specs.declared.limits.TheConstants.{MAX_SEARCHES}
 use Rattle.farm_types.specs.Name.{name_fault}
 use Rattle.drill_plan.specs.declared.limits.TheConstants.{MAX_WORKERS}
-use Rattle.decimal_text.specs.Decimals.{number}
-use Rattle.word_matches.specs.Forms.{fits}
+use Rattle.common_types.specs.Decimals.{number}
+use Rattle.finder_words.specs.Forms.{fits}
 use Rattle.finder_words.specs.declared.counts.TheConstants.{MAX_HANDLERS, MAX_LINKS, MAX_NUMBER, MAX_ROUNDS, MAX_RUNS}
 use Rattle.finder_words.specs.declared.subcommand.Subcommand.{Subcommand}
 use Rattle.finder_words.specs.declared.subcommand.Subcommand.TheVariants as sub

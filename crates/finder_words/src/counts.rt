@@ -3,7 +3,7 @@
 ghost use Rattle.std.specs.Prelude.{◌≡◌, ◌≤◌, IfSome};
 ghost use Rattle.finder_words.specs.Words.{count_named};
 
-use decimal_text::number;
+use common_types::number;
 
 /// The most threads that serve.
 pub const MAX_HANDLERS: u32 = 16;

@@ -3,12 +3,12 @@
 ghost use Rattle.std.specs.Prelude.{◌≡◌, IfOk, map, string_bytes};
 ghost use Rattle.finder_words.specs.Named.{seen};
 ghost use Rattle.finder_words.specs.Words.{nowhere, places_asked, places_in, places_named};
-ghost use Rattle.word_matches.specs.Forms.{words_of};
+ghost use Rattle.finder_words.specs.Forms.{words_of};
 
 use crate::subcommand::read_matched;
+use crate::{Matched, match_words};
 use farm_types::Memory;
 use std::alloc::Global;
-use word_matches::{Matched, match_words};
 
 /// What the words name outside. Each text is empty where they name none, and where they ask for nothing.
 #[derive(Drop)]

@@ -3,7 +3,7 @@
 ghost use Rattle.std.specs.Prelude.{◌≡◌, ◌≤◌, ◌^◌, ℕ, ℤ, pos, Some, IfOk, IfSome, IfNone, map, string_bytes};
 ghost use Rattle.std.specs.Option.{option_map};
 ghost use Rattle.farm_entry.specs.Limits.{IsZone};
-ghost use Rattle.decimal_text.specs.Decimals.{number};
+ghost use Rattle.common_types.specs.Decimals.{number};
 ghost use Rattle.finder_words.specs.Words.{
   HasRanges,
   asked,
@@ -20,15 +20,15 @@ ghost use Rattle.finder_words.specs.Words.{
   work_asked,
   zone_named,
 };
-ghost use Rattle.word_matches.specs.Forms.{words_of};
+ghost use Rattle.finder_words.specs.Forms.{words_of};
 
 use crate::counts::{MAX_HANDLERS, MAX_LINKS, MAX_NUMBER, MAX_ROUNDS, MAX_RUNS, read_count};
-use decimal_text::number;
+use crate::{Matched, match_words};
+use common_types::number;
 use drill_plan::MAX_WORKERS;
 use farm_entry::{MAX_SEARCHES, Settings};
 use farm_types::{Memory, Name, NameFault};
 use std::alloc::Global;
-use word_matches::{Matched, match_words};
 
 /// A subcommand of the program.
 #[derive(Drop)]

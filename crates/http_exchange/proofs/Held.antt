@@ -1,9 +1,9 @@
 -- What is held of the bytes that were taken, and what they come to.
 use Rattle.std.proofs.Common.{◌≡◌, ◌+◌, ◌<◌, ◌≤◌, ◌↔◌, ℕ, Bool, true, false, List, [], ◌++◌, ◌-◌, length, take, drop, slice_range, Result, IfOk, IfErr, OnOk, Ok, Err, sym, ap, subst, ◌∙◌, inl, inr, append_assoc, append-nil, length-append, length-drop, arith}
-use Rattle.http_responses.specs.Reading.{IsUnfinished, Says}
-use Rattle.http_responses.specs.Whole.{IsWhole}
-use Rattle.http_responses.specs.declared.progress.ResponseProgress.TheVariants as progress
-use Rattle.http_responses.specs.declared.progress.Response.{Response}
+use Rattle.http_exchange.specs.Reading.{IsUnfinished, Says}
+use Rattle.http_exchange.specs.Whole.{IsWhole}
+use Rattle.http_exchange.specs.declared.progress.ResponseProgress.TheVariants as progress
+use Rattle.http_exchange.specs.declared.progress.Response.{Response}
 use Rattle.link_io.specs.declared.source.TheConstants.{PIECE}
 use Rattle.std.proofs.lemmas.List.{length-take-le, take-append-drop}
 use Rattle.http_exchange.specs.Received.{IsHeld, IsOver, IsTaken, ReceivedBytes, TakesUntil}

@@ -2,15 +2,15 @@
 use Rattle.std.proofs.Common.{◌≡◌, ℕ, Bool, List, [], ◌∷◌, take, drop, Option, Some, None, Result, Ok, Err, IfOk, OnOk, IfSome, IsErrOf, refl, sym, ap, subst, ◌∙◌, inl, inr, append-nil, arith}
 use Rattle.std.proofs.lemmas.List.{take-append-drop}
 use Rattle.std.specs.Io.KnownBytes.{append_known}
-use Rattle.fault_types.specs.Counts.{Rose}
-use Rattle.fault_types.specs.declared.memory.Memory.{Memory}
-use Rattle.http_responses.specs.Whole.{IsWhole}
+use Rattle.common_types.specs.Counts.{Rose}
+use Rattle.common_types.specs.declared.memory.Memory.{Memory}
+use Rattle.http_exchange.specs.Whole.{IsWhole}
 use Rattle.link_io.specs.Links.{LinkState, fresh_link}
 use Rattle.link_io.specs.Notes.{Note}
 use Rattle.link_io.specs.Telling.{add_told}
 use Rattle.link_io.specs.declared.sink.PutFault.{PutFault}
 use Rattle.link_io.specs.declared.sink.PutFault.TheVariants as put_fault
-use Rattle.list_prefix.specs.Prefix.{IsPrefix}
+use Rattle.common_types.specs.Prefix.{IsPrefix}
 use Rattle.net_io.specs.Events.{NetworkEvent, returned}
 use Rattle.http_exchange.specs.Exchanges.{AnsweredBy, AskedOver, IfAnswered, IsOutcome, talk_state, talked}
 use Rattle.http_exchange.specs.Responses.{unput}

@@ -2,8 +2,8 @@
 use Rattle.std.proofs.Common.{◌≡◌, ◌<◌, ◌≤◌, ◌+◌, ⊎_elim, ℕ, List, [], ◌∷◌, ◌++◌, length, Option, Result, Ok, Err, refl, sym, ap, subst, ◌∙◌, inl, inr, arith}
 use Rattle.std.proofs.Math.Nat.{eq-or-lt_of_le}
 use Rattle.std.proofs.lemmas.List.{length-append}
-use Rattle.fault_types.specs.Counts.{Rose}
-use Rattle.fault_types.specs.declared.memory.Memory.{Memory}
+use Rattle.common_types.specs.Counts.{Rose}
+use Rattle.common_types.specs.declared.memory.Memory.{Memory}
 use Rattle.net_io.specs.Events.{NetworkEvent}
 use Rattle.http_exchange.specs.Exchanges.{AnsweredBy, Exchange, IsPut, exchange_events, talked, tell_all, unconnected}
 use Rattle.http_exchange.specs.Sending.{AreLost, IsLost, IsTry, Sends, SendsOnce, Try, sent_of, told_tries, told_try}

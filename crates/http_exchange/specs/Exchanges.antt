@@ -1,10 +1,10 @@
 -- A request and what became of it, over a connection of its own.
 use Rattle.std.specs.Prelude.{◌≡◌, ◌≤◌, ◌⊎◌, ℕ, Bool, List, [], ◌∷◌, Option, Some, Result, Ok, Err, ⊤}
-use Rattle.fault_types.specs.declared.memory.Memory.{Memory}
-use Rattle.http_responses.specs.Whole.{IsWhole}
+use Rattle.common_types.specs.declared.memory.Memory.{Memory}
+use Rattle.http_exchange.specs.Whole.{IsWhole}
 use Rattle.link_io.specs.Links.{LinkState}
 use Rattle.link_io.specs.Telling.{add_told}
-use Rattle.list_prefix.specs.Prefix.{IsPrefix}
+use Rattle.common_types.specs.Prefix.{IsPrefix}
 use Rattle.net_io.specs.Events.{NetworkEvent, connect_failed, connected, returned}
 use Rattle.http_exchange.specs.Responses.{IsBroken}
 use Rattle.http_exchange.specs.declared.connection.Exchanged.{Exchanged}

@@ -4,3 +4,6 @@ pub mod Exchanges
 pub mod Requests
 pub mod Statuses
 pub mod Sending
+pub mod Framing
+pub mod Whole
+pub mod Reading

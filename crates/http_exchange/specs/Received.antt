@@ -1,7 +1,7 @@
 -- The bytes that were taken of a source and are held, and how a take adds to them.
 use Rattle.std.specs.Prelude.{◌≡◌, ◌+◌, ◌<◌, ◌≤◌, ◌⊎◌, ◌↔◌, ℕ, Bool, true, false, List, [], ◌++◌, length, Result, Ok, Err, ⊤}
 use Rattle.link_io.specs.declared.source.TheConstants.{INPUT_LIMIT}
-use Rattle.http_responses.specs.Whole.{IsWhole}
+use Rattle.http_exchange.specs.Whole.{IsWhole}
 use Rattle.http_exchange.specs.declared.response.NoResponse.{NoResponse}
 use Rattle.http_exchange.specs.declared.response.NoResponse.TheVariants.{Broken, Failed, Memory}
 

@@ -1,6 +1,6 @@
 -- What the bytes that were taken of a source come to.
 use Rattle.std.specs.Prelude.{◌≡◌, ◌≤◌, ◌⊎◌, ℕ, Bool, List, [], ◌++◌, length, Result, Ok, Err, ⊤}
-use Rattle.http_responses.specs.Whole.{IsWhole}
+use Rattle.http_exchange.specs.Whole.{IsWhole}
 use Rattle.http_exchange.specs.Received.{IsOver}
 use Rattle.link_io.specs.declared.sink.PutFault.{PutFault}
 use Rattle.link_io.specs.declared.sink.PutFault.TheVariants as put_fault

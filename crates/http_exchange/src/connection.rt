@@ -1,7 +1,7 @@
 //! A request over a connection of its own.
 ghost use Rattle.std.specs.Prelude.{◌≡◌, ◌≤◌, ℕ, List, IfOk, OnOk, IsErrOf, IfSome};
 ghost use Rattle.std.specs.Io.KnownBytes.{append_known};
-ghost use Rattle.fault_types.specs.Counts.{Rose};
+ghost use Rattle.common_types.specs.Counts.{Rose};
 ghost use Rattle.link_io.specs.Links.{fresh_link, link_state};
 ghost use Rattle.link_io.specs.Telling.{add_told};
 ghost use Rattle.net_io.specs.Events.{returned};
@@ -20,7 +20,7 @@ ghost use Rattle.http_exchange.specs.Exchanges.{
 ghost use Rattle.http_exchange.specs.Responses.{HasJustCome};
 
 use crate::{NoResponse, Response, take_response};
-use fault_types::Memory;
+use common_types::Memory;
 use link_io::{Link, Source, put_all};
 use net_io::{Connected, Network};
 use std::alloc::Global;

@@ -1,7 +1,7 @@
 //! The bytes that were taken of a source, behind the interim responses among them.
 ghost use Rattle.std.specs.Prelude.{◌≡◌, ◌≤◌, ◌<◌, ◌+◌, ◌++◌, ◌⊎◌, ℕ, List, [], true, false, IfOk, IfErr, OnOk, OnErr, IsErrOf, length, drop, slice_range};
 ghost use Rattle.std.specs.Io.KnownBytes.{append_known};
-ghost use Rattle.fault_types.specs.Counts.{Rose};
+ghost use Rattle.common_types.specs.Counts.{Rose};
 ghost use Rattle.link_io.specs.declared.source.TheConstants.{INPUT_LIMIT, PIECE};
 ghost use Rattle.http_exchange.specs.Received.{IsTaken, Takes, TakesUntil, nothing_received};
 
@@ -61,7 +61,7 @@ impl Received {
     pub(crate) fn response(
         &self,
         alloc: Global,
-        found: http_responses::Response,
+        found: crate::progress::Response,
     ) -> Result<Response, NoResponse>
         requires order { found.body ≤ found.end }
         requires within { found.end ≤ length self.now.held }

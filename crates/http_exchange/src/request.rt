@@ -2,7 +2,7 @@
 ghost use Rattle.std.specs.Prelude.{◌≡◌, [], IfOk};
 ghost use Rattle.http_exchange.specs.Requests.{close_lines, get_method, get_request, host_lines, length_name, line, post_method, post_request};
 
-use fault_types::Memory;
+use common_types::Memory;
 use itoa::Buffer;
 use std::alloc::Global;
 

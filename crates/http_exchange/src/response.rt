@@ -1,12 +1,12 @@
 //! One response, taken of a source.
 ghost use Rattle.std.specs.Prelude.{◌≡◌, ◌≤◌, ℕ, List, OnOk, IsErrOf};
 ghost use Rattle.std.specs.Io.KnownBytes.{append_known};
-ghost use Rattle.fault_types.specs.Counts.{Rose};
+ghost use Rattle.common_types.specs.Counts.{Rose};
 ghost use Rattle.http_exchange.specs.Responses.{ComesTo, HasJustCome};
 
 use crate::received::Received;
-use http_responses::{ResponseProgress, read_response};
-use item_list::ItemList;
+use crate::{ResponseProgress, read_response};
+use common_types::ItemList;
 use link_io::{PutFault, Source};
 use std::alloc::{AllocError, Global};
 

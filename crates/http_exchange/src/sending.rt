@@ -1,11 +1,11 @@
 //! A request that is sent, and sent again where it is lost.
 ghost use Rattle.std.specs.Prelude.{◌≡◌, ◌≤◌, IfOk};
-ghost use Rattle.fault_types.specs.Counts.{Rose};
+ghost use Rattle.common_types.specs.Counts.{Rose};
 ghost use Rattle.http_exchange.specs.Sending.{Sends, SendsOnce, sent_of};
 
 use crate::status::is_lost_with;
 use crate::{Exchanged, Response, exchange};
-use fault_types::Memory;
+use common_types::Memory;
 use net_io::Network;
 use std::alloc::Global;
 

@@ -2,7 +2,7 @@
 -- 6.2).
 use Rattle.std.specs.Prelude.{ℕ, not, List, [], ◌∷◌, codes, nat_lt, if◌then◌else◌, ◌≤◌, ⊤}
 use Rattle.std.specs.Str.Parse.{digits_value}
-use Rattle.decimal_text.specs.Decimals.{are_digits}
+use Rattle.common_types.specs.Decimals.{are_digits}
 use Rattle.http_words.specs.declared.limits.TheConstants.{MAX_BODY_BYTES}
 use Rattle.http_fields.specs.Fields.{FieldText, named_values}
 use Rattle.http_fields.specs.declared.lengths.StatedLength.{StatedLength}

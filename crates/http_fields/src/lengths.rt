@@ -4,7 +4,7 @@ ghost use Rattle.http_fields.specs.Fields.{field_texts, named_values};
 ghost use Rattle.http_fields.specs.Lengths.{StatesWithin, length_by, length_in, stated_length};
 
 use crate::fields::Fields;
-use decimal_text::{are_digits, digits_up_to};
+use common_types::{are_digits, digits_up_to};
 use http_words::MAX_BODY_BYTES;
 
 /// What the `Content-Length` fields of a head state.

@@ -1,7 +1,7 @@
 -- What a request asks for by its method and path.
 use Rattle.std.specs.Prelude.{ℕ, ◌^◌, ◌-◌, Bool, ◌&&◌, ◌||◌, List, [], ◌∷◌, Option, Some, None, Result, Ok, Err, nat_le, nat_lt, codes, bytes_eq, if◌then◌else◌}
 use Rattle.std.specs.List.{slice_index_or}
-use Rattle.decimal_text.specs.Decimals.{number}
+use Rattle.common_types.specs.Decimals.{number}
 use Rattle.http_routes.specs.Paths.{path_of}
 use Rattle.http_routes.specs.declared.numbers.TheConstants.{FIRST_NUMBER, SECOND_NUMBER}
 use Rattle.http_routes.specs.declared.page.Page.{Page}
@@ -15,7 +15,7 @@ use Rattle.http_words.specs.declared.fault.Fault.TheVariants as fault
 use Rattle.http_words.specs.declared.fault.PathField.{PathField}
 use Rattle.http_words.specs.declared.fault.PathField.TheVariants as field
 use Rattle.http_words.specs.declared.route.Route.TheVariants as route
-use Rattle.path_table.specs.Segments.{Segment, literal, parameter, parts, row_in}
+use Rattle.http_routes.specs.Segments.{Segment, literal, parameter, parts, row_in}
 
 -- a pattern below `/v1/`
 abbrev pub below : List Segment → List Segment

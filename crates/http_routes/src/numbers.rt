@@ -2,7 +2,7 @@
 ghost use Rattle.std.specs.Prelude.{◌≡◌};
 ghost use Rattle.http_routes.specs.Routes.{number_at, path_number, text_at};
 
-use decimal_text::number;
+use common_types::number;
 
 /// The place of a path's first number among its parts, the empty one before its first slash counted.
 pub(crate) const FIRST_NUMBER: usize = 3;

@@ -1,12 +1,13 @@
 //! The path table in a router.
 ghost use Rattle.std.specs.Prelude.{◌≡◌, Some};
 ghost use Rattle.std.specs.Str.{IsUtf8};
-ghost use Rattle.path_table.specs.Apart.{in_order};
-ghost use Rattle.path_table.specs.Filled.{values_of};
-ghost use Rattle.path_table.specs.Walk.{rows_for};
+ghost use Rattle.http_routes.specs.Apart.{in_order};
+ghost use Rattle.http_routes.specs.Filled.{values_of};
+ghost use Rattle.http_routes.specs.Walk.{rows_for};
 ghost use Rattle.http_routes.specs.declared.page.Page.TheVariants as page;
 ghost use Rattle.http_routes.specs.Routes.{endpoint_at, endpoint_by, endpoint_of, page_of, path_table};
 
+use crate::add_route;
 use crate::fixed::fixed_page;
 use crate::numbers::{FIRST_NUMBER, SECOND_NUMBER, number_at};
 use crate::page::{Page, allows};
@@ -14,7 +15,6 @@ use crate::path::{path_of, text_of};
 use farm_types::Memory;
 use http_words::{Endpoint, Fault, PathField, Route};
 use matchit::Router;
-use path_table::add_route;
 use std::alloc::Global;
 
 /// The path table, filled once. Any number of connections may look into it at a time.

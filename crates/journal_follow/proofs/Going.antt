@@ -10,11 +10,11 @@ use Rattle.std.proofs.lemmas.Bool.{cases_lt}
 use Rattle.farm_disk.specs.Images.{DiskState, LeavesOnly}
 use Rattle.farm_disk.proofs.Moments.{leaves_only-start, leaves_only-trans, leaves_only-weaker}
 use Rattle.farm_entry.specs.declared.entry.Entry.{Entry}
-use Rattle.follow_law.specs.Page.{GoesWith, entries_past}
-use Rattle.follow_law.specs.Taking.{Came, Held, IsDecided, IsLeft, Takes, foreign, gap, stored, undecided, unrepaired}
-use Rattle.follow_law.specs.Taking.{unstored}
-use Rattle.list_prefix.specs.Prefix.{IsPrefix}
-use Rattle.list_prefix.proofs.Prefixes.{IsPrefix-append, IsPrefix-refl, IsPrefix-trans}
+use Rattle.journal_follow.specs.Page.{GoesWith, entries_past}
+use Rattle.journal_follow.specs.Taking.{Came, Held, IsDecided, IsLeft, Takes, foreign, gap, stored, undecided, unrepaired}
+use Rattle.journal_follow.specs.Taking.{unstored}
+use Rattle.common_types.specs.Prefix.{IsPrefix}
+use Rattle.common_types.proofs.Prefixes.{IsPrefix-append, IsPrefix-refl, IsPrefix-trans}
 use Rattle.net_io.specs.Events.{NetworkEvent}
 use Rattle.journal_follow.specs.Following.{AreTaken, Ends, Follows, IsRound, Last, Round, answered, compared_after}
 use Rattle.journal_follow.specs.Following.{cut_off, entries_of, nothing, told_last, told_round, told_rounds, unanswered}

@@ -6,8 +6,8 @@ use Rattle.farm_disk.proofs.Moments.{leaves_only-start, leaves_only-trans, leave
 use Rattle.farm_entry.specs.declared.entry.Entry.{Entry}
 use Rattle.farm_laws.proofs.Induct.{IsLegal-first}
 use Rattle.std.specs.Prelude.{Err, Ok, OnOk, Result}
-use Rattle.follow_law.specs.Page.{MayBeHeld}
-use Rattle.follow_law.specs.Taking.{Held, IsDecided}
+use Rattle.journal_follow.specs.Page.{MayBeHeld}
+use Rattle.journal_follow.specs.Taking.{Held, IsDecided}
 use Rattle.journal_follow.specs.Inside.{IsFollower, IsPlace, follower_state, place_state}
 use Rattle.journal_follow.specs.Shown.{IsKept, ShowsLeft}
 use Rattle.journal_follow.specs.State.{FollowerState}

@@ -8,7 +8,7 @@ use Rattle.entry_codec.specs.Spelling.{entry_bytes, spelling}
 use Rattle.entry_codec.proofs.Sizes.{entry-long}
 use Rattle.farm_entry.specs.Legal.{IsLegal}
 use Rattle.farm_entry.specs.declared.entry.Entry.{Entry}
-use Rattle.follow_law.specs.Page.{MayBeHeld}
+use Rattle.journal_follow.specs.Page.{MayBeHeld}
 
 -- a legal history may be held
 pub legal-may : (H : List Entry) → IsLegal H → MayBeHeld H

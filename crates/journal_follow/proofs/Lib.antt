@@ -8,3 +8,4 @@ pub mod Rounding
 pub mod Showing
 pub mod Takings
 pub mod Tries
+pub mod Beginnings

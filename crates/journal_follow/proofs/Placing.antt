@@ -28,9 +28,9 @@ use Rattle.farm_store.proofs.Admissions.{legal-not_nil}
 use Rattle.farm_store.proofs.Calls.{repaired-idle}
 use Rattle.farm_store.proofs.Excluded.{damaged-born, stands-born, stands-not_damaged}
 use Rattle.farm_store.proofs.Standing.{stands-unique}
-use Rattle.fault_types.specs.Counts.{Rose}
-use Rattle.follow_law.specs.Page.{MayBeHeld}
-use Rattle.follow_law.specs.Taking.{Held}
+use Rattle.common_types.specs.Counts.{Rose}
+use Rattle.journal_follow.specs.Page.{MayBeHeld}
+use Rattle.journal_follow.specs.Taking.{Held}
 use Rattle.journal_follow.specs.Inside.{HasCountFrom, IsBegunDisk, IsOfRepair, IsOpen, IsUnbornDisk, Mends, Puts, Stores}
 use Rattle.journal_follow.specs.Inside.{on_disk}
 use Rattle.journal_follow.specs.Shown.{ShowsLeft}

@@ -1,7 +1,7 @@
 -- Counts that rose.
 use Rattle.std.proofs.Common.{◌≡◌, ◌≤◌, inl, inr, ⊎_elim, ℕ, arith}
 use Rattle.std.proofs.Math.Nat.{eq-or-lt_of_le}
-use Rattle.fault_types.specs.Counts.{Rose, last_count}
+use Rattle.common_types.specs.Counts.{Rose, last_count}
 
 -- a count that rose later rose
 pub rose-later : (first before now : ℕ) → first ≤ before → Rose before now → Rose first now

@@ -4,11 +4,11 @@ use Rattle.std.proofs.Common.{arith}
 use Rattle.std.specs.Prelude.{Result, Ok, Err}
 use Rattle.farm_entry.specs.declared.entry.Entry.{Entry}
 use Rattle.farm_entry.specs.declared.limits.TheConstants.{MAX_ENTRIES}
-use Rattle.follow_law.specs.Page.{MayBeHeld}
+use Rattle.journal_follow.specs.Page.{MayBeHeld}
 use Rattle.journal_follow.proofs.Going.{stored-behind}
 use Rattle.journal_follow.proofs.Holding.{may-front}
 use Rattle.journal_follow.proofs.Takings.{may-bounded}
-use Rattle.follow_law.specs.Taking.{Came, Held, Takes, foreign, gap, stored, undecided, unrepaired, unstored}
+use Rattle.journal_follow.specs.Taking.{Came, Held, Takes, foreign, gap, stored, undecided, unrepaired, unstored}
 use Rattle.net_io.specs.Events.{NetworkEvent}
 use Rattle.journal_follow.specs.Asked.{AskComesTo, AskEnds}
 use Rattle.journal_follow.specs.Following.{Ends, IsRound, Last, Round, answered, cut_off, nothing, told_last}

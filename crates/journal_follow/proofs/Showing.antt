@@ -9,7 +9,7 @@ use Rattle.farm_store.specs.Bytes.{StandsFor}
 use Rattle.farm_store.specs.Founded.{IsUnbornOr}
 use Rattle.farm_store.specs.State.{IsStored, IsWithOrWithout, StoreState}
 use Rattle.farm_store.specs.State as store
-use Rattle.follow_law.specs.Taking.{Held, IsDecided, IsLeft}
+use Rattle.journal_follow.specs.Taking.{Held, IsDecided, IsLeft}
 use Rattle.journal_follow.specs.Inside.{IsBegunDisk, IsUnbornDisk}
 use Rattle.journal_follow.specs.Shown.{IsKept, Shows, ShowsDecided, ShowsLeft}
 

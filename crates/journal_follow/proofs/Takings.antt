@@ -10,8 +10,8 @@ use Rattle.std.proofs.Math.Seq.{drop-append_seam}
 use Rattle.farm_entry.specs.declared.entry.Entry.{Entry}
 use Rattle.farm_entry.specs.declared.limits.TheConstants.{MAX_ENTRIES}
 use Rattle.farm_laws.proofs.Bounds.{entries-bounded}
-use Rattle.follow_law.specs.Page.{GoesWith, IsForeignAt, MayBeHeld, entries_past}
-use Rattle.follow_law.specs.Taking.{Came, Held, IsDecided, Takes, foreign, gap, stored, undecided, unrepaired, unstored}
+use Rattle.journal_follow.specs.Page.{GoesWith, IsForeignAt, MayBeHeld, entries_past}
+use Rattle.journal_follow.specs.Taking.{Came, Held, IsDecided, Takes, foreign, gap, stored, undecided, unrepaired, unstored}
 use Rattle.farm_store.specs.Admitted.{IsStuckAt}
 use Rattle.journal_follow.specs.Inside.{HasCountFrom, IsPast, IsRefused, Repairs, Stores}
 use Rattle.journal_follow.specs.Taken.{Answers, HasCause}

@@ -1,7 +1,7 @@
 -- From the sending of an ask to what it comes to.
 use Rattle.std.proofs.Common.{inl, inr, ◌≡◌, ℕ, List, [], Option, Some, None, Result, Ok, Err, refl, sym, arith}
 use Rattle.farm_entry.specs.declared.entry.Entry.{Entry}
-use Rattle.fault_types.specs.declared.memory.Memory as want
+use Rattle.common_types.specs.declared.memory.Memory as want
 use Rattle.http_exchange.proofs.Sendings.{put-tried}
 use Rattle.http_exchange.specs.Sending.{IsCutOff, IsLost, IsSent}
 use Rattle.http_exchange.specs.declared.response.Response.{Response}

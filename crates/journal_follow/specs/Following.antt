@@ -3,7 +3,7 @@ use Rattle.std.specs.Prelude.{◌≡◌, ◌≢◌, ◌<◌, ◌⊎◌, ◌+◌,
 use Rattle.std.specs.Prelude.{Result, Ok, Err, ⊤}
 use Rattle.std.specs.List.{flat_map}
 use Rattle.farm_entry.specs.declared.entry.Entry.{Entry}
-use Rattle.follow_law.specs.Taking.{Came, Held, Takes, stored}
+use Rattle.journal_follow.specs.Taking.{Came, Held, Takes, stored}
 use Rattle.http_exchange.specs.Exchanges.{Exchange, IsPut, exchange_events, tell_all}
 use Rattle.http_exchange.specs.Sending.{AreLost, IsTry, Try, sent_of, told_tries, told_try}
 use Rattle.http_exchange.specs.declared.response.Response.{Response}

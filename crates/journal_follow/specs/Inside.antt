@@ -8,9 +8,9 @@ use Rattle.farm_journal.specs.Created.{IsUnborn}
 use Rattle.farm_store.specs.Admitted.{IsStuckAt}
 use Rattle.farm_store.specs.Founded.{IsUnbornOr}
 use Rattle.farm_store.specs.State.{IsStored, StoreState}
-use Rattle.fault_types.specs.Counts.{Rose}
-use Rattle.follow_law.specs.Page.{IsForeignAt, MayBeHeld, entries_past}
-use Rattle.follow_law.specs.Taking.{Held, IsDecided}
+use Rattle.common_types.specs.Counts.{Rose}
+use Rattle.journal_follow.specs.Page.{IsForeignAt, MayBeHeld, entries_past}
+use Rattle.journal_follow.specs.Taking.{Held, IsDecided}
 use Rattle.journal_follow.specs.Shown.{ShowsLeft}
 use Rattle.journal_follow.specs.State.{FollowerState, IsSameDisk}
 use Rattle.journal_follow.specs.Taken.{IsSoundly, OnMemory}

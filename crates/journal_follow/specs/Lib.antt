@@ -8,3 +8,7 @@ pub mod Rounds
 pub mod Shown
 pub mod State
 pub mod Taken
+pub mod Page
+pub mod Taking
+pub mod World
+pub mod Happenings

@@ -1,6 +1,6 @@
 -- What a round of following comes to.
 use Rattle.std.specs.Prelude.{◌≡◌, ◌≢◌, ◌<◌, ◌+◌, ℕ, true, List, [], length, Option, Result, Ok, Err}
-use Rattle.follow_law.specs.Taking.{Held, Takes, stored}
+use Rattle.journal_follow.specs.Taking.{Held, Takes, stored}
 use Rattle.net_io.specs.Events.{NetworkEvent}
 use Rattle.journal_follow.specs.Following.{Ends, IsRound, Last, Round, told_last, told_round}
 use Rattle.journal_follow.specs.declared.fault.FollowFault.{FollowFault}

@@ -4,8 +4,8 @@ use Rattle.farm_disk.specs.Images.{DiskState, EachImage}
 use Rattle.farm_entry.specs.declared.entry.Entry.{Entry}
 use Rattle.farm_journal.specs.Created.{IsUnborn}
 use Rattle.farm_store.specs.Bytes.{StandsFor}
-use Rattle.list_prefix.specs.Prefix.{IsPrefix}
-use Rattle.follow_law.specs.Taking.{Held, IsDecided, IsLeft}
+use Rattle.common_types.specs.Prefix.{IsPrefix}
+use Rattle.journal_follow.specs.Taking.{Held, IsDecided, IsLeft}
 
 -- bytes stand for a history that may be held: unborn ones for the empty one
 abbrev pub Shows : List Entry → List ℕ → Type 0

@@ -1,7 +1,7 @@
 -- What contracts see of a follower.
 use Rattle.std.specs.Prelude.{◌≡◌, ℕ, Bool}
 use Rattle.farm_disk.specs.Images.{DiskState}
-use Rattle.follow_law.specs.Taking.{Held}
+use Rattle.journal_follow.specs.Taking.{Held}
 
 -- What it holds; whether its disk tells what it holds, and what it tells; and how often the disk has failed.
 pub record FollowerState : Type 0 where

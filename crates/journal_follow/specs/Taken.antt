@@ -1,7 +1,7 @@
 -- What a follower answers to a page.
 use Rattle.std.specs.Prelude.{◌≡◌, ◌≤◌, ℕ, Result, Ok, Err, ⊤}
-use Rattle.fault_types.specs.Counts.{Rose}
-use Rattle.follow_law.specs.Taking.{Came, foreign, gap, stored, undecided, unrepaired, unstored}
+use Rattle.common_types.specs.Counts.{Rose}
+use Rattle.journal_follow.specs.Taking.{Came, foreign, gap, stored, undecided, unrepaired, unstored}
 use Rattle.journal_follow.specs.declared.fault.FollowFault.{FollowFault}
 use Rattle.journal_follow.specs.declared.fault.FollowFault.TheVariants.{Damaged, Foreign, Gap, Memory, StoreFault}
 

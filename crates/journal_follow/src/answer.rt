@@ -7,14 +7,13 @@ ghost use Rattle.journal_follow.specs.Asks.{Reads};
 ghost use Rattle.journal_follow.specs.Pages.{IsFound, ReadsHex, ReadsText, first_in, text_in};
 
 use crate::FollowFault;
+use common_types::{ItemList, Memory};
 use entry_codec::{CodecFault, read_entries};
 use farm_entry::Entry;
 use farm_journal::MAX_PAYLOAD;
-use fault_types::Memory;
 use hex::{FromHexError, decode};
 use http_exchange::{Response, status_number};
 use http_words::StatusCode;
-use item_list::ItemList;
 use serde_json::Value;
 use std::alloc::Global;
 

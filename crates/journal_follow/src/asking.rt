@@ -1,7 +1,7 @@
 //! The ask for a page, sent again where it is lost.
 
 ghost use Rattle.std.specs.Prelude.{◌≡◌, ◌≤◌, IsErrOf};
-ghost use Rattle.fault_types.specs.Counts.{Rose};
+ghost use Rattle.common_types.specs.Counts.{Rose};
 ghost use Rattle.journal_follow.specs.Asked.{AskComesTo, given_up};
 
 use crate::FollowFault;

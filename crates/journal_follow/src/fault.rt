@@ -3,7 +3,7 @@
 ghost use Rattle.std.specs.Prelude.{◌≡◌};
 ghost use Rattle.journal_follow.specs.declared.fault.FollowFault.TheVariants as fault;
 
-use fault_types::Memory;
+use common_types::Memory;
 use std::alloc::{AllocError, AllocFailed};
 use thiserror::Error;
 

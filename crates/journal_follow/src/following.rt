@@ -1,10 +1,10 @@
 //! Following a leader.
 
 ghost use Rattle.std.specs.Prelude.{◌≡◌, ◌≤◌, ◌++◌, true, length, IsErrOf};
-ghost use Rattle.fault_types.specs.Counts.{Rose};
+ghost use Rattle.common_types.specs.Counts.{Rose};
 ghost use Rattle.farm_disk.specs.Images.{LeavesOnly};
-ghost use Rattle.follow_law.specs.Page.{MayBeHeld};
-ghost use Rattle.list_prefix.specs.Prefix.{IsPrefix};
+ghost use Rattle.journal_follow.specs.Page.{MayBeHeld};
+ghost use Rattle.common_types.specs.Prefix.{IsPrefix};
 ghost use Rattle.journal_follow.specs.Following.{Follows, IsOfFollowing};
 ghost use Rattle.journal_follow.specs.Rounds.{EndedSays, RoundSays};
 ghost use Rattle.journal_follow.specs.Shown.{IsKept, ShowsBetween, ShowsLeft};

@@ -3,7 +3,7 @@
 ghost use Rattle.std.specs.Prelude.{◌≡◌, ◌++◌, IfOk, decimal};
 ghost use Rattle.journal_follow.specs.Asks.{ask_request, log_path};
 
-use fault_types::Memory;
+use common_types::Memory;
 use http_exchange::get_request;
 use itoa::Buffer;
 use std::alloc::Global;

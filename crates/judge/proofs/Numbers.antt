@@ -1,7 +1,7 @@
 -- Reading a list of words number by number, against a form of whole lists of numbers.
 use Rattle.std.proofs.Common.{◌≡◌, ℕ, ◌^◌, ◌≤◌, List, [], ◌∷◌, Option, Some, None, drop, refl, sym, ap, ◌∙◌}
 use Rattle.std.specs.Prelude.{option_and_then}
-use Rattle.decimal_text.specs.Decimals.{number}
+use Rattle.common_types.specs.Decimals.{number}
 use Rattle.judge.specs.Text.{numbers, with_first, first_number}
 use Rattle.judge.specs.Words.{ReadsNumber, LacksNumber}
 

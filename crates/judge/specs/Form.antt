@@ -2,7 +2,7 @@
 use Rattle.std.specs.Prelude.{ℕ, ◌+◌, ◌^◌, List, [], ◌∷◌, max, Bool, ◌&&◌, nat_le, nat_lt, if◌then◌else◌, Option, Some, None, option_and_then, Result, Ok, Err, codes}
 use Rattle.std.specs.Str.{bytes_eq}
 use Rattle.flake_rate.specs.Tests.{is_rate, is_miss, is_bar, is_told}
-use Rattle.decimal_text.specs.Decimals.{number}
+use Rattle.common_types.specs.Decimals.{number}
 use Rattle.judge.specs.Text.{words, numbers}
 use Rattle.judge.specs.declared.run_line.RunLine.{RunLine}
 use Rattle.weight_exact.specs.Factors.{factors, in_lowest_terms}

@@ -1,6 +1,6 @@
 -- Lines, words and numbers of a text.
 use Rattle.std.specs.Prelude.{ℕ, List, [], ◌∷◌, ◌++◌, ◌==◌, if◌then◌else◌, Option, Some, None, option_map}
-use Rattle.decimal_text.specs.Decimals.{number}
+use Rattle.common_types.specs.Decimals.{number}
 
 -- the pieces of a text between the bytes `mark`, `piece` being what was read of the first
 abbrev pub pieces_after : ℕ → List ℕ → List ℕ → List (List ℕ)

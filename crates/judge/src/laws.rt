@@ -6,7 +6,7 @@ ghost use Rattle.std.specs.Fmt.{decimal};
 ghost use Rattle.std.specs.List.{join_with_byte};
 ghost use Rattle.judge.specs.Answer.{judged};
 ghost use Rattle.judge.specs.Fates.{JudgeProgress, at_start, standing, is_searching, after_all};
-ghost use Rattle.decimal_text.specs.Decimals.{number};
+ghost use Rattle.common_types.specs.Decimals.{number};
 ghost use Rattle.judge.specs.Text.{lines, words, text_of};
 ghost use Rattle.judge.specs.declared.run_line.RunLine.{RunLine};
 ghost use Rattle.weight_exact.specs.Budget.{run_budget};

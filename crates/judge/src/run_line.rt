@@ -4,7 +4,7 @@ ghost use Rattle.std.specs.Prelude.{◌≡◌};
 ghost use Rattle.judge.specs.Form.{is_run, verdict_word};
 
 use crate::words::Words;
-use decimal_text::number;
+use common_types::number;
 use weight_exact::{Run, Verdict};
 
 /// `run R K pass` or `run R K fail`: a run's number R, from 1, where it was and what it said.

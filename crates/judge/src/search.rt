@@ -3,14 +3,14 @@
 ghost use Rattle.std.specs.Prelude.{◌≡◌, IsTrue, Some, None, IfOk, IfSome, IfNone, option_map, option_and_then};
 ghost use Rattle.flake_rate.specs.Miss.{miss_numerator, miss_denominator, FitsRate};
 ghost use Rattle.judge.specs.Form.{search_line, search_of};
-ghost use Rattle.decimal_text.specs.Decimals.{number};
+ghost use Rattle.common_types.specs.Decimals.{number};
 ghost use Rattle.judge.specs.Text.{numbers};
 ghost use Rattle.judge.specs.Weights.{as_weight, as_weights};
 ghost use Rattle.judge.specs.Words.{words_left};
 ghost use Rattle.weight_exact.specs.Limits.{are_weights, IsCalm};
 
 use crate::words::Words;
-use decimal_text::number;
+use common_types::number;
 use flake_rate::{Bar, Miss, Rate};
 use std::alloc::{AllocError, Global};
 use weight_exact::{MAX_CALM, MAX_SUSPECTS, MAX_WEIGHT};

@@ -5,7 +5,7 @@ ghost use Rattle.judge.specs.Text.{words};
 ghost use Rattle.judge.specs.Form.{after_keyword};
 ghost use Rattle.judge.specs.Words.{words_of_rest, ReadsNumber, LacksNumber};
 
-use decimal_text::number;
+use common_types::number;
 
 /// The words of a line that are still to be read, in order. One space stands between two, so two
 /// spaces in a row have an empty word between them.

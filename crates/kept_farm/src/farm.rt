@@ -25,6 +25,7 @@ use crate::replies::{reply_to_lease, reply_to_opening, reply_to_report, reply_to
 use crate::row::Row;
 use crate::run_page::{lines_from, run_lines_at, runs_in};
 use crate::search_list::search_lines_at;
+use common_types::ItemList;
 use farm_books::Books;
 use farm_entry::{
     DueRun, Entry, LeasedRun, MAX_ENTRIES, Opening, OrderPage, Reply, ReportedRun, RunPage,
@@ -34,7 +35,6 @@ use farm_ledger::Ledger;
 use farm_rules::{Draft, NoOrder};
 use farm_state::FarmState;
 use farm_types::{CommitId, Key, LAST_DAY, Memory, Moment};
-use item_list::ItemList;
 use search_places::SearchPlaces;
 use search_state::SearchState;
 use std::alloc::Global;

@@ -1,6 +1,6 @@
 -- Which calls of an object in memory are to fail.
 use Rattle.std.specs.Prelude.{ℕ, List, Contains}
-use Rattle.fault_types.specs.Counts.{next_count}
+use Rattle.common_types.specs.Counts.{next_count}
 
 -- the numbers of the calls that are to fail, from 1; how many calls were made; and how many of them failed
 pub record PlannedFaults : Type 0 where

@@ -3,7 +3,7 @@ use Rattle.std.specs.Prelude.{ℕ, List, [], ◌++◌}
 use Rattle.link_io.specs.FaultPlan.{PlannedFaults, fresh_plan}
 use Rattle.link_io.specs.MemInput.{InputInMemory, fresh_input}
 use Rattle.link_io.specs.Notes.{Note}
-use Rattle.past_moments.specs.Moments.{passed_at}
+use Rattle.common_types.specs.Moments.{passed_at}
 use Rattle.link_io.specs.declared.memory.mem_link.Noted.{Noted}
 
 -- its input, how many takes were made, the bytes that were put, the calls that are to fail, takes and puts counted

@@ -1,7 +1,7 @@
 //! A sink in memory whose bytes go on to another one.
 ghost use Rattle.std.specs.Prelude.{◌≡◌, ◌≢◌, ◌≤◌, ◌<◌, ◌+◌, ◌++◌, ◌↔◌, ℕ, [], Some, true, OnOk, OnErr, IsErrOf, length, take};
 ghost use Rattle.std.specs.Io.KnownBytes.{append_known};
-ghost use Rattle.fault_types.specs.Counts.{Rose};
+ghost use Rattle.common_types.specs.Counts.{Rose};
 ghost use Rattle.link_io.specs.Intake.{no_intake};
 ghost use Rattle.link_io.specs.Put.{IfPut};
 

@@ -4,8 +4,8 @@
 //! of a link keeps what the other half has done, whether the last take found the end, and that each failure is
 //! counted. Code above is generic over them and proved once.
 //!
-//! The crate stands on `farm_types` for moments, on `fault_types` for counts, on `past_moments` for moments that are
-//! over and on `told_list` for notes. The layers above may use
+//! The crate stands on `farm_types` for moments, and on `common_types` for counts, notes and moments that are over. The
+//! layers above may use
 //! - the traits with their answers, `take_piece`, which gives the bytes of one take, and `put_all`, which puts a whole
 //!   slice;
 //! - `Gathered`, a sink in memory with room for [`GATHERED_BYTES`], in which many short pieces are gathered to go out

@@ -2,8 +2,8 @@
 //! contracts all of that, where it tells: the list of what it did, with what each link had done when it was taken back.
 //! Code above is generic over it and proved once.
 //!
-//! The crate stands on `link_io` for links, on `told_list` for what is told without a byte of memory, and on
-//! `past_moments` for moments that are over. The layers above may use
+//! The crate stands on `link_io` for links, and on `common_types` for what is told without a byte of memory and for
+//! moments that are over. The layers above may use
 //! - the trait with its answers;
 //! - `MemNetwork`, which gives links in memory, tells all that it did, and fails at the calls that it is told to.
 //!

@@ -1,6 +1,6 @@
 //! A network in memory.
 ghost use Rattle.std.specs.Prelude.{◌≡◌, ◌≤◌, ◌↔◌, ◌⊎◌, ◌∷◌, [], List, Some};
-ghost use Rattle.fault_types.specs.Counts.{Rose, next_count, count_with};
+ghost use Rattle.common_types.specs.Counts.{Rose, next_count, count_with};
 ghost use Rattle.link_io.specs.FaultPlan.{fresh_plan, NextFails, plan_after_success, plan_after_fault};
 ghost use Rattle.link_io.specs.MemLink.{LinkInMemory, afresh};
 ghost use Rattle.net_io.specs.Answers.{IfAccepted, OnEnd, OnAcceptFailed, IfConnected, OnConnectFailed};
@@ -15,11 +15,10 @@ ghost use Rattle.net_io.specs.Events.{
 ghost use Rattle.net_io.specs.Memory.{mem_link_state};
 
 use crate::{Accepted, Connected, Network};
+use common_types::{Passed, ToldList};
 use link_io::{FaultPlan, MemLink, Source};
-use past_moments::Passed;
 use std::marker::Model;
 use std::snapshot::Snapshot;
-use told_list::ToldList;
 
 /// What the network did.
 #[derive(Drop)]

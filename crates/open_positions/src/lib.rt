@@ -3,7 +3,7 @@
 //! A tree may not build, or the test may not exist in it. Its position is skipped then: the plan of the search is made
 //! of the other positions, those that are open. [`Skips`] keeps which positions were skipped, by a bit for each, and
 //! contracts see them as a list in the order in which they were skipped. The crate stands on `weight_exact`, whose
-//! thresholds and weights the definitions speak of, and on `told_list` for what contracts alone see.
+//! thresholds and weights the definitions speak of, and on `common_types` for what contracts alone see.
 //!
 //! The layers above may cite every definition of specs/: the plan over open positions (`Open`), what the nearest of
 //! them is (`Nearest`), and when hypotheses that no run can tell apart any more are at the bar together (`Blocks`).

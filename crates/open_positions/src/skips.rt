@@ -6,9 +6,9 @@ ghost use Rattle.weight_exact.specs.declared.limits.TheConstants.{MAX_SUSPECTS};
 ghost use Rattle.open_positions.specs.Open.{is_skipped};
 ghost use Rattle.open_positions.specs.Blocks.{first_at, last_below};
 
+use common_types::ToldList;
 use std::alloc::Global;
 use std::marker::Model;
-use told_list::ToldList;
 use weight_exact::{MAX_SUSPECTS, Memory};
 
 /// How many words of 64 bits have a bit for each position: for the suspects of a search, and for the base.

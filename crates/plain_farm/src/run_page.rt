@@ -3,9 +3,9 @@
 ghost use Rattle.std.specs.Prelude.{◌≡◌, IfOk};
 ghost use Rattle.farm_entry.specs.RunPages.{run_line, run_lines, runs_page};
 
+use common_types::ItemList;
 use farm_entry::{Entry, Opening, RunLine, RunPage, What};
 use farm_types::Memory;
-use item_list::ItemList;
 use plain_history::{lines_from, push_some, report_of};
 use std::alloc::Global;
 

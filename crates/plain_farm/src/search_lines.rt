@@ -8,9 +8,9 @@ ghost use Rattle.farm_entry.specs.SearchLines.{search_line, search_lines, search
 ghost use Rattle.plain_history.specs.Held.{IsHeld};
 
 use crate::standings::standing;
+use common_types::ItemList;
 use farm_entry::{Entry, Opening, OrderLine, SearchLine, SearchList};
 use farm_types::{Memory, Moment};
-use item_list::ItemList;
 use plain_history::{leases, lines_from, order_lines, push_some, runs};
 use std::alloc::Global;
 

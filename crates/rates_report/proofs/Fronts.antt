@@ -7,7 +7,7 @@ use Rattle.farm_entry.specs.declared.entry.What.{What}
 use Rattle.farm_entry.specs.declared.entry.What.TheVariants.{Founded, Opened, Leased, Reported, Skipped, Cancelled, Ordered, Carried, Closed}
 use Rattle.farm_entry.specs.declared.standing.Standing.{Standing}
 use Rattle.farm_laws.proofs.Induct.{AreNext-first}
-use Rattle.flake_book.specs.Tally.{StandsAfter, search_in}
+use Rattle.rates_report.specs.Tally.{StandsAfter, search_in}
 
 -- a legal history is legal up to each of its entries
 pub front-legal : (H rest : List Entry) (e : Entry) → IsLegal (H ++ e ∷ rest) → IsLegal (H ++ e ∷ [])

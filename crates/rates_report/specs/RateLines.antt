@@ -3,7 +3,7 @@ use Rattle.std.specs.Prelude.{ℕ, List, [], ◌∷◌, ◌++◌, slice_get, Opt
 use Rattle.std.specs.List.{flat_map}
 use Rattle.serde_json.specs.Written.{compact_text}
 use Rattle.farm_entry.specs.declared.entry.Entry.{Entry}
-use Rattle.flake_book.specs.Tally.{rate_offered, tally, tests_of}
+use Rattle.rates_report.specs.Tally.{rate_offered, tally, tests_of}
 use Rattle.rates_report.specs.Rates.{rate_data}
 
 -- the byte that ends a line

@@ -5,10 +5,10 @@ ghost use Rattle.farm_entry.specs.History.{opening_numbered};
 ghost use Rattle.farm_entry.specs.Legal.{IsLegal};
 ghost use Rattle.farm_entry.specs.Standing.{standing};
 
+use crate::FlakeBook;
 use farm_core::{AdmitFault, CoreFault, Farm, Prepared};
 use farm_entry::{Command, Entry, Opening, Reply, Standing};
 use farm_types::{Memory, Moment};
-use flake_book::FlakeBook;
 use std::alloc::Global;
 
 /// The book that was noted this history, with the standings that a farm shows which takes the entries one by one.

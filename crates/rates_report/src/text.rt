@@ -2,14 +2,14 @@
 
 ghost use Rattle.std.specs.Prelude.{◌≡◌, ◌<◌, ◌++◌, length, IfOk, OnOk, slice_index, string_bytes};
 ghost use Rattle.farm_entry.specs.Legal.{IsLegal};
-ghost use Rattle.flake_book.specs.Tally.{tests_of};
+ghost use Rattle.rates_report.specs.Tally.{tests_of};
 ghost use Rattle.rates_report.specs.RateLines.{rate_line_at, rates_text};
 
+use crate::FlakeBook;
 use crate::rate::rate_text;
 use crate::replay::book_of;
 use farm_entry::Entry;
 use farm_types::Memory;
-use flake_book::FlakeBook;
 use std::alloc::Global;
 
 /// The lines of the tests that a history tells of, in the order of their bytes: how often each failed, in how many

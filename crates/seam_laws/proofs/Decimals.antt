@@ -13,7 +13,7 @@ use Rattle.std.proofs.lemmas.List.Elements.{All-cons, All-head, All-nil}
 use Rattle.std.proofs.lemmas.Str.Parse.{numerals_by_value, tells_all_ascii_digits, tells_by_index}
 use Rattle.httparse.specs.Grammar.{AllPass, is_ows, is_uri_byte, is_value_byte, skip_ows, trim_ows}
 use Rattle.httparse.proofs.TrimLemmas.{AllPass-reverse, skip_ows_no, trim_ows_space}
-use Rattle.decimal_text.specs.Decimals.{are_digits, number}
+use Rattle.common_types.specs.Decimals.{are_digits, number}
 
 -- each byte of a list that passes as a whole passes
 pub pass-each : (test : ℕ → Bool) (bytes : List ℕ) → list_all test bytes ≡ true → AllPass test bytes

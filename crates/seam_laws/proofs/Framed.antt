@@ -8,7 +8,7 @@ use Rattle.std.specs.Str.Parse.{digits_value}
 use Rattle.std.proofs.lemmas.Bool.{le-ltb, ltb-true}
 use Rattle.std.proofs.lemmas.Fmt.{length-decimal-le}
 use Rattle.std.proofs.lemmas.List.Elements.{All-cons, All-nil}
-use Rattle.decimal_text.specs.Decimals.{are_digits}
+use Rattle.common_types.specs.Decimals.{are_digits}
 use Rattle.http_exchange.specs.Requests.{get_request, post_request}
 use Rattle.http_fields.specs.Fields.{FieldText, expects_continue, has_close}
 use Rattle.http_fields.specs.Lengths.{length_in, stated_length}

@@ -21,7 +21,7 @@ use Rattle.http_words.specs.declared.fault.PathField.TheVariants as field
 use Rattle.http_words.specs.declared.route.Route.TheVariants as route
 use Rattle.httparse.specs.Grammar.{AllPass, is_uri_byte}
 use Rattle.json.proofs.Printed.Utf8.{IsUtf8-are_ascii}
-use Rattle.path_table.specs.Segments.{parts, row_in, slash}
+use Rattle.http_routes.specs.Segments.{parts, row_in, slash}
 use Rattle.seam_laws.proofs.Decimals.{digits-decimal, number-decimal, pass-each, question-digit, slash-digit}
 use Rattle.seam_laws.proofs.Decimals.{some-digit, uri-digit}
 

@@ -1,7 +1,7 @@
 -- The state of a search may be handed to another thread.
 use denote.Param.Send.{IsSend, sendable}
 use Rattle.std.proofs.Crossing.{crosses}
-use Rattle.told_list.proofs.Crossing.{told_list-send}
+use Rattle.common_types.proofs.Crossing.{told_list-send}
 use Rattle.search_state.specs.contracts.state.SearchState as SearchState
 
 pub search_state-send : IsSend SearchState.the_row

@@ -13,6 +13,7 @@ ghost use Rattle.farm_laws.specs.Openings.{OpenWithin};
 ghost use Rattle.search_state.specs.SearchView.{IsPlaced, IsPlacedAt, adds_load, after_counted, after_report, after_skip, cancelled, due_in, fate_in, gone_over, has_room, opened, passes_budget, position_searching, position_verifying, shares_in, skip_fate_in, skipped_at, standing_in, untestable_in};
 
 use crate::decided::{begun, next_standing, standing_with_skip};
+use common_types::ToldList;
 use farm_entry::{DueRun, Fate, Opening, Positions, Shares, SkipFate, Standing};
 use farm_rules::{Verify, due_verify, is_left};
 use farm_types::{Memory, Stage};
@@ -23,7 +24,6 @@ use std::alloc::Global;
 use std::marker::Model;
 use std::snapshot::Snapshot;
 use threshold_pick::open_pick_uncounted;
-use told_list::ToldList;
 use weight_exact::{Factors, MAX_WIDTH, Run};
 
 /// A search of a farm, kept from report to report.

@@ -13,7 +13,7 @@ use Rattle.farm_store.specs.State.{StoreState}
 use Rattle.farm_store.specs.declared.asking.Ask.{Ask}
 use Rattle.farm_store.specs.declared.asking.CallFault.{CallFault}
 use Rattle.farm_store.specs.declared.asking.CallFault.TheVariants.{Refused, StoreFault, Memory}
-use Rattle.list_prefix.proofs.Prefixes.{IsPrefix-refl}
+use Rattle.common_types.proofs.Prefixes.{IsPrefix-refl}
 use Rattle.turn_lock.specs.Known.{AccountsFor}
 use Rattle.turn_lock.specs.Places.{IsOneOf}
 use Rattle.turn_lock.specs.declared.view.Taken.{Taken}

@@ -7,8 +7,8 @@ use denote.Param.Send.{IsSend, IsSync, sendable}
 use Rattle.std.proofs.Crossing.{crosses}
 use Rattle.farm_disk.specs.declared.dated.DatedDisk as dated
 use Rattle.farm_disk.specs.declared.disk.Disk.{Ghosts}
-use Rattle.past_moments.specs.declared.passed.Past as past
-use Rattle.told_list.proofs.Crossing.{told_list-send}
+use Rattle.common_types.specs.declared.passed.Past as past
+use Rattle.common_types.proofs.Crossing.{told_list-send}
 use Rattle.farm_store.proofs.Crossing.{store-send}
 use Rattle.turn_lock.proofs.lock.TurnLock.TheSendSync as TurnLock
 use Rattle.turn_lock.proofs.pass.Pass.TheSendSync as Pass

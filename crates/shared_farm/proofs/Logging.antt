@@ -8,11 +8,11 @@ use Rattle.farm_entry.specs.declared.entry.Entry.{Entry}
 use Rattle.farm_store.specs.Bytes.{StandsFor}
 use Rattle.farm_store.specs.Keeping.{KeepsStore}
 use Rattle.farm_store.specs.State.{IsStored, IsWithOrWithout, StoreState}
-use Rattle.fault_types.specs.Counts.{Rose}
-use Rattle.list_prefix.proofs.Prefixes.{IsPrefix-length}
-use Rattle.list_prefix.specs.Prefix.{IsPrefix}
-use Rattle.past_moments.specs.Rows.{AreAmong, IsAmong}
-use Rattle.past_moments.specs.declared.row.Row.{Row}
+use Rattle.common_types.specs.Counts.{Rose}
+use Rattle.common_types.proofs.Prefixes.{IsPrefix-length}
+use Rattle.common_types.specs.Prefix.{IsPrefix}
+use Rattle.common_types.specs.Rows.{AreAmong, IsAmong}
+use Rattle.common_types.specs.declared.row.Row.{Row}
 use Rattle.shared_farm.specs.Logs.{AreLogged, HoldsAll, IsLogged, IsNewest}
 use Rattle.shared_farm.specs.Rests.{IsLeftBetween, Rest, TurnLeaves, rest_of}
 

@@ -19,13 +19,13 @@ use Rattle.farm_store.proofs.Decided.{history_after-legal}
 use Rattle.farm_laws.proofs.Induct.{IsLegal-first}
 use Rattle.farm_entry.specs.Decision.{decide}
 use Rattle.farm_entry.specs.Playing.{after}
-use Rattle.list_prefix.specs.Prefix.{IsPrefix}
-use Rattle.list_prefix.proofs.Prefixes.{IsPrefix-length, IsPrefix-trans}
+use Rattle.common_types.specs.Prefix.{IsPrefix}
+use Rattle.common_types.proofs.Prefixes.{IsPrefix-length, IsPrefix-trans}
 use Rattle.turn_lock.specs.Known.{AccountsFor, Before, IsSettled, Known, known_after}
 use Rattle.turn_lock.specs.Places.{ArePlaces}
 use Rattle.turn_lock.proofs.PlaceLists.{ArePlaces-range_with_len}
 use Rattle.turn_lock.specs.declared.view.Taken.{Taken}
-use Rattle.past_moments.specs.declared.row.Row.{Row}
+use Rattle.common_types.specs.declared.row.Row.{Row}
 use Rattle.shared_farm.specs.Answered.{GoesOn, own_places}
 use Rattle.shared_farm.specs.Errands.{IsErrand, errands_asks}
 use Rattle.shared_farm.specs.Outcomes.{HadTurn}

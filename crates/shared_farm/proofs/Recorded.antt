@@ -24,9 +24,9 @@ use Rattle.farm_store.specs.declared.asking.CallFault.TheVariants.{Refused, Stor
 use Rattle.farm_store.specs.declared.asking.Part.{Part}
 use Rattle.farm_store.specs.declared.asking.TheConstants.{MAX_RECORD_BYTES}
 use Rattle.farm_store.proofs.Sizes.{asks-fit}
-use Rattle.list_prefix.specs.Prefix.{IsPrefix}
-use Rattle.list_prefix.proofs.Prefixes.{IsPrefix-append, IsPrefix-length, IsPrefix-refl, IsPrefix-trans}
-use Rattle.fault_types.specs.Counts.{Rose, last_count}
+use Rattle.common_types.specs.Prefix.{IsPrefix}
+use Rattle.common_types.proofs.Prefixes.{IsPrefix-append, IsPrefix-length, IsPrefix-refl, IsPrefix-trans}
+use Rattle.common_types.specs.Counts.{Rose, last_count}
 use Rattle.turn_lock.specs.Known.{MayRise}
 use Rattle.turn_lock.specs.Places.{ArePlaces}
 use Rattle.turn_lock.proofs.PlaceLists.{ArePlaces-range_with_len}

@@ -3,7 +3,7 @@ use Rattle.std.proofs.Common.{◌≡◌, ◌⊎◌, ◌++◌, ◌∷◌, [], Opt
 use Rattle.farm_disk.specs.declared.disk.Disk as disk
 use Rattle.farm_store.specs.Keeping.{KeepsStore}
 use Rattle.farm_store.specs.State.{StoreState}
-use Rattle.fault_types.specs.Counts.{Rose}
+use Rattle.common_types.specs.Counts.{Rose}
 use Rattle.shared_farm.specs.Rests.{Begun, CameBy, IsByCommands, commanded, rest_of, rested}
 
 -- what came from the beginning came on by one turn more, in which the store was called

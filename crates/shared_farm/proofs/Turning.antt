@@ -14,16 +14,16 @@ use Rattle.farm_store.specs.State.{StoreState}
 use Rattle.farm_entry.specs.declared.answer.Answer.{Answer}
 use Rattle.farm_store.specs.declared.asking.Ask.{Ask}
 use Rattle.farm_store.specs.declared.asking.CallFault.{CallFault}
-use Rattle.list_prefix.specs.Prefix.{IsPrefix}
-use Rattle.list_prefix.proofs.Prefixes.{IsPrefix-length, IsPrefix-trans}
+use Rattle.common_types.specs.Prefix.{IsPrefix}
+use Rattle.common_types.proofs.Prefixes.{IsPrefix-length, IsPrefix-trans}
 use Rattle.turn_lock.specs.Known.{AccountsFor, Before, IsSettled, Known, MayRise, known_after, stake_after}
 use Rattle.turn_lock.specs.Places.{ArePlaces}
 use Rattle.turn_lock.specs.declared.view.Taken.{Taken}
 use Rattle.turn_lock.proofs.PlaceLists.{ArePlaces-append, ArePlaces-widen}
 use Rattle.shared_farm.specs.Answered.{GoesOn, own_places}
-use Rattle.past_moments.proofs.Rows.{AreAmong-behind, AreAmong-refl}
-use Rattle.past_moments.specs.Rows.{AreAmong, IsAmong}
-use Rattle.past_moments.specs.declared.row.Row.{Row}
+use Rattle.common_types.proofs.Rows.{AreAmong-behind, AreAmong-refl}
+use Rattle.common_types.specs.Rows.{AreAmong, IsAmong}
+use Rattle.common_types.specs.declared.row.Row.{Row}
 use Rattle.shared_farm.specs.Errands.{IsErrand}
 use Rattle.shared_farm.specs.Logs.{IsNewest, IsOver, LockedState}
 use Rattle.shared_farm.specs.Turns.{AreOwn, IsTurnBy, KeepsPass, StaysSettled, TurnSays, failed_by}

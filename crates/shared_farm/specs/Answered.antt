@@ -6,7 +6,7 @@ use Rattle.farm_entry.specs.declared.entry.Entry.{Entry}
 use Rattle.farm_store.specs.Sizes.{entries_size}
 use Rattle.farm_store.specs.State.{IsRepaired, StoreState}
 use Rattle.farm_store.specs.declared.asking.TheConstants.{MAX_RECORD_BYTES}
-use Rattle.list_prefix.specs.Prefix.{IsPrefix}
+use Rattle.common_types.specs.Prefix.{IsPrefix}
 use Rattle.turn_lock.specs.Known.{MayRise}
 
 -- the places of the entries that the last call of a store recorded for its asks

@@ -4,8 +4,8 @@ use Rattle.farm_disk.specs.Images.{DiskState, LeavesSince}
 use Rattle.farm_entry.specs.declared.entry.Entry.{Entry}
 use Rattle.farm_store.specs.Bytes.{StandsFor}
 use Rattle.farm_store.specs.State.{StoreState}
-use Rattle.past_moments.specs.Rows.{IsAmong}
-use Rattle.past_moments.specs.declared.row.Row.{Row}
+use Rattle.common_types.specs.Rows.{IsAmong}
+use Rattle.common_types.specs.declared.row.Row.{Row}
 use Rattle.turn_lock.specs.Known.{Known}
 use Rattle.shared_farm.specs.declared.turn_log.TurnLeft.{TurnLeft}
 

@@ -7,8 +7,8 @@ use Rattle.farm_entry.specs.Orders.{carried}
 use Rattle.farm_entry.specs.declared.entry.Entry.{Entry}
 use Rattle.farm_store.specs.Bytes.{StandsFor}
 use Rattle.farm_store.specs.State.{IsStored, IsWithOrWithout, StoreState}
-use Rattle.fault_types.specs.Counts.{Rose}
-use Rattle.list_prefix.specs.Prefix.{IsPrefix}
+use Rattle.common_types.specs.Counts.{Rose}
+use Rattle.common_types.specs.Prefix.{IsPrefix}
 
 -- a store at rest, before a turn or after it: its history, what is pending, what its disk told so far, and how often
 -- the disk has failed

@@ -16,8 +16,8 @@ use Rattle.farm_entry.specs.declared.answer.Answer.{Answer}
 use Rattle.farm_store.specs.declared.asking.Ask.{Ask}
 use Rattle.farm_store.specs.declared.asking.CallFault.{CallFault}
 use Rattle.farm_store.specs.declared.asking.CallFault.TheVariants as fault
-use Rattle.list_prefix.specs.Prefix.{IsPrefix}
-use Rattle.past_moments.specs.Rows.{AreAmong}
+use Rattle.common_types.specs.Prefix.{IsPrefix}
+use Rattle.common_types.specs.Rows.{AreAmong}
 use Rattle.turn_lock.specs.Known.{IsReady, IsSettled, Known, MayRise, stake_after}
 use Rattle.turn_lock.specs.Places.{ArePlaces}
 use Rattle.shared_farm.specs.Answered.{FitRecord, own_places}

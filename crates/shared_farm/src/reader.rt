@@ -2,7 +2,7 @@
 ghost use Rattle.std.specs.Prelude.{◌≡◌, IsSome};
 ghost use Rattle.farm_entry.specs.Legal.{IsLegal};
 ghost use Rattle.farm_entry.specs.Pages.{totals as totals_of};
-ghost use Rattle.list_prefix.specs.Prefix.{IsPrefix, longer};
+ghost use Rattle.common_types.specs.Prefix.{IsPrefix, longer};
 
 use crate::beginning::Beginning;
 use farm_board::{Board, BoardPass};

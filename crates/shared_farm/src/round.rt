@@ -1,7 +1,7 @@
 //! The turns of those whose batches were asked at another caller's turn.
 ghost use Rattle.std.specs.Prelude.{◌≡◌, ◌≤◌, [], false, Some, length, take};
-ghost use Rattle.list_prefix.specs.Prefix.{IsPrefix};
-ghost use Rattle.past_moments.specs.Rows.{IsOlder};
+ghost use Rattle.common_types.specs.Prefix.{IsPrefix};
+ghost use Rattle.common_types.specs.Rows.{IsOlder};
 ghost use Rattle.turn_lock.specs.Known.{AccountsFor, IsReady, IsSettled, known_after};
 ghost use Rattle.turn_lock.specs.Places.{ArePlaces};
 ghost use Rattle.shared_farm.specs.Rounds.{AreHelped, IsShared};

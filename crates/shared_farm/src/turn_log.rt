@@ -2,9 +2,8 @@
 ghost use Rattle.std.specs.Prelude.{◌≡◌, ◌∷◌, []};
 ghost use Rattle.shared_farm.specs.Logs.{row_of};
 
-use past_moments::Past;
+use common_types::{Past, ToldList};
 use std::marker::Model;
-use told_list::ToldList;
 
 /// What is kept of a turn: how many entries the history had after it, and a moment of the disk that was over then.
 #[derive(Drop)]
@@ -21,7 +20,7 @@ pub(crate) struct TurnLog<O: Past> {
 
 impl<O: Past> Model for TurnLog<O> {
     ghost use Rattle.std.specs.Prelude.{List, map};
-    ghost use Rattle.past_moments.specs.declared.row.Row.{Row};
+    ghost use Rattle.common_types.specs.declared.row.Row.{Row};
     ghost use Rattle.shared_farm.specs.Logs.{row_of};
 
     ghost Value = { List Row };

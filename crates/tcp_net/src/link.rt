@@ -1,6 +1,6 @@
 //! The link.
 ghost use Rattle.std.specs.Prelude.{◌≡◌, ◌≢◌, ◌<◌, ◌≤◌, [], None, false, length, refl, IfOk, IfSome};
-ghost use Rattle.fault_types.specs.Counts.{Rose};
+ghost use Rattle.common_types.specs.Counts.{Rose};
 ghost use Rattle.link_io.specs.Notes.{no_output};
 ghost use Rattle.link_io.specs.Took.{IfTook, OnTookFailed, is_end};
 ghost use Rattle.link_io.specs.Put.{IfPut, OnPutFailed};
@@ -11,9 +11,9 @@ use crate::lobby::Lobby;
 use crate::moving::{Left, Unmoved, drain, read_now, write_now};
 use crate::ready::{Side, now_ms, wait_for, wait_for_either};
 use crate::waiting::{Speaker, Stage};
+use common_types::Passed;
 use link_io::{Link, Put, Sink, Source, Took};
 use mio::net::TcpStream;
-use past_moments::Passed;
 use std::net::Shutdown;
 use std::os::fd::{AsRawFd, RawFd};
 use std::rt::Clock;

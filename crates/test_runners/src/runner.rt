@@ -1,6 +1,6 @@
 //! The runner that a worker is told to use.
 ghost use Rattle.std.specs.Prelude.{◌≡◌, ◌≤◌, None};
-ghost use Rattle.fault_types.specs.Counts.{Rose};
+ghost use Rattle.common_types.specs.Counts.{Rose};
 ghost use Rattle.worker_io.specs.Runs.{OnRunFailed};
 ghost use Rattle.test_runners.specs.Runners.{Asks, by_host, by_nothing, by_table, origin_of, ran_by, runner_faults};
 

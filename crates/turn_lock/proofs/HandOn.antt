@@ -8,11 +8,11 @@ use lib.Seq.{set-get_or}
 use Rattle.atomic_table.specs.Table.{State, Me, keeps, step, Allows, Splits, Joins}
 use Rattle.atomic_table.proofs.Lists.{at_set, set_else, set_here, at_longer}
 use Rattle.farm_entry.specs.declared.entry.Entry.{Entry}
-use Rattle.list_prefix.specs.Prefix.{IsPrefix}
-use Rattle.list_prefix.proofs.Prefixes.{IsPrefix-refl}
-use Rattle.past_moments.specs.Rows.{AreAmong, IsOlder}
-use Rattle.past_moments.specs.declared.row.Row.{Row}
-use Rattle.past_moments.proofs.Rows.{AreAmong-append, AreAmong-newest, AreAmong-older}
+use Rattle.common_types.specs.Prefix.{IsPrefix}
+use Rattle.common_types.proofs.Prefixes.{IsPrefix-refl}
+use Rattle.common_types.specs.Rows.{AreAmong, IsOlder}
+use Rattle.common_types.specs.declared.row.Row.{Row}
+use Rattle.common_types.proofs.Rows.{AreAmong-append, AreAmong-newest, AreAmong-older}
 use Rattle.turn_lock.specs.Known.{AccountsFor, IsSettled}
 use Rattle.turn_lock.specs.Places.{ArePlaces}
 use Rattle.turn_lock.specs.Rule.{HasTicket, HasPlace, AreLent, AreOwned, ArePlacesApart, IsSeenBy, IsHome, IsOut, IsKept}

@@ -6,10 +6,10 @@ use native.Mathlib.Decide.{dec_le, ℕ_discrete}
 use lib.ListN.{get_elem?}
 use Rattle.atomic_table.proofs.Lists.{set_else}
 use Rattle.farm_entry.specs.declared.entry.Entry.{Entry}
-use Rattle.list_prefix.specs.Prefix.{IsPrefix}
-use Rattle.list_prefix.proofs.Prefixes.{IsPrefix-trans}
-use Rattle.past_moments.specs.Rows.{AreAmong, IsAmong}
-use Rattle.past_moments.proofs.Rows.{AreAmong-before, AreAmong-behind, AreAmong-refl, IsAmong-AreAmong}
+use Rattle.common_types.specs.Prefix.{IsPrefix}
+use Rattle.common_types.proofs.Prefixes.{IsPrefix-trans}
+use Rattle.common_types.specs.Rows.{AreAmong, IsAmong}
+use Rattle.common_types.proofs.Rows.{AreAmong-before, AreAmong-behind, AreAmong-refl, IsAmong-AreAmong}
 use Rattle.turn_lock.specs.Known.{AccountsFor, IsOwned, all_parts, given, left_by, stake_after}
 use Rattle.turn_lock.specs.Places.{IsOneOf}
 use Rattle.turn_lock.specs.Rule.{AreOwned, AreStakes, HasPlace, Owns, Some_seat, parts_of}

@@ -4,7 +4,7 @@
 //! `specs/` holds the inference's definitions over plain lists of runs: priors, the likelihood of a run, weights,
 //! shares, the bar, floor and load, the budget and the plan. Here stands the exact arithmetic that the belief of a
 //! search is computed with: `budget`, `Powers`, `Sums` and the counter `Steps`. The laws of the definitions stand in
-//! `weight_laws`. It stands on `flake_rate` and `fault_types`.
+//! `leaf_laws`. It stands on `flake_rate` and `common_types`.
 //!
 //! The layer above may cite every definition, takes products from `times` alone, and may cite the lemmas of `proofs/`,
 //! by topic: `FactorNumbers` and `Likelihoods` (the four numbers), `Floors` (floor and load), `SumTo` and `Reweighed`
@@ -20,8 +20,8 @@ mod run_budget;
 mod steps;
 mod sums;
 
+pub use common_types::Memory;
 pub use factors::{Factors, MAX_FACTOR};
-pub use fault_types::Memory;
 pub use limits::{BASIS_POINTS, MAX_CALM, MAX_SUSPECTS, MAX_WEIGHT, MAX_WIDTH};
 pub use powers::{Counts, Powers};
 pub use run::{Run, Verdict};

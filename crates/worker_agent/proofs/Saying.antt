@@ -1,7 +1,7 @@
 -- From the sending of a request to what a step says.
 use Rattle.std.proofs.Common.{◌≡◌, ◌≢◌, ℕ, Bool, List, Option, Some, None, Result, Ok, Err, refl, sym, ap, subst, ◌∙◌}
 use Rattle.std.specs.Prelude.{◌==◌, true, false, if◌then◌else◌, IsErrOf}
-use Rattle.fault_types.specs.declared.memory.Memory as want
+use Rattle.common_types.specs.declared.memory.Memory as want
 use Rattle.farm_types.specs.declared.key.Key.{Key}
 use Rattle.http_exchange.proofs.Sendings.{put-tried}
 use Rattle.http_exchange.specs.Exchanges.{Exchange, IsPut, exchange_events, tell_all}

@@ -1,7 +1,7 @@
 //! A worker between its steps.
 ghost use Rattle.std.specs.Prelude.{◌≡◌, ◌≤◌, true, false, ℕ, List, Option, Some, OnOk, IsErrOf};
 ghost use Rattle.farm_types.specs.declared.key.Key.{Key};
-ghost use Rattle.fault_types.specs.Counts.{Rose};
+ghost use Rattle.common_types.specs.Counts.{Rose};
 ghost use Rattle.link_io.specs.Telling.{add_told};
 ghost use Rattle.net_io.specs.Events.{NetworkEvent};
 ghost use Rattle.worker_core.specs.Core.{IsCore};

@@ -1,6 +1,6 @@
 //! The work of a worker.
 ghost use Rattle.std.specs.Prelude.{◌≡◌, ◌≤◌, IsErrOf};
-ghost use Rattle.fault_types.specs.Counts.{Rose};
+ghost use Rattle.common_types.specs.Counts.{Rose};
 ghost use Rattle.worker_agent.specs.Work.{Works};
 
 use crate::agent::Agent;

@@ -3,8 +3,8 @@
 //! known again. Their contracts say what is told of their answers, and that each failure is counted.
 //!
 //! The crate stands on `farm_types` for names, commits and keys, on `worker_core` for what comes of a test, on
-//! `link_io` for counts and for the calls that are to fail, on `told_list` for what is told without a byte of memory,
-//! and on `rand_chacha` with `rand_core` for keys. The layers above may use
+//! `link_io` for counts and for the calls that are to fail, on `common_types` for what is told without a byte of
+//! memory, and on `rand_chacha` with `rand_core` for keys. The layers above may use
 //! - the traits with their answers;
 //! - `ListRunner` and `ListKeys`, which answer by a list and tell all that they did;
 //! - `RandomKeys`, the trusted edge: no contract says that its keys differ from those of others.

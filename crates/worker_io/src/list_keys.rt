@@ -3,9 +3,9 @@ ghost use Rattle.std.specs.Prelude.{◌≡◌, ◌∷◌, [], Some};
 ghost use Rattle.worker_io.specs.Lists.{next_key, keys_after};
 
 use crate::KeySource;
+use common_types::ToldList;
 use farm_types::Key;
 use std::marker::Model;
-use told_list::ToldList;
 
 /// A source that gives its keys in their order, and then counts on from the last one, or from 1 where it has none.
 /// After the greatest number comes 0. It tells its keys.

@@ -1,15 +1,15 @@
 //! A runner in memory.
 ghost use Rattle.std.specs.Prelude.{◌≡◌, ◌↔◌, ◌⊎◌, ◌∷◌, [], Some};
-ghost use Rattle.fault_types.specs.Counts.{Rose, next_count};
+ghost use Rattle.common_types.specs.Counts.{Rose, next_count};
 ghost use Rattle.link_io.specs.FaultPlan.{fresh_plan, NextFails, plan_after_success, plan_after_fault};
 ghost use Rattle.worker_io.specs.Runs.{asked, IfTested, OnRunFailed};
 
 use crate::{Ran, Runner};
+use common_types::ToldList;
 use farm_types::{CommitId, Name};
 use link_io::FaultPlan;
 use std::marker::Model;
 use std::snapshot::Snapshot;
-use told_list::ToldList;
 use worker_core::Tested;
 
 /// What was asked and answered.

@@ -1,6 +1,6 @@
 //! Who runs tests.
 ghost use Rattle.std.specs.Prelude.{◌≡◌, ◌≤◌, ℕ, List, Option};
-ghost use Rattle.fault_types.specs.Counts.{Rose};
+ghost use Rattle.common_types.specs.Counts.{Rose};
 ghost use Rattle.link_io.specs.Telling.{add_told};
 ghost use Rattle.worker_io.specs.Runs.{Asked, asked, OnRunFailed};
 

@@ -1,11 +1,10 @@
 //! The calls that a disk in memory tells.
 ghost use Rattle.std.specs.Prelude.{◌≡◌, ◌∷◌, [], length};
-ghost use Rattle.past_moments.specs.Moments.{passed_at};
+ghost use Rattle.common_types.specs.Moments.{passed_at};
 
 use crate::Call;
-use past_moments::Passed;
+use common_types::{Passed, ToldList};
 use std::marker::Model;
-use told_list::ToldList;
 
 /// The calls so far, for contracts alone, the newest first.
 #[derive(Drop)]

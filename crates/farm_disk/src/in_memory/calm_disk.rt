@@ -7,7 +7,7 @@ ghost use Rattle.farm_disk.specs.Model.{IsSound};
 use super::call_log::CallLog;
 use super::overwrite::overwrite;
 use crate::{Call, DatedDisk, Did, Disk, Size, Written};
-use past_moments::Passed;
+use common_types::Passed;
 use std::marker::Model;
 use std::snapshot::Snapshot;
 

@@ -1,6 +1,6 @@
 //! Fault injection: which calls of a disk in memory are to fail.
 ghost use Rattle.std.specs.Prelude.{◌≡◌, ◌≤◌, OnSome};
-ghost use Rattle.fault_types.specs.Counts.{Rose};
+ghost use Rattle.common_types.specs.Counts.{Rose};
 ghost use Rattle.farm_disk.specs.DiskFault.{kept_at, kept_next, plan_after};
 
 use std::marker::Model;

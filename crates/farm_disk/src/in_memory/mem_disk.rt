@@ -23,7 +23,7 @@ ghost use Rattle.std.specs.Prelude.{
   slice_index,
   unwrap_or,
 };
-ghost use Rattle.fault_types.specs.Counts.{Rose};
+ghost use Rattle.common_types.specs.Counts.{Rose};
 ghost use Rattle.farm_disk.specs.Images.{moment, sync, write, overwritten, IsImage};
 ghost use Rattle.farm_disk.specs.DiskFault.{kept_next, plan_after};
 ghost use Rattle.farm_disk.specs.Certain.{certain};
@@ -47,7 +47,7 @@ use super::fault_plan::{DiskFail, FaultPlan};
 use super::overwrite::overwrite;
 use super::tracked::Tracked;
 use crate::{Call, DatedDisk, Did, Disk, Memory, Size, Written};
-use past_moments::Passed;
+use common_types::Passed;
 use std::marker::Model;
 use std::snapshot::Snapshot;
 

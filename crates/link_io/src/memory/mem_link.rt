@@ -15,21 +15,20 @@ ghost use Rattle.std.specs.Prelude.{
   min,
   refl,
 };
-ghost use Rattle.fault_types.specs.Counts.{Rose, next_count};
+ghost use Rattle.common_types.specs.Counts.{Rose, next_count};
 ghost use Rattle.link_io.specs.Took.{IfTook, OnTookFailed};
 ghost use Rattle.link_io.specs.Put.{IfPut, OnPutFailed};
 ghost use Rattle.link_io.specs.Pieces.{piece_room};
 ghost use Rattle.link_io.specs.MemLink.{unused_link, afresh};
 ghost use Rattle.link_io.specs.FaultPlan.{NextFails, plan_after_success, plan_after_fault};
-ghost use Rattle.past_moments.specs.Moments.{passed_at};
+ghost use Rattle.common_types.specs.Moments.{passed_at};
 
 use super::fault_plan::FaultPlan;
 use super::mem_input::MemInput;
 use crate::{Link, Put, Sink, Source, Took};
-use past_moments::Passed;
+use common_types::{Passed, ToldList};
 use std::marker::Model;
 use std::snapshot::Snapshot;
-use told_list::ToldList;
 
 /// A note that was taken, for contracts alone: the number of the bytes put by then, and the moment that was over.
 #[derive(Drop)]

@@ -1,6 +1,6 @@
 //! A source in memory.
 ghost use Rattle.std.specs.Prelude.{◌≡◌, ◌<◌, ◌↔◌, ◌++◌, ◌==◌, [], None, Some, false, drop, take, length, min};
-ghost use Rattle.fault_types.specs.Counts.{Rose};
+ghost use Rattle.common_types.specs.Counts.{Rose};
 ghost use Rattle.link_io.specs.Notes.{no_output};
 ghost use Rattle.link_io.specs.Took.{IfTook, OnTookFailed};
 ghost use Rattle.link_io.specs.Pieces.{piece_room};

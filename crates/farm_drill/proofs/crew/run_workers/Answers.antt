@@ -1,6 +1,6 @@
 use Rattle.std.proofs.Common.{◌≡◌, List, ap, subst, ◌∙◌}
 use Rattle.farm_entry.specs.declared.entry.Entry.{Entry}
-use Rattle.list_prefix.specs.Prefix.{IsPrefix}
+use Rattle.common_types.specs.Prefix.{IsPrefix}
 use Rattle.turn_lock.specs.Known.{Known, all_parts, first_stake}
 use Rattle.farm_drill.proofs.Growing.{prefix-trans}
 use Rattle.farm_drill.proofs.Passes.{closed-goes}

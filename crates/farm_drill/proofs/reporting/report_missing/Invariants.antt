@@ -1,5 +1,5 @@
 use Rattle.std.proofs.Common.{◌≡◌, [], true, take, All, None}
-use Rattle.list_prefix.specs.Prefix.{IsPrefix}
+use Rattle.common_types.specs.Prefix.{IsPrefix}
 use Rattle.farm_types.specs.declared.key.Key.{Key}
 use Rattle.farm_entry.specs.History.{all_leases, is_reported, place_of_key}
 use Rattle.farm_entry.specs.Legal.{IsLegal}

@@ -2,7 +2,7 @@ use Rattle.std.proofs.Common.{le_refl, ◌∙◌}
 use Rattle.connection_laws.specs.Moments.{MayCount, MayGive}
 use Rattle.farm_serve.proofs.Counts.{IfSome-map}
 use Rattle.connection_laws.specs.Owners.{holding_of}
-use Rattle.list_prefix.proofs.Prefixes.{IsPrefix-refl}
+use Rattle.common_types.proofs.Prefixes.{IsPrefix-refl}
 use Rattle.farm_serve.proofs.Links.{served_link}
 use Rattle.farm_serve.proofs.Owners.{new-none, serves-lending, serves-parts}
 use Rattle.farm_serve.specs.Entries.{start_of}

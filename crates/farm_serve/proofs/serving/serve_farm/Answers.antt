@@ -2,8 +2,8 @@ use Rattle.std.proofs.Common.{◌⊎◌, ◌≡◌, true, arith, length, List, s
 use Rattle.connection_laws.specs.Marks.{Follows}
 use Rattle.farm_entry.specs.declared.entry.Entry.{Entry}
 use Rattle.farm_http.specs.Callers.{mark_of, noted_by}
-use Rattle.list_prefix.proofs.Prefixes.{IsPrefix-length, IsPrefix-refl, IsPrefix-trans}
-use Rattle.list_prefix.specs.Prefix.{IsPrefix}
+use Rattle.common_types.proofs.Prefixes.{IsPrefix-length, IsPrefix-refl, IsPrefix-trans}
+use Rattle.common_types.specs.Prefix.{IsPrefix}
 use Rattle.turn_lock.proofs.PlaceLists.{ArePlaces-widen}
 use Rattle.farm_serve.proofs.Acknowledged.{noted-acknowledged_by}
 use Rattle.farm_serve.proofs.Owners.{all-owned, same-owned}

@@ -2,7 +2,7 @@ use Rattle.std.proofs.Common.{[], ◌≡◌, ◌≤◌, length, le_refl, rules, 
 use Rattle.connection_laws.specs.Marks.{Follows, Mark, mark_with}
 use Rattle.connection_laws.specs.Moments.{MayGive}
 use Rattle.farm_store.specs.State.{StoreState}
-use Rattle.list_prefix.proofs.Prefixes.{IsPrefix-refl}
+use Rattle.common_types.proofs.Prefixes.{IsPrefix-refl}
 use Rattle.shared_farm.specs.Rests.{CameBy, begun_of}
 use Rattle.farm_serve.proofs.Crashes.{came-first}
 use Rattle.farm_serve.proofs.Served.{comes_to_none}

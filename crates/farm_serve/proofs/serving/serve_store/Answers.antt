@@ -3,7 +3,7 @@ use Rattle.connection_laws.specs.Marks.{Follows, Mark, mark_with}
 use Rattle.connection_laws.specs.Moments.{MayGive}
 use Rattle.farm_entry.specs.declared.entry.Entry.{Entry}
 use Rattle.farm_store.specs.State.{StoreState}
-use Rattle.list_prefix.proofs.Prefixes.{IsPrefix-refl}
+use Rattle.common_types.proofs.Prefixes.{IsPrefix-refl}
 use Rattle.shared_farm.specs.Rests.{CameBy}
 use Rattle.shared_farm.proofs.Recorded.{FitRecord-nothing}
 use Rattle.turn_lock.specs.Known.{Known, first_stake}

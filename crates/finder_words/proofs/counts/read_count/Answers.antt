@@ -1,5 +1,5 @@
 use Rattle.std.proofs.Common.{◌∙◌, ap, arith, sym}
-use Rattle.decimal_text.specs.Decimals.{number}
+use Rattle.common_types.specs.Decimals.{number}
 use Rattle.finder_words.proofs.Ranges.{count-far}
 use Rattle.finder_words.proofs.counts.read_count.Goals as goal
 

@@ -3,7 +3,7 @@ use Rattle.std.proofs.lemmas.Result.{IfOk-weaker}
 use Rattle.std.specs.Option.{option_map}
 use Rattle.finder_words.specs.Words.{nowhere, places_asked}
 use Rattle.finder_words.proofs.Fitting.{words-matched, words-unmatched}
-use Rattle.word_matches.specs.Forms.{words_of}
+use Rattle.finder_words.specs.Forms.{words_of}
 use Rattle.finder_words.proofs.places.find_places.Goals as goal
 
 pub returns-in-Some : goal.returns-in-Some

@@ -1,7 +1,7 @@
 use Rattle.std.proofs.Common.{◌∙◌, ap, sym, Option}
 use Rattle.std.specs.Option.{option_map}
 use Rattle.farm_entry.specs.declared.settings.Settings.{Settings}
-use Rattle.decimal_text.specs.Decimals.{number}
+use Rattle.common_types.specs.Decimals.{number}
 use Rattle.finder_words.specs.Words.{asked_by, found, inherit, zone_named}
 use Rattle.finder_words.specs.declared.subcommand.Subcommand.TheVariants as sub
 use Rattle.finder_words.proofs.Foundings.{settings-no_zone}

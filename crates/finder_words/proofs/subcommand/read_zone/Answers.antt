@@ -1,5 +1,5 @@
 use Rattle.std.proofs.Common.{◌∙◌, ap}
-use Rattle.decimal_text.specs.Decimals.{number}
+use Rattle.common_types.specs.Decimals.{number}
 use Rattle.finder_words.proofs.Foundings.{named-far}
 use Rattle.finder_words.proofs.subcommand.read_zone.Goals as goal
 

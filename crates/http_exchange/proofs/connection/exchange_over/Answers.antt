@@ -1,5 +1,5 @@
 use Rattle.std.proofs.Common.{ℕ, ◌∙◌, subst}
-use Rattle.fault_types.specs.Counts.{Rose}
+use Rattle.common_types.specs.Counts.{Rose}
 use Rattle.link_io.specs.Links.{link_state}
 use Rattle.http_exchange.specs.Exchanges.{IsOutcome}
 use Rattle.http_exchange.proofs.Outcomes.{answered-by, if_answered, on_ok-weaker, over-told}

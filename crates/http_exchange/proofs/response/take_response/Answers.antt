@@ -1,7 +1,7 @@
 use Rattle.std.proofs.Common.{◌≡◌, ◌++◌, Bool, Ok, true, false, slice_range, ◌∙◌, le_trans, subst}
 use Rattle.std.proofs.lemmas.Result.{err_from_is_err_and}
-use Rattle.http_responses.specs.Reading.{IsUnfinished, Says}
-use Rattle.http_responses.specs.declared.progress.ResponseProgress.TheVariants as progress
+use Rattle.http_exchange.specs.Reading.{IsUnfinished, Says}
+use Rattle.http_exchange.specs.declared.progress.ResponseProgress.TheVariants as progress
 use Rattle.http_exchange.specs.Received.{TakesUntil}
 use Rattle.http_exchange.proofs.Held.{comes-fault, comes-never, comes-short, comes-made, comes-whole, held-until, just-until, on_ok}
 use Rattle.http_exchange.proofs.Takes.{known-on}

@@ -5,7 +5,7 @@ use Rattle.std.specs.Option.{option_map}
 use Rattle.std.proofs.lemmas.Iterator.Consumers.{nth_from_yields_List}
 use Rattle.std.proofs.lemmas.Iterator.Splits.{YieldsList-from_str_split}
 use Rattle.http_routes.specs.Routes.{text_at}
-use Rattle.path_table.specs.Segments.{parts}
+use Rattle.http_routes.specs.Segments.{parts}
 use Rattle.http_routes.proofs.numbers.text_at.Goals as goal
 
 -- an item, or the default where there is none

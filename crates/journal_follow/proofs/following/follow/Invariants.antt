@@ -1,6 +1,6 @@
 use Rattle.std.proofs.Common.{◌≡◌, ◌≤◌, ◌-◌, ◌++◌, true}
 use Rattle.farm_disk.specs.Images.{LeavesOnly}
-use Rattle.follow_law.specs.Page.{MayBeHeld}
+use Rattle.journal_follow.specs.Page.{MayBeHeld}
 use Rattle.journal_follow.specs.Shown.{IsKept}
 use Rattle.journal_follow.proofs.Going.{HasGone, ShowsGone}
 use Rattle.journal_follow.proofs.following.follow.Given as goal

@@ -5,7 +5,7 @@ use Rattle.journal_follow.proofs.Holding.{leaves-none, may-front}
 use Rattle.journal_follow.proofs.Takings.{may-bounded}
 use Rattle.std.proofs.lemmas.Bool.{both_ways}
 use Rattle.farm_entry.specs.declared.entry.Entry.{Entry}
-use Rattle.follow_law.specs.Taking.{Takes}
+use Rattle.journal_follow.specs.Taking.{Takes}
 use Rattle.journal_follow.proofs.Rounding.{page-bounded, round-ended, round-taken, round-unasked}
 use Rattle.journal_follow.proofs.following.go_round.Goals as goal
 

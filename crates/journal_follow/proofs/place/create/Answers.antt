@@ -3,7 +3,7 @@ use Rattle.std.proofs.Common.{◌≡◌, ◌≤◌, ◌++◌, length, [], ◌∙
 use Rattle.std.proofs.lemmas.Bool.{false_from_ne_true}
 use Rattle.std.proofs.lemmas.List.{append-nil}
 use Rattle.entry_codec.specs.Spelling.{spelling}
-use Rattle.fault_types.specs.Counts.{last_count}
+use Rattle.common_types.specs.Counts.{last_count}
 use Rattle.farm_disk.specs.Images.{EachImage, LeavesOnly}
 use Rattle.farm_disk.proofs.Moments.{leaves_only-now, leaves_only-rested}
 use Rattle.farm_entry.specs.Legal.{IsLegal}

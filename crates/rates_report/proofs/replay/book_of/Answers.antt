@@ -3,7 +3,7 @@ use Rattle.std.proofs.lemmas.List.{drop_all}
 use Rattle.farm_entry.specs.Legal.{IsLegal}
 use Rattle.farm_entry.specs.declared.entry.Entry.{Entry}
 use Rattle.farm_entry.specs.declared.standing.Standing.TheVariants.{Searching}
-use Rattle.flake_book.specs.Tally.{StandsAfter}
+use Rattle.rates_report.specs.Tally.{StandsAfter}
 use Rattle.rates_report.proofs.Fronts.{drop-next, founding-stands, front-legal}
 use Rattle.rates_report.proofs.replay.book_of.Goals as goal
 

@@ -3,7 +3,7 @@ use Rattle.std.specs.List.{flat_map}
 use Rattle.std.specs.Prelude.{string_bytes}
 use Rattle.std.proofs.lemmas.List.{take_all}
 use Rattle.farm_entry.specs.declared.entry.Entry.{Entry}
-use Rattle.flake_book.specs.Tally.{tests_of}
+use Rattle.rates_report.specs.Tally.{tests_of}
 use Rattle.rates_report.specs.RateLines.{rate_line, rate_line_at}
 use Rattle.rates_report.proofs.Lines.{lines-more}
 use Rattle.rates_report.proofs.text.rates_text.Goals as goal

@@ -1,7 +1,7 @@
 use Rattle.std.proofs.Common.{◌≡◌, take}
 use Rattle.std.specs.Prelude.{string_bytes}
 use Rattle.std.specs.List.{flat_map}
-use Rattle.flake_book.specs.Tally.{tests_of}
+use Rattle.rates_report.specs.Tally.{tests_of}
 use Rattle.rates_report.specs.RateLines.{rate_line}
 use Rattle.rates_report.proofs.text.rates_text.Given as goal
 

@@ -4,8 +4,8 @@ use Rattle.std.proofs.lemmas.List.{take_all}
 use Rattle.farm_entry.specs.declared.entry.Entry.{Entry}
 use Rattle.farm_store.specs.Answering.{BatchSays}
 use Rattle.farm_store.specs.declared.asking.Ask.{Ask}
-use Rattle.past_moments.specs.Rows.{IsOlder}
-use Rattle.past_moments.specs.declared.row.Row.{Row}
+use Rattle.common_types.specs.Rows.{IsOlder}
+use Rattle.common_types.specs.declared.row.Row.{Row}
 use Rattle.turn_lock.specs.Known.{AccountsFor, Known}
 use Rattle.shared_farm.specs.Outcomes.{HadTurn}
 use Rattle.shared_farm.specs.Answered.{own_places}

@@ -7,10 +7,10 @@ use Rattle.farm_store.specs.declared.asking.Ask.{Ask}
 use Rattle.farm_entry.specs.declared.entry.Entry.{Entry}
 use Rattle.farm_store.specs.State.{StoreState}
 use Rattle.farm_store.specs.declared.asking.Part.{Part}
-use Rattle.list_prefix.proofs.Prefixes.{IsPrefix-length, IsPrefix-trans}
-use Rattle.past_moments.proofs.Rows.{IsOlder-refl}
-use Rattle.past_moments.specs.Rows.{IsOlder}
-use Rattle.past_moments.specs.declared.row.Row.{Row}
+use Rattle.common_types.proofs.Prefixes.{IsPrefix-length, IsPrefix-trans}
+use Rattle.common_types.proofs.Rows.{IsOlder-refl}
+use Rattle.common_types.specs.Rows.{IsOlder}
+use Rattle.common_types.specs.declared.row.Row.{Row}
 use Rattle.turn_lock.specs.Known.{AccountsFor, Known, known_after}
 use Rattle.turn_lock.specs.Places.{ArePlaces}
 use Rattle.shared_farm.specs.Rounds.{IsShared}

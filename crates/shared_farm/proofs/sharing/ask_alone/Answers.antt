@@ -1,6 +1,6 @@
 use Rattle.std.proofs.Common.{Bool, List, length, arith, ap, refl, subst, sym, ◌∙◌}
-use Rattle.past_moments.specs.Rows.{IsOlder}
-use Rattle.past_moments.specs.declared.row.Row.{Row}
+use Rattle.common_types.specs.Rows.{IsOlder}
+use Rattle.common_types.specs.declared.row.Row.{Row}
 use Rattle.turn_lock.specs.Known.{Known}
 use Rattle.shared_farm.specs.Answered.{own_places}
 use Rattle.shared_farm.proofs.Accounting.{IsTold, batch-told}

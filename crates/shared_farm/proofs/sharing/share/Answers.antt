@@ -8,11 +8,11 @@ use Rattle.farm_store.specs.Together.{TogetherSays, all_asks}
 use Rattle.farm_store.specs.declared.asking.CallFault.{CallFault}
 use Rattle.farm_store.specs.declared.asking.Ask.{Ask}
 use Rattle.farm_store.specs.declared.asking.Part.{Part}
-use Rattle.past_moments.proofs.Rows.{IsOlder-trans}
-use Rattle.past_moments.specs.Rows.{IsOlder}
-use Rattle.past_moments.specs.declared.row.Row.{Row}
+use Rattle.common_types.proofs.Rows.{IsOlder-trans}
+use Rattle.common_types.specs.Rows.{IsOlder}
+use Rattle.common_types.specs.declared.row.Row.{Row}
 use Rattle.turn_lock.specs.Known.{Known}
-use Rattle.list_prefix.proofs.Prefixes.{IsPrefix-length}
+use Rattle.common_types.proofs.Prefixes.{IsPrefix-length}
 use Rattle.shared_farm.specs.Errands.{errands_asks}
 use Rattle.shared_farm.specs.Logs.{IsOver}
 use Rattle.shared_farm.specs.Outcomes.{HadTurn}

@@ -1,5 +1,5 @@
 use Rattle.std.proofs.Common.{◌≡◌, ◌≤◌, true}
-use Rattle.fault_types.specs.Counts.{Rose}
+use Rattle.common_types.specs.Counts.{Rose}
 use Rattle.worker_agent.proofs.Following.{Went}
 use Rattle.worker_agent.proofs.Measure.{work_left}
 use Rattle.worker_agent.proofs.Saying.{told_of}

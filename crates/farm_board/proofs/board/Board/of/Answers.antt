@@ -1,7 +1,7 @@
 use Rattle.std.proofs.Common.{arith, ap, subst, sym, refl, ◌+◌, List}
 use Rattle.farm_entry.specs.declared.entry.Entry.{Entry}
-use Rattle.list_prefix.specs.Prefix.{IsPrefix}
-use Rattle.list_prefix.proofs.Prefixes.{IsPrefix-nil}
+use Rattle.common_types.specs.Prefix.{IsPrefix}
+use Rattle.common_types.proofs.Prefixes.{IsPrefix-nil}
 use Rattle.farm_board.specs.Row.{number_of}
 use Rattle.farm_board.proofs.Keeps.{starts_empty}
 use Rattle.farm_board.proofs.Stills.{IsLegal-length, IsStill-poster}

@@ -1,6 +1,6 @@
 use Rattle.std.proofs.Common.{arith, ap, subst, sym, true, ◌∙◌, ◌≡◌, ◌+◌, Bool, List}
 use Rattle.farm_entry.specs.declared.entry.Entry.{Entry}
-use Rattle.list_prefix.specs.Prefix.{IsPrefix}
+use Rattle.common_types.specs.Prefix.{IsPrefix}
 use Rattle.farm_board.specs.Reader.{Reader}
 use Rattle.farm_board.specs.Views.{IsStill}
 use Rattle.farm_board.proofs.Stills.{IsStill-poster, longer_by_totals}

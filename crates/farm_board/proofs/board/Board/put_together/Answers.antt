@@ -1,7 +1,7 @@
 use Rattle.std.proofs.Common.{arith, ap, subst, sym, ◌∙◌, ℕ}
 use mathlib.Core.Option.{none}
 use Rattle.atomic_table.specs.Table.{Allows, step}
-use Rattle.list_prefix.specs.Prefix.{longer}
+use Rattle.common_types.specs.Prefix.{longer}
 use Rattle.farm_board.specs.Row.{number_of}
 use Rattle.farm_board.specs.Rule.{IsJoined, IsKept}
 use Rattle.farm_board.specs.Steps.{Tells}

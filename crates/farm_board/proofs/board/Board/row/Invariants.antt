@@ -1,6 +1,6 @@
 use Rattle.std.proofs.Common.{◌≡◌, [], List, length, take}
 use Rattle.farm_entry.specs.declared.entry.Entry.{Entry}
-use Rattle.list_prefix.specs.Prefix.{IsPrefix}
+use Rattle.common_types.specs.Prefix.{IsPrefix}
 use Rattle.farm_board.specs.Rule.{IsPosted}
 use Rattle.farm_board.specs.Views.{reading}
 use Rattle.farm_board.proofs.board.Board.row.Given as goal

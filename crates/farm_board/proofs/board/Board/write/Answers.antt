@@ -6,7 +6,7 @@ use Rattle.farm_entry.specs.declared.entry.Entry.{Entry}
 use Rattle.farm_entry.specs.Legal.{IsLegal}
 use Rattle.farm_entry.specs.Pages.{totals}
 use Rattle.farm_laws.proofs.Bounds.{entries-bounded}
-use Rattle.list_prefix.specs.Prefix.{IsPrefix}
+use Rattle.common_types.specs.Prefix.{IsPrefix}
 use Rattle.farm_board.specs.Row.{number_of, numbers_of, row_of}
 use Rattle.farm_board.specs.Rule.{IsKept, AreOf}
 use Rattle.farm_board.specs.Steps.{Starts, Ends}

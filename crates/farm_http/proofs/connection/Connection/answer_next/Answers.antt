@@ -1,6 +1,6 @@
 use Rattle.std.proofs.Common.{rules, ◌≡◌, ◌∙◌, ◌⊎◌, Bool, true, length, ap, sym, subst, refl, arith}
 use Rattle.connection_laws.specs.Progress.{progress_after, progress_from}
-use Rattle.fault_types.specs.Counts.{Rose}
+use Rattle.common_types.specs.Counts.{Rose}
 use Rattle.link_io.specs.Intake.{Intake}
 use Rattle.link_io.specs.declared.source.TheConstants.{INPUT_LIMIT}
 use Rattle.farm_http.proofs.Noted.{noted-alone}

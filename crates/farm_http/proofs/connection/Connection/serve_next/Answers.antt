@@ -2,13 +2,13 @@ use Rattle.std.proofs.Common.{rules, ◌≡◌, ◌∙◌, ◌<◌, ◌&&◌, �
 use Rattle.std.specs.Io.KnownBytes.{append_known}
 use Rattle.connection_laws.specs.Answers.{interim_of}
 use Rattle.connection_laws.specs.Waiting.{AreWaiting}
-use Rattle.fault_types.specs.Counts.{Rose}
+use Rattle.common_types.specs.Counts.{Rose}
 use Rattle.http_requests.specs.Items.{Items}
 use Rattle.link_io.specs.Intake.{Intake}
 use Rattle.link_io.specs.Links.{link_state}
 use Rattle.link_io.specs.Notes.{Output}
 use Rattle.link_io.specs.declared.source.TheConstants.{INPUT_LIMIT}
-use Rattle.list_prefix.specs.Prefix.{IsPrefix}
+use Rattle.common_types.specs.Prefix.{IsPrefix}
 use Rattle.farm_http.specs.Connection.{work_left}
 use Rattle.farm_http.specs.Faults.{OnPutFault}
 use Rattle.farm_http.specs.Received.{IsTaken, ReceivedState}

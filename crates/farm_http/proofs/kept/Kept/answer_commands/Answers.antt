@@ -1,7 +1,7 @@
 use Rattle.std.proofs.Common.{ℕ, ◌≡◌, ◌∙◌, refl, Bool, List, length, Result, Ok, Err, ap, sym, subst}
 use Rattle.std.proofs.lemmas.Result.{err_from_is_err_and}
 use Rattle.std.specs.Prelude.{slice_range}
-use Rattle.past_moments.proofs.Rows.{AreAmong-refl}
+use Rattle.common_types.proofs.Rows.{AreAmong-refl}
 use Rattle.connection_laws.specs.Answers.{Response}
 use Rattle.connection_laws.specs.Kinds.{commands, kind_by}
 use Rattle.connection_laws.specs.Moments.{GivenBy}

@@ -2,8 +2,8 @@ use Rattle.std.proofs.Common.{rules, ◌≡◌, List, Ok, sym, subst}
 use Rattle.connection_laws.specs.Moments.{GivenBy}
 use Rattle.farm_entry.specs.declared.entry.Entry.{Entry}
 use Rattle.http_words.specs.declared.endpoint.Endpoint.TheVariants as endpoint
-use Rattle.list_prefix.specs.Prefix.{IsPrefix}
-use Rattle.past_moments.proofs.Rows.{AreAmong-refl}
+use Rattle.common_types.specs.Prefix.{IsPrefix}
+use Rattle.common_types.proofs.Rows.{AreAmong-refl}
 use Rattle.farm_http.specs.Fronts.{FrontSays, halves}
 use Rattle.farm_http.specs.Received.{is_complete}
 use Rattle.farm_http.proofs.Handed.{none-answered, one-made, put-handed}

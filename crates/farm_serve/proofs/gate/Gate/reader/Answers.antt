@@ -1,6 +1,6 @@
 use Rattle.std.proofs.Common.{subst}
 use Rattle.atomic_table.specs.Seated.{TableId}
-use Rattle.list_prefix.proofs.Prefixes.{IsPrefix-refl}
+use Rattle.common_types.proofs.Prefixes.{IsPrefix-refl}
 use Rattle.turn_lock.specs.Known.{IsReady}
 use Rattle.farm_serve.proofs.Owners.{staked_same}
 use Rattle.farm_serve.proofs.Steps.{serving_longer, serving_short}

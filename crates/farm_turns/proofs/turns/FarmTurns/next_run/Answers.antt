@@ -2,7 +2,7 @@ use Rattle.std.proofs.Common.{◌≡◌, ℕ, ◌<◌, ◌≤◌, List, length, 
 use Rattle.farm_types.specs.Moment.{moment_ms}
 use Rattle.farm_entry.specs.Due.{next_run}
 use Rattle.farm_entry.specs.declared.entry.Entry.{Entry}
-use Rattle.turn_laws.specs.TurnOrder.{due_in_search, from_on}
+use Rattle.farm_turns.specs.TurnOrder.{due_in_search, from_on}
 use Rattle.farm_turns.specs.Walking.{IsAt}
 use Rattle.farm_turns.specs.declared.turns.FarmTurns.TheInside.{Inside}
 use Rattle.farm_turns.proofs.Walks.{at-end, at-first, at-found, at-next, less-left, low-at, order_in, stands-at}

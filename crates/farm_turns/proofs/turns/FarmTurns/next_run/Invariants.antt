@@ -1,6 +1,6 @@
 use Rattle.std.proofs.Common.{◌++◌, length}
 use Rattle.farm_types.specs.Moment.{moment_ms}
-use Rattle.turn_laws.specs.TurnOrder.{from_on}
+use Rattle.farm_turns.specs.TurnOrder.{from_on}
 use Rattle.farm_turns.specs.Walking.{IsAt}
 use Rattle.farm_turns.proofs.turns.FarmTurns.next_run.Given as goal
 

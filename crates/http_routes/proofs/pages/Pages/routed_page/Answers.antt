@@ -1,6 +1,6 @@
 use Rattle.std.proofs.Common.{refl}
 use Rattle.http_routes.specs.Routes.{page_of, path_table}
-use Rattle.path_table.proofs.Table.{found-row_in}
+use Rattle.http_routes.proofs.Table.{found-row_in}
 use Rattle.http_routes.proofs.pages.Pages.routed_page.Goals as goal
 
 pub returns-in-Ok : goal.returns-in-Ok

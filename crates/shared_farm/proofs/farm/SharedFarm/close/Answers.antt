@@ -1,7 +1,7 @@
 use Rattle.std.proofs.Common.{List, ap, sym, subst, ◌∙◌}
 use Rattle.farm_entry.specs.declared.entry.Entry.{Entry}
 use Rattle.farm_store.specs.State.{StoreState}
-use Rattle.past_moments.specs.Rows.{AreAmong}
+use Rattle.common_types.specs.Rows.{AreAmong}
 use Rattle.turn_lock.specs.Known.{IsOwned, IsSettled}
 use Rattle.shared_farm.specs.Logs.{LockedState}
 use Rattle.shared_farm.proofs.Logging.{logged-among}

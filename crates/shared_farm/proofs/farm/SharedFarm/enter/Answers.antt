@@ -1,7 +1,7 @@
 use Rattle.std.proofs.Common.{Bool, List, ap, subst, sym, ◌∙◌}
 use Rattle.farm_store.specs.Entering.{Enters}
-use Rattle.past_moments.specs.Rows.{IsOlder}
-use Rattle.past_moments.specs.declared.row.Row.{Row}
+use Rattle.common_types.specs.Rows.{IsOlder}
+use Rattle.common_types.specs.declared.row.Row.{Row}
 use Rattle.shared_farm.specs.Answered.{own_places}
 use Rattle.shared_farm.proofs.Accounting.{IsTold, enter-told}
 use Rattle.shared_farm.proofs.Turning.{IsServed, IsServing, served-keeps, served-own, served-turn, serving-givable, taken-found}

@@ -1,12 +1,12 @@
 use Rattle.std.proofs.Common.{List, ap, subst, sym, ◌∙◌, ◌≡◌, ◌+◌, ℕ, Some}
 use Rattle.atomic_table.specs.Seated.{TableId}
 use Rattle.farm_store.specs.State.{StoreState}
-use Rattle.list_prefix.proofs.Prefixes.{IsPrefix-equal}
+use Rattle.common_types.proofs.Prefixes.{IsPrefix-equal}
 use Rattle.turn_lock.specs.Known.{Known}
 use Rattle.turn_lock.specs.declared.view.Taken.{Taken}
-use Rattle.past_moments.proofs.Rows.{IsOlder-refl}
-use Rattle.past_moments.specs.Rows.{IsOlder}
-use Rattle.past_moments.specs.declared.row.Row.{Row}
+use Rattle.common_types.proofs.Rows.{IsOlder-refl}
+use Rattle.common_types.specs.Rows.{IsOlder}
+use Rattle.common_types.specs.declared.row.Row.{Row}
 use Rattle.shared_farm.specs.Turns.{KeepsPass}
 use Rattle.shared_farm.proofs.Accounting.{looked-accounts}
 use Rattle.shared_farm.proofs.Turning.{IsTaken, look-keeps, look-stake, taken-found}

@@ -4,8 +4,8 @@ use Rattle.farm_store.specs.Answering.{as_batch}
 use Rattle.farm_store.specs.State.{StoreState}
 use Rattle.farm_store.specs.declared.asking.Ask.{Ask}
 use Rattle.farm_store.proofs.Sizes.{batch-size}
-use Rattle.fault_types.specs.Counts.{Rose}
-use Rattle.past_moments.specs.declared.row.Row.{Row}
+use Rattle.common_types.specs.Counts.{Rose}
+use Rattle.common_types.specs.declared.row.Row.{Row}
 use Rattle.shared_farm.specs.Answered.{FitRecord, GoesOn}
 use Rattle.shared_farm.specs.Logs.{LockedState}
 use Rattle.shared_farm.proofs.ByCommands.{by-says}

@@ -1,8 +1,8 @@
 use Rattle.std.proofs.Common.{◌≡◌, ◌⊎◌, [], ap, subst, ◌∷◌, length, ◌∙◌}
 use Rattle.std.specs.Prelude.{OnOk}
 use Rattle.farm_store.specs.State.{StoreState}
-use Rattle.fault_types.specs.Counts.{Rose}
-use Rattle.past_moments.specs.declared.row.Row.{Row}
+use Rattle.common_types.specs.Counts.{Rose}
+use Rattle.common_types.specs.declared.row.Row.{Row}
 use Rattle.shared_farm.specs.Answered.{FitRecord, GoesOn}
 use Rattle.shared_farm.specs.Logs.{LockedState}
 use Rattle.shared_farm.proofs.ByCommands.{by-together}

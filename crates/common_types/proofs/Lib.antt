@@ -1,0 +1,4 @@
+pub mod Crossing
+pub mod Rows
+pub mod Prefixes
+pub mod Values

@@ -1,9 +1,0 @@
-pub mod Agreements
-pub mod Fates
-pub mod Histories
-pub mod Inquiries
-pub mod Judged
-pub mod JudgedFates
-pub mod LeftOut
-pub mod Progresses
-pub mod Texts

@@ -1,6 +1,0 @@
-pub mod Names
-pub mod Parts
-pub mod Searches
-pub mod Sets
-pub mod Books
-pub mod Tallies

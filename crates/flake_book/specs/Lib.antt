@@ -1,4 +1,0 @@
-pub mod Tally
-pub mod Noted
-pub mod Listed
-pub mod BookInside

@@ -1,4 +1,0 @@
-pub mod Page
-pub mod Taking
-pub mod World
-pub mod Happenings

@@ -1,5 +1,0 @@
-use Rattle.history_laws.proofs.OnceEach.{keys-once}
-use Rattle.history_laws.proofs.entries.each_key_stands_once.Goals as goal
-
-pub returns : goal.returns
-returns c = keys-once

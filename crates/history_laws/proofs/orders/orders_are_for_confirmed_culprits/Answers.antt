@@ -1,5 +1,0 @@
-use Rattle.history_laws.proofs.Culprits.{order-for_culprit}
-use Rattle.history_laws.proofs.orders.orders_are_for_confirmed_culprits.Goals as goal
-
-pub returns : goal.returns
-returns c = order-for_culprit

@@ -1,5 +1,0 @@
-use Rattle.history_laws.proofs.Leases.{stays-closed}
-use Rattle.history_laws.proofs.outstanding.expired_leases_stay_expired.Goals as goal
-
-pub returns : goal.returns
-returns c = stays-closed

@@ -1,5 +1,0 @@
-use Rattle.history_laws.proofs.NeverAgain.{due-unskipped, never-again}
-use Rattle.history_laws.proofs.outstanding.skipped_positions_are_never_leased_again.Goals as goal
-
-pub returns : goal.returns
-returns c = record { due = due-unskipped; leases = never-again }

@@ -1,5 +1,0 @@
-use Rattle.history_laws.proofs.Adding.{orders-confirmed}
-use Rattle.history_laws.proofs.totals.orders_are_at_most_the_confirmed_searches.Goals as goal
-
-pub returns : goal.returns
-returns c = orders-confirmed

@@ -1,5 +1,0 @@
-use Rattle.http_responses.proofs.Heads.{whole-more, whole-same}
-use Rattle.http_responses.proofs.laws.a_whole_response_stays.Goals as goal
-
-pub returns : goal.returns
-returns c = record { one = whole-same; stays = whole-more }

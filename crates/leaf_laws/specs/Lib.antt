@@ -1,0 +1,12 @@
+pub mod Example
+pub mod Plain
+pub mod Causes
+pub mod Spelled
+pub mod Stands
+pub mod World
+pub mod Workers
+pub mod Happenings
+pub mod Given
+pub mod Judgements
+pub mod Unseen
+pub mod Chain

@@ -1,7 +1,0 @@
--- Moments that are over.
-use Rattle.std.specs.Prelude.{ℕ, length}
-use Rattle.past_moments.specs.declared.passed.Passed.{Passed}
-
--- how many steps of the disk were done
-abbrev pub passed_at : Passed → ℕ
-passed_at passed = length passed.so_far.value

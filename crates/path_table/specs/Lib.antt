@@ -1,4 +1,0 @@
-pub mod Segments
-pub mod Walk
-pub mod Apart
-pub mod Filled

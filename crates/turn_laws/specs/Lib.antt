@@ -1,2 +1,0 @@
-pub mod TurnOrder
-pub mod Turns

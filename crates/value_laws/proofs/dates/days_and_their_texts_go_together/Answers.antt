@@ -1,5 +1,0 @@
-use Rattle.value_laws.proofs.Texts.{one-day, one-text}
-use Rattle.value_laws.proofs.dates.days_and_their_texts_go_together.Goals as goal
-
-pub returns : goal.returns
-returns c = record { one_text = one-text; one_day = one-day }

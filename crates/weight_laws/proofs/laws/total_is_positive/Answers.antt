@@ -1,5 +1,0 @@
-use Rattle.weight_exact.proofs.Shares.{total_positive}
-use Rattle.weight_laws.proofs.laws.total_is_positive.Goals as goal
-
-pub returns : goal.returns
-returns c = total_positive

@@ -1,5 +1,0 @@
-pub mod Cases
-pub mod Commands
-pub mod Named
-pub mod Parsing
-pub mod Plain

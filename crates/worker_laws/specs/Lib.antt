@@ -1,4 +1,0 @@
-pub mod World
-pub mod Workers
-pub mod Happenings
-pub mod Given
