@@ -131,6 +131,11 @@ pub(crate) fn play_faults<H: Threads + Wait + Eprint + Sync>(
     let asked = calm_call("run J", script.as_bytes());
     let whole = play_calm(rt, alloc, asked, &founded.disk)?;
     writeln!(out, "{}: {} bytes", founded.status, founded.disk.len())?;
-    writeln!(out, "{}: {} replies", whole.status, lines_in(&whole.written))?;
+    writeln!(
+        out,
+        "{}: {} replies",
+        whole.status,
+        lines_in(&whole.written)
+    )?;
     play_each(rt, alloc, out, &founded.disk, script, &whole.written)
 }

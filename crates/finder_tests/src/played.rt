@@ -1,12 +1,12 @@
 //! A call of `finder` over an input, an output, links, a runner, keys and a clock in memory, and any disk.
 
 use crate::output::Output;
+use common_types::Passed;
 use farm_disk::{CalmDisk, DatedDisk};
 use farm_types::{MOMENT_MIN_MS, Moment};
 use finder_program::{Status, finder};
 use link_io::{MemClock, MemLink, MemSource};
 use net_io::MemNetwork;
-use past_moments::Passed;
 use std::alloc::{AllocError, Global};
 use std::sync::Wait;
 use std::thread::Threads;

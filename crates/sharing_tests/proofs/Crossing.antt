@@ -2,11 +2,11 @@
 use denote.Param.Send.{IsSend, IsSync, sendable}
 use Rattle.std.proofs.Crossing.{crosses}
 use Rattle.std.specs.contracts.marker.Brand as Brand
-use Rattle.past_moments.specs.contracts.passed.Passed as Passed
-use Rattle.past_moments.specs.contracts.passed.PassedPast.TheImpl as past
+use Rattle.common_types.specs.contracts.passed.Passed as Passed
+use Rattle.common_types.specs.contracts.passed.PassedPast.TheImpl as past
 use Rattle.shared_farm.specs.contracts.farm.SharedFarm as SharedFarm
 use Rattle.shared_farm.specs.contracts.beginning.BrandBeginning.TheImpl as begun
-use Rattle.told_list.proofs.Crossing.{told_list-send}
+use Rattle.common_types.proofs.Crossing.{told_list-send}
 use Rattle.shared_farm.proofs.Crossing.{shared_farm-sync, along}
 use Rattle.sharing_tests.specs.contracts.slow_disk.SlowDisk as SlowDisk
 use Rattle.sharing_tests.specs.contracts.slow_disk.SlowDiskDatedDisk.TheImpl as dated

@@ -2,8 +2,8 @@
 ghost use Rattle.std.specs.Prelude.{true};
 ghost use Rattle.farm_disk.specs.Images.{moment};
 
+use common_types::Passed;
 use farm_disk::{CalmDisk, DatedDisk, Did, Disk, Size, Written};
-use past_moments::Passed;
 use std::thread;
 use std::time::Duration;
 
