@@ -95,7 +95,7 @@ class Peer:
         self.port: int = self.listener.getsockname()[1]
         self.address = f"127.0.0.1:{self.port}"
         self.heard: list[bytes] = []
-        self.faults: list[BaseException] = []
+        self.faults: list[Exception] = []
         self.test = test
         self.thread = threading.Thread(target=self._serve, daemon=True)
         self.thread.start()
@@ -121,7 +121,7 @@ class Peer:
                 self.take(number, link)
             except OSError:
                 pass  # the other end went away
-            except BaseException as fault:  # pylint: disable=broad-except
+            except Exception as fault:  # told when the test ends
                 self.faults.append(fault)
             link.close()
             number += 1

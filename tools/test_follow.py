@@ -212,6 +212,7 @@ class Leaders(FollowCase):
                 self.hold([])
                 self.assertEqual(self.follow(Scripted(self, [page(1, entries)])),
                                  f"the journal differs from the leader's at entry {place}")
+                self.assertEqual(self.held(), 0)  # of a page that isn't taken nothing is stored
 
     def test_a_closed_farm_is_followed_as_any_other(self) -> None:
         self.leader = [*history(FOUNDED, *TWELVE, *SECOND), (AT + 70_000).to_bytes(8, "big") + b"\x09"]
@@ -223,6 +224,7 @@ class Leaders(FollowCase):
         self.hold([])
         self.assertEqual(self.follow(Scripted(self, [page(1, busy)])),
                          "the journal differs from the leader's at entry 14")
+        self.assertEqual(self.held(), 0)
 
     def test_a_farm_that_begins_with_orders_of_one_before_it(self) -> None:
         self.leader = history(FOUNDED + CARRIED, OPEN)
