@@ -7,7 +7,7 @@ use std::alloc::{AllocError, Global};
 use suspect_range::Suspect;
 
 /// The key of a caller's command: the caller in the high half, and the number of the command in the low one.
-pub(crate) fn key(caller: u64, number: u64) -> Key {
+pub(crate) fn key(caller: u32, number: u64) -> Key {
     Key((u128::from(caller) << 64) | u128::from(number))
 }
 
@@ -38,7 +38,7 @@ fn open(alloc: Global, key: Key) -> Result<Command, AllocError> {
 /// The asks of a caller's batch behind so many of its commands: two searches that are opened, and the first again.
 pub(crate) fn batch(
     alloc: Global,
-    caller: u64,
+    caller: u32,
     number: u64,
     at: Moment,
 ) -> Result<Vec<Ask>, AllocError> {
@@ -51,7 +51,7 @@ pub(crate) fn batch(
 }
 
 /// How many entries of a history a caller's commands made, where they stand in the order of these, each once.
-pub(crate) fn entries_of(history: &[Entry], caller: u64) -> Option<u64> {
+pub(crate) fn entries_of(history: &[Entry], caller: u32) -> Option<u64> {
     let mut count: u64 = 0;
     for entry in history {
         let made = match &entry.what {
@@ -59,7 +59,7 @@ pub(crate) fn entries_of(history: &[Entry], caller: u64) -> Option<u64> {
             What::Leased { key, .. } => *key,
             _ => continue,
         };
-        if (made.0 >> 64) as u64 == caller {
+        if made.0 >> 64 == u128::from(caller) {
             count = count.saturating_add(1);
             if made != key(caller, count) {
                 return None;

@@ -30,7 +30,7 @@ fn ask_batch<R: Wait>(
     farm: &Farm,
     pass: &mut Pass,
     at: Moment,
-    caller: u64,
+    caller: u32,
     number: u64,
 ) -> Result<bool, CallFault>
     requires { IsReady farm.now pass.old }
@@ -61,7 +61,7 @@ fn lease<R: Wait>(
     farm: &Farm,
     pass: &mut Pass,
     at: Moment,
-    caller: u64,
+    caller: u32,
     number: u64,
 ) -> Result<bool, CallFault>
     requires { IsReady farm.now pass.old }
@@ -88,7 +88,7 @@ fn ask_all<R: Wait>(
     alloc: Global,
     farm: &Farm,
     pass: Pass,
-    caller: u64,
+    caller: u32,
 ) -> (Pass, bool, u64)
     requires { IsReady farm.now pass }
     ensures { IsReady farm.entry.now result.0 }
@@ -131,7 +131,7 @@ pub(crate) fn ask_by<R: Threads + Wait + Sync>(
     alloc: Global,
     farm: &Farm,
     pass: Pass,
-    callers: u64,
+    callers: u32,
 ) -> (Pass, bool, u64)
     requires { IsReady farm.now pass × (callers < pass.stake.parts) }
     ensures { IsReady farm.entry.now result.0 }

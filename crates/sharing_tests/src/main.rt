@@ -24,12 +24,12 @@ use std::sync::Wait;
 use std::thread::Threads;
 
 /// The bytes of the record of one caller's batch: its length, two opens of 89 bytes, and a gate.
-const ALONE: usize = 183;
+const ALONE: u64 = 183;
 
 /// The number that a text has at this index among its words, and the greatest one where it has none there.
-fn number_at(text: &str, index: usize) -> u64 {
+fn number_at(text: &str, index: usize) -> u32 {
     let word = text.split(' ').nth(index).unwrap_or("");
-    word.parse::<u64>().unwrap_or(u64::MAX)
+    word.parse::<u32>().unwrap_or(u32::MAX)
 }
 
 /// Callers that share a farm on a disk, and what they leave, put behind a line.
@@ -38,7 +38,7 @@ fn share<R: Threads + Wait + Sync>(
     alloc: Global,
     out: &mut String,
     disk: SlowDisk,
-    callers: u64,
+    callers: u32,
 ) -> Result<(), AllocError> {
     let (Ok(settings), Ok(at)) = (Settings::of(60_000, 10, 0), Moment::of(START_MS)) else {
         return out.push_str("no such farm");
@@ -49,10 +49,10 @@ fn share<R: Threads + Wait + Sync>(
     let Ok((farm, pass)) = Farm::of(alloc, store) else {
         return Err(AllocError);
     };
-    let (pass, good, faults) = ask_by(rt, alloc, &farm, pass, callers.min(4));
+    let (pass, good, faults) = ask_by(rt, alloc, &farm, pass, callers);
     let store = farm.close(rt, pass);
     write!(out, "good {good}, faults {faults}, entries")?;
-    for caller in 1..=callers.min(4) {
+    for caller in 1..=callers {
         match entries_of(store.history(), caller) {
             Some(count) => write!(out, " {count}")?,
             None => out.push_str(" none")?,
@@ -77,9 +77,9 @@ fn main(rt: HostRuntime) -> io::Result<()> {
                 let disk = SlowDisk {
                     disk: CalmDisk::of(Vec::new(rt.alloc())),
                     rt,
-                    pause: number_at(rest, 1),
-                    from: number_at(rest, 2),
-                    limit: number_at(rest, 3) as usize,
+                    pause: u64::from(number_at(rest, 1)),
+                    from: u64::from(number_at(rest, 2)),
+                    limit: u64::from(number_at(rest, 3)),
                     syncs: 0,
                     longest: 0,
                     faults: 0,

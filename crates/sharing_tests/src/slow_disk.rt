@@ -18,11 +18,11 @@ pub(crate) struct SlowDisk {
     /// The first sync that may fail, counted from 0.
     pub(crate) from: u64,
     /// The limit.
-    pub(crate) limit: usize,
+    pub(crate) limit: u64,
     /// How often it was synced.
     pub(crate) syncs: u64,
     /// The most bytes of one write.
-    pub(crate) longest: usize,
+    pub(crate) longest: u64,
     /// How often it failed.
     pub(crate) faults: u64,
 }
@@ -47,7 +47,7 @@ impl Disk for SlowDisk {
     }
 
     fn write_at(&mut self, at: u64, bytes: &[u8]) -> Written {
-        self.longest = self.longest.max(bytes.len());
+        self.longest = self.longest.max(bytes.len() as u64);
         self.disk.write_at(at, bytes)
     }
 
