@@ -4,9 +4,10 @@ which bytes it takes for entries, and where it says that a file is damaged.
 
     CULPRIT_FINDER=PROGRAM python3 tools/test_journal.py [CLASS[.TEST]]
 
-`audit` and `show` read entries by code of their own each, so both are asked about each file. An entry that may not stand
-where it does is `illegal` to an audit, and one that is malformed makes its record no record of entries: `broken`. `show`
-says `damaged` in both cases. So each row of a malformed entry has a sound one beside it that may stand in its place.
+`audit` and `show` read entries by code of their own each, so both are asked about each file. An entry that may not
+stand where it does is `illegal` to an audit, and one that is malformed makes its record no record of entries:
+`broken`. `show` says `damaged` in both cases. So the malformed entries have sound ones beside them that may stand in
+their place.
 """
 from __future__ import annotations
 
@@ -249,14 +250,13 @@ class Written(Case):
                               (("86400000", "1000", "east:840"), "05265c0003e80618")]:
             self.assertEqual(self.call("found", "J", *words), (0, "founded"))
             file = self.file.read_bytes().hex()
-            self.assertEqual(file[:42] + file[58:], (b"\x01" + MAGIC + b"2\x01").hex() + "00000011" + "01" + wanted + "00")
+            head = (b"\x01" + MAGIC + b"2\x01" + u(17, 4)).hex()
+            self.assertEqual(file[:42] + file[58:], head + "01" + wanted + "00")
             self.file.unlink()
 
 
 # A title, and an entry.
 Row = tuple[str, bytes]
-
-ONE_TO_FOUR = (1, 1, 1, 1)
 
 # What comes before, the entries that may come then, and malformed ones in their place.
 KINDS: list[tuple[list[bytes], list[Row], list[Row]]] = [

@@ -1,17 +1,17 @@
 //! Plays the cases of standard input over stores, and prints what each call answers. Cases have an empty line between
 //! them. The first line of one says what it shows. The second has a word and what the store is opened over:
 //!
-//! - `disk FILE FAILS`: a disk in memory with these bytes, of which these calls fail (`CALL`, with `+` between, or `-`).
-//!   Behind the answers stands how many records and entries each of four images of a crash then holds: the shortest and
+//! - `disk FILE FAILS`: a disk in memory with these bytes, of which these calls fail (their numbers with `+` between,
+//!   or `-`). Behind the answers stands how many entries each of four images of a crash then holds: the shortest and
 //!   the longest, with bytes of 0 and of 7 wherever any may stand;
 //! - `each N FILE`: the same N times, where the first, second and further calls of the disk fail;
-//! - `dropping READ STORED FAILS`: a file whose system drops what it could not store at a sync that failed: the bytes that
-//!   are read at first, those that are stored, and the syncs that fail. Behind the answers stand the bytes that then are
-//!   stored.
+//! - `dropping READ STORED FAILS`: a file whose system drops what it could not store at a sync that failed: the bytes
+//!   that are read at first, those that are stored, and the syncs that fail. Behind the answers stand the bytes that
+//!   then are stored.
 //!
-//! Each line behind them is a script line. One that begins with `-` begins a call, with `/` is the first of a further
-//! caller, and with `+` goes on with the same caller's batch. The file `stdout` has what is wanted; it was worked out by
-//! hand.
+//! Each line behind them is a script line: behind `-` the first of a call, behind `/` the first of a further caller of
+//! the same call, and behind `+` a further one of the same caller. The file `stdout` has what is wanted; it was worked
+//! out from the format and the order of writes and syncs, by hand.
 #![tactic(auto)]
 
 mod asks;

@@ -11,12 +11,12 @@
 //! - `calls`, where each line that begins with `>` and a space has the words of a call, and the lines behind it are its
 //!   input; they are made one after the other over a disk that is empty at first. It prints how many bytes the disk has
 //!   after each, and the last of them;
-//! - `faults N DIGITS`, where the text has calls as for `calls`, over a disk that has these bytes at first. The last one
-//!   is made once for each of the first N calls of the disk and each number of bytes that goes through in it, where
+//! - `faults N DIGITS`, where the text has calls as for `calls`, over a disk that has these bytes at first. The last
+//!   one is made once for each of the first N calls of the disk and each number of bytes that goes through in it, where
 //!   that call fails. It prints how many lines were put by then, and for four images of a crash at that moment, the
 //!   shortest and the longest with bytes of 0 and of 7 wherever any may stand, how many entries they hold. Over the
-//!   first and the last of them the call is made again; it prints where what it then writes isn't as ever, as where a
-//!   farm is founded that was founded by then;
+//!   first and the last of them the call is made again, and it is said where what it writes isn't as ever, as where
+//!   the image has the farm already that the call founds;
 //! - `statuses`.
 //!
 //! Then it makes the calls of workers whose tables of verdicts lie in the files beside it, of which all but one are
