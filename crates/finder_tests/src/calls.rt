@@ -28,16 +28,18 @@ fn play_next<H: Threads + Wait + Eprint + Sync>(
     Ok(played.disk)
 }
 
-/// Makes the calls of a text, each behind a line feed, `>` and a space, over a disk that is empty at first.
+/// Makes the calls of a text, each behind a line feed, `>` and a space, over a disk with these bytes. Gives the disk's
+/// bytes afterwards.
 pub(crate) fn play_calls<H: Threads + Wait + Eprint + Sync>(
     rt: &H,
     alloc: Global,
     out: &mut String,
     text: &str,
-) -> Result<(), AllocError> {
-    let mut journal = Vec::new(alloc);
+    journal: Vec<u8>,
+) -> Result<Vec<u8>, AllocError> {
+    let mut journal = journal;
     for call in text.strip_prefix("> ").unwrap_or(text).split("\n> ") {
         journal = play_next(rt, alloc, out, call, &journal)?;
     }
-    Ok(())
+    Ok(journal)
 }

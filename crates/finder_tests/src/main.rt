@@ -6,11 +6,12 @@
 //!   input; they are made one after the other over a disk that is empty at first, and over a network that has nobody
 //!   to connect to and ends at the first accept. It prints how many bytes the disk has after each, and the last of
 //!   them;
-//! - `faults`, where the text is a script, which is run over a journal in memory once for each call of the disk and
-//!   each number of bytes that goes through in it, where that call fails. It prints how many replies were put by then,
-//!   and for four images of a crash at that moment, the shortest and the longest with bytes of 0 and of 7 wherever any
-//!   may stand, how many entries they hold. Over the first and the last of them the script is run again: every reply
-//!   has to be as ever;
+//! - `faults N DIGITS`, where the text has calls as for `calls`, over a disk that has these bytes at first. The last
+//!   one is made once for each of the first N calls of the disk and each number of bytes that goes through in it, where
+//!   that call fails. It prints how many lines were put by then, and for four images of a crash at that moment, the
+//!   shortest and the longest with bytes of 0 and of 7 wherever any may stand, how many entries they hold. Over the
+//!   first and the last of them the call is made again, and it is said where what it writes isn't as ever, as where
+//!   the image has the farm already that the call founds;
 //! - `judge`, `run` or `audit`, and behind it `fails SIZE K`, where the input, which is the text, comes in pieces of
 //!   this size and the Kth take fails; or `stops K failed` or `stops K memory`, where the output takes a byte at a time
 //!   and stops at the Kth;
@@ -62,6 +63,14 @@ fn call_of<'a>(name: &'a str, setting: &str, text: &'a str) -> Call<'a> {
     }
 }
 
+/// The bytes of a text of hexadecimal digits; none where it is no such text.
+fn bytes_of(alloc: Global, digits: &str) -> Vec<u8> {
+    match hex::decode(alloc, digits) {
+        Ok(bytes) => bytes,
+        Err(_) => Vec::new(alloc),
+    }
+}
+
 /// Plays a case with this setting, and puts behind a text what it comes to.
 fn play_case<H: Threads + Wait + Eprint + Sync>(
     rt: &H,
@@ -72,8 +81,15 @@ fn play_case<H: Threads + Wait + Eprint + Sync>(
 ) -> Result<(), AllocError> {
     let (name, rest) = setting.split_once(' ').unwrap_or((setting, ""));
     match name {
-        "calls" => play_calls(rt, alloc, out, text),
-        "faults" => play_faults(rt, alloc, out, text),
+        "calls" => {
+            let _bytes = play_calls(rt, alloc, out, text, Vec::new(alloc))?;
+            Ok(())
+        }
+        "faults" => {
+            let (calls, digits) = rest.split_once(' ').unwrap_or((rest, ""));
+            let calls = calls.parse::<u64>().unwrap_or(0);
+            play_faults(rt, alloc, out, calls, bytes_of(alloc, digits), text)
+        }
         _ => {
             let played = play_calm(rt, alloc, call_of(name, rest, text), b"")?;
             writeln!(out, "{}[{}]", played.text(), played.status)

@@ -9,37 +9,13 @@ const PIECE: usize = 7;
 /// A file in memory: what a read of it gives, and what is stored for good.
 #[derive(Drop)]
 pub(crate) struct DroppingFile {
-    read: Vec<u8>,
-    stored: Vec<u8>,
+    pub(crate) read: Vec<u8>,
+    pub(crate) stored: Vec<u8>,
     // What was written and isn't stored: for each write its offset and how many bytes.
-    dirty: Vec<(usize, usize)>,
-    syncs: u64,
+    pub(crate) dirty: Vec<(usize, usize)>,
+    pub(crate) syncs: u64,
     // The syncs that fail, by number.
-    fails: Vec<DiskFail>,
-}
-
-impl DroppingFile {
-    /// A file of which a read gives the first bytes, and only the second ones are stored, with nothing to be stored.
-    pub(crate) fn of(read: Vec<u8>, stored: Vec<u8>, fails: Vec<DiskFail>) -> DroppingFile {
-        let dirty = Vec::new(*read.allocator());
-        DroppingFile {
-            read,
-            stored,
-            dirty,
-            syncs: 0,
-            fails,
-        }
-    }
-
-    /// What is stored.
-    pub(crate) fn stored(&self) -> &[u8] {
-        self.stored.as_slice()
-    }
-
-    // Whether the sync of this number fails.
-    fn fails_at(&self, sync: u64) -> bool {
-        self.fails.iter().any(|fail| fail.call == sync)
-    }
+    pub(crate) fails: Vec<DiskFail>,
 }
 
 /// Puts bytes at an offset, over what is there and past the end.
@@ -92,7 +68,7 @@ impl DiskFile for DroppingFile {
 
     fn sync(&mut self) -> io::Result<()> {
         self.syncs = self.syncs.saturating_add(1);
-        if self.fails_at(self.syncs) {
+        if self.fails.iter().any(|fail| fail.call == self.syncs) {
             self.dirty.clear();
             return Err(io::Error::from(io::ErrorKind::Other));
         }
