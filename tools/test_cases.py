@@ -3,8 +3,8 @@
 
     CULPRIT_FINDER=PROGRAM python3 tools/test_cases.py [CLASS[.TEST]]
 
-A file of cases is a class of tests, and each case a test of it. Cases have an empty line between them. The first line of
-one is `#` and what it shows; further ones with `#` explain. Each other line begins with a word:
+A file of cases is a class of tests, and each case a test of it. Cases have an empty line between them. The first line
+of one is `#` and what it shows; further ones with `#` explain. Each other line begins with a word:
 
     file NAME HEX      the file NAME has these bytes
     $ WORDS            the program is called with these words, in the folder of the case's files
