@@ -6,7 +6,7 @@ use Rattle.std.proofs.lemmas.Option.{none-some}
 use Rattle.active_order.specs.Order.{has}
 use Rattle.active_order.proofs.Lists.{has-rest}
 use Rattle.farm_turns.specs.WhoseTurn.{ComesBefore}
-use Rattle.farm_turns.proofs.Turns.{the_turn}
+use Rattle.farm_turns.proofs.TurnOrder.{the_turn}
 use Rattle.farm_entry.specs.Due.{due, due_at, due_runs, next_run, soonest}
 use Rattle.farm_entry.specs.History.{last_lease, opening_numbered, openings}
 use Rattle.farm_entry.specs.Legal.{IsLegal}

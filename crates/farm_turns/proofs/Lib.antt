@@ -10,4 +10,4 @@ pub mod FromOn
 pub mod NeverLeased
 pub mod NextTurns
 pub mod Parts
-pub mod Turns
+pub mod TurnOrder
