@@ -1,14 +1,12 @@
 -- How a list of entries grows into a legal history, or stops being one.
-use Rattle.std.proofs.Common.{◌≡◌, ◌≢◌, ℕ, ◌+◌, ◌<◌, Bool, IsTrue, false, Decides, List, [], ◌∷◌, ◌++◌, length, get_or, take, drop, Option, Some, inr, sym, ap, subst, ◌∙◌, arith, length-append}
+use Rattle.std.proofs.Common.{◌≡◌, ◌≢◌, ℕ, ◌+◌, ◌<◌, Bool, IsTrue, Decides, List, [], ◌∷◌, ◌++◌, length, get_or, take, drop, Option, Some, inr, sym, ap, subst, ◌∙◌, arith, length-append}
 use Rattle.std.specs.Prelude.{◌↔◌}
 use Rattle.std.proofs.lemmas.List.{take-append-drop}
-use Rattle.farm_entry.specs.Decision.{decide, is_show}
-use Rattle.farm_entry.specs.Legal.{command_of, IsAddedBy, IsLegal, IsNext}
+use Rattle.farm_entry.specs.Decision.{decide}
+use Rattle.farm_entry.specs.Legal.{IsAddedBy, IsLegal, IsNext}
 use Rattle.farm_entry.specs.declared.decision.Decision.TheVariants.{New}
 use Rattle.farm_entry.specs.declared.command.Command.{Command}
 use Rattle.farm_entry.specs.declared.entry.Entry.{Entry}
-use Rattle.farm_entry.specs.declared.entry.What.{What}
-use Rattle.farm_entry.specs.declared.entry.What.TheVariants.{Founded, Opened, Leased, Reported, Skipped, Cancelled, Ordered, Carried, Closed}
 use Rattle.farm_laws.proofs.Induct.{IsLegal-first, IsLegal-push, IsLegal-pushed}
 use Rattle.plain_farm.specs.Stops.{StopsAt}
 use Rattle.plain_history.proofs.Items.{take-at}
@@ -31,18 +29,6 @@ next-tells H e made q o b asked answered decides =
 -- a list with one more at its end isn't empty
 pushed-some : {X : Type 0} (xs : List X) (x : X) → xs ++ x ∷ [] ≢ []
 pushed-some xs x h = let none : length (xs ++ x ∷ []) ≡ 0 = ap length h in absurd (omega (arith, length-append xs (x ∷ []), none))
-
--- the command that an entry names adds one, and shows nothing
-pub named-adds : (w : What) (q : Command) → command_of w ≡ Some q → is_show q ≡ false
-named-adds (Founded settings) q h = grind
-named-adds (Opened o) q h = grind
-named-adds (Leased key worker run search stage position deadline) q h = grind
-named-adds (Reported run verdict fate) q h = grind
-named-adds (Skipped run fate) q h = grind
-named-adds (Cancelled key search) q h = grind
-named-adds (Ordered key agent order commit search day) q h = grind
-named-adds (Carried commit day) q h = grind
-named-adds Closed q h = grind
 
 -- each beginning of a legal history with an entry is legal
 pub beginning : (H : List Entry) (i : ℕ) (e : Entry) → i < length H → e ≡ get_or H i e → IsLegal H → IsLegal (take (i + 1) H)

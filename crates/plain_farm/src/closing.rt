@@ -65,7 +65,15 @@ fn has_order_to_take_by(alloc: Global, history: &[Entry], rows: &[Row]) -> Resul
     Ok(!waiting.is_empty())
 }
 
-/// Whether a farm is busy: a search goes on, or an order is still to be taken. A full farm isn't. By the rows that are kept.
+/// Whether a farm is busy: a search goes on, or an order is still to be taken. A full farm isn't.
+pub fn is_busy(alloc: Global, history: &[Entry]) -> Result<bool, Memory>
+    requires { IsLegal history.now }
+    ensures { IfOk result (λ busy. busy ≡ is_busy history.now) }
+{
+    is_busy_by(alloc, history, &[])
+}
+
+/// The same, by the rows that are kept.
 fn is_busy_by(alloc: Global, history: &[Entry], rows: &[Row]) -> Result<bool, Memory>
     requires legal { IsLegal history.now }
     requires rows { AreRows history.now rows.now }

@@ -1,7 +1,8 @@
 //! The one decision on a command, at a history and a moment.
 
-ghost use Rattle.std.specs.Prelude.{◌≡◌, false, IfOk};
-ghost use Rattle.farm_entry.specs.Decision.{closed_decision, decide, full_decision, is_show, known_decision, own_decision, shape_decision};
+ghost use Rattle.std.specs.Prelude.{◌≡◌, IfOk};
+ghost use Rattle.farm_entry.specs.History.{opening_numbered};
+ghost use Rattle.farm_entry.specs.Decision.{closed_decision, decide, full_decision, known_decision, own_decision, page_decision, runs_decision, shape_decision};
 ghost use Rattle.farm_entry.specs.Legal.{IsLegal};
 ghost use Rattle.plain_farm.specs.Rows.{AreRows};
 
@@ -11,10 +12,13 @@ use crate::decision_new::{
 };
 use crate::due_run::next_run_by;
 use crate::orders::next_order_by;
+use crate::pages::{order_page, page_of, totals};
 use crate::rows::Row;
-use farm_entry::{Command, Decision, Entry, MAX_ENTRIES, Refusal, moment_used};
+use crate::run_page::runs_page;
+use crate::search_lines::search_list;
+use farm_entry::{Command, Decision, Entry, MAX_ENTRIES, Refusal, Reply, moment_used};
 use farm_types::{Memory, Moment};
-use plain_history::{is_closed, lease_of};
+use plain_history::{is_closed, lease_of, opening_numbered};
 use std::alloc::Global;
 
 /// First the shape of an open, which needs no history.
@@ -52,7 +56,40 @@ fn closed_decision(history: &[Entry], command: &Command) -> Option<Decision>
     }
 }
 
-/// Then what each command is for that adds an entry, at the moment used.
+/// The page of a search.
+fn page_decision(alloc: Global, history: &[Entry], search: u32) -> Result<Decision, Memory>
+    requires { IsLegal history.now }
+    ensures { IfOk result (λ found. found ≡ page_decision history.now search (opening_numbered history.now search)) }
+{
+    match opening_numbered(history, search) {
+        None => Ok(Decision::Refuse(Refusal::UnknownSearch(search))),
+        Some(opening) => {
+            let page = page_of(alloc, history, opening)?;
+            Ok(Decision::Show(Reply::Search(page)))
+        }
+    }
+}
+
+/// A page of the runs of a search.
+fn runs_decision(
+    alloc: Global,
+    history: &[Entry],
+    search: u32,
+    from: u32,
+) -> Result<Decision, Memory>
+    ensures { IfOk result (λ found. found
+        ≡ runs_decision history.now search from (opening_numbered history.now search)) }
+{
+    match opening_numbered(history, search) {
+        None => Ok(Decision::Refuse(Refusal::UnknownSearch(search))),
+        Some(opening) => {
+            let page = runs_page(alloc, history, from, opening)?;
+            Ok(Decision::Show(Reply::Runs(page)))
+        }
+    }
+}
+
+/// Then what each command is for, at the moment used.
 fn own_decision(
     alloc: Global,
     history: &[Entry],
@@ -62,7 +99,6 @@ fn own_decision(
 ) -> Result<Decision, Memory>
     requires legal { IsLegal history.now }
     requires rows { AreRows history.now rows.now }
-    requires adds { is_show command.now ≡ false }
     ensures { IfOk result (λ found. found ≡ own_decision history.now command.now at) }
 {
     match command {
@@ -86,16 +122,31 @@ fn own_decision(
             let next = next_order_by(alloc, history, rows, at)?;
             revert_decision(*key, agent, at, next)
         }
-        Command::ShowSearch { .. }
-        | Command::ShowFarm
-        | Command::ShowOrders
-        | Command::ShowRuns { .. }
-        | Command::ShowSearches { .. } => unreachable!(),
+        Command::ShowSearch { search } => page_decision(alloc, history, *search),
+        Command::ShowFarm => Ok(Decision::Show(Reply::Farm(totals(alloc, history)?))),
+        Command::ShowOrders => Ok(Decision::Show(Reply::Orders(order_page(alloc, history)?))),
+        Command::ShowRuns { search, from } => runs_decision(alloc, history, *search, *from),
+        Command::ShowSearches { from } => {
+            let list = search_list(alloc, history, *from)?;
+            Ok(Decision::Show(Reply::Searches(list)))
+        }
     }
 }
 
-/// The decision on a command that an entry may name, at a history and a moment: the first that is there. By the rows
-/// that are kept.
+/// The decision on a command at a history and a moment: the first that is there.
+pub fn decide(
+    alloc: Global,
+    history: &[Entry],
+    command: &Command,
+    at: Moment,
+) -> Result<Decision, Memory>
+    requires { IsLegal history.now }
+    ensures { IfOk result (λ found. found ≡ decide history.now command.now at) }
+{
+    decide_by(alloc, history, &[], command, at)
+}
+
+/// The same, by the rows that are kept.
 pub(crate) fn decide_by(
     alloc: Global,
     history: &[Entry],
@@ -105,7 +156,6 @@ pub(crate) fn decide_by(
 ) -> Result<Decision, Memory>
     requires legal { IsLegal history.now }
     requires rows { AreRows history.now rows.now }
-    requires adds { is_show command.now ≡ false }
     ensures { IfOk result (λ found. found ≡ decide history.now command.now at) }
 {
     if let Some(found) = shape_decision(alloc, command)? {

@@ -30,14 +30,14 @@ use threshold_pick::open_pick_uncounted;
 use weight_exact::Run;
 
 /// Whether a lease is open at a moment: its run has no report, and its deadline lies later.
-fn is_open(history: &[Entry], moment: Moment, lease: LeasedRun) -> bool
+pub fn is_open(history: &[Entry], moment: Moment, lease: LeasedRun) -> bool
     ensures { result ≡ is_open history.now (moment_ms moment) lease }
 {
     moment.ms() < lease.deadline && !is_reported(history, lease.run)
 }
 
 /// The open leases of a search at a stage.
-fn open_leases(
+pub fn open_leases(
     alloc: Global,
     history: &[Entry],
     search: u32,
@@ -54,7 +54,7 @@ fn open_leases(
 }
 
 /// The positions of the open leases, by the numbers of the runs.
-pub(crate) fn outstanding_positions(
+pub fn outstanding_positions(
     alloc: Global,
     history: &[Entry],
     search: u32,
@@ -70,7 +70,7 @@ pub(crate) fn outstanding_positions(
 // The position to run next.
 
 /// The plan of a search that is searching, over the positions that weren't skipped.
-pub(crate) fn plan(alloc: Global, history: &[Entry], opening: &Opening) -> Result<Vec<u16>, Memory>
+pub fn plan(alloc: Global, history: &[Entry], opening: &Opening) -> Result<Vec<u16>, Memory>
     requires legal { IsLegal history.now }
     requires opened { Contains (openings history.now) opening.now }
     requires searching { standing history.now opening.now ≡ Searching }
@@ -170,7 +170,21 @@ fn due_verifying(
 
 // The run that is due.
 
-/// The run of a search that is due at a moment, if one is, by the rows that are kept.
+/// The run of a search that is due at a moment, if one is.
+pub fn due(
+    alloc: Global,
+    history: &[Entry],
+    opening: &Opening,
+    moment: Moment,
+) -> Result<Option<DueRun>, Memory>
+    requires legal { IsLegal history.now }
+    requires opened { Contains (openings history.now) opening.now }
+    ensures { IfOk result (λ run. run ≡ due history.now opening.now (moment_ms moment)) }
+{
+    due_by(alloc, history, &[], opening, moment)
+}
+
+/// The same, by the rows that are kept.
 fn due_by(
     alloc: Global,
     history: &[Entry],
@@ -221,7 +235,15 @@ fn due_in(
     }
 }
 
-/// The due runs of all searches, by the numbers of the searches, by the rows that are kept.
+/// The due runs of all searches, by the numbers of the searches.
+pub fn due_runs(alloc: Global, history: &[Entry], moment: Moment) -> Result<Vec<DueRun>, Memory>
+    requires { IsLegal history.now }
+    ensures { IfOk result (λ found. found.items ≡ due_runs history.now (moment_ms moment)) }
+{
+    due_runs_by(alloc, history, &[], moment)
+}
+
+/// The same, by the rows that are kept.
 fn due_runs_by(
     alloc: Global,
     history: &[Entry],
@@ -269,8 +291,16 @@ fn soonest(history: &[Entry], rows: &[Row], runs: &[DueRun]) -> Option<DueRun>
     }
 }
 
-/// The run that is handed out next, over all searches, by the rows that are kept. A search that was never leased comes
-/// before all others, and of two such searches the smaller number.
+/// The run that is handed out next, over all searches. A search that was never leased comes before all others, and of
+/// two such searches the smaller number.
+pub fn next_run(alloc: Global, history: &[Entry], moment: Moment) -> Result<Option<DueRun>, Memory>
+    requires { IsLegal history.now }
+    ensures { IfOk result (λ run. run ≡ next_run history.now (moment_ms moment)) }
+{
+    next_run_by(alloc, history, &[], moment)
+}
+
+/// The same, by the rows that are kept.
 pub(crate) fn next_run_by(
     alloc: Global,
     history: &[Entry],

@@ -14,7 +14,15 @@ use farm_types::Memory;
 use std::alloc::Global;
 
 /// Whether an entry may come next: it is what the command that it names adds, or no command adds its kind and it may
-/// stand there. By the rows that are kept.
+/// stand there.
+pub fn is_next(alloc: Global, history: &[Entry], entry: &Entry) -> Result<bool, Memory>
+    requires { IsLegal history.now }
+    ensures { IfOk result (λ next. IsTrue next ↔ IsNext history.now entry.now) }
+{
+    is_next_by(alloc, history, &[], entry)
+}
+
+/// The same, by the rows that are kept.
 fn is_next_by(alloc: Global, history: &[Entry], rows: &[Row], entry: &Entry) -> Result<bool, Memory>
     requires legal { IsLegal history.now }
     requires rows { AreRows history.now rows.now }

@@ -22,7 +22,7 @@ use revert_orders::day_of;
 use std::alloc::Global;
 
 /// The day of a moment in the farm's zone, in days since 1970-01-01.
-fn day_in(history: &[Entry], moment: Moment) -> u32
+pub fn day_in(history: &[Entry], moment: Moment) -> u32
     ensures { result ≡ day_in history.now (moment_ms moment) }
 {
     day_of(moment, zone_minutes(history))
@@ -65,7 +65,15 @@ fn confirmed_in(
     }
 }
 
-/// The searches whose culprit is confirmed, by their numbers, by the rows that are kept.
+/// The searches whose culprit is confirmed, by their numbers.
+pub fn confirmed_searches(alloc: Global, history: &[Entry]) -> Result<Vec<Candidate>, Memory>
+    requires { IsLegal history.now }
+    ensures { IfOk result (λ found. found.items ≡ confirmed_searches history.now) }
+{
+    confirmed_by(alloc, history, &[])
+}
+
+/// The same, by the rows that are kept.
 fn confirmed_by(alloc: Global, history: &[Entry], rows: &[Row]) -> Result<Vec<Candidate>, Memory>
     requires legal { IsLegal history.now }
     requires rows { AreRows history.now rows.now }
@@ -155,8 +163,19 @@ pub(crate) fn waiting_by(
     candidates(alloc, &searches, &orders)
 }
 
-/// What the next request for an order comes to at a moment: the next order, or why there is none. By the rows that are
-/// kept.
+/// What the next request for an order comes to at a moment: the next order, or why there is none.
+pub fn next_order_at(
+    alloc: Global,
+    history: &[Entry],
+    moment: Moment,
+) -> Result<Result<Draft, NoOrder>, Memory>
+    requires { IsLegal history.now }
+    ensures { IfOk result (λ next. next ≡ next_order_at history.now (moment_ms moment)) }
+{
+    next_order_by(alloc, history, &[], moment)
+}
+
+/// The same, by the rows that are kept.
 pub(crate) fn next_order_by(
     alloc: Global,
     history: &[Entry],

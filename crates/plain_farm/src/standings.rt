@@ -28,7 +28,7 @@ use weight_exact::Run;
 // What the runs say.
 
 /// What a search believes before any run.
-fn first_belief(alloc: Global, opening: &Opening) -> Result<Belief, Memory>
+pub fn first_belief(alloc: Global, opening: &Opening) -> Result<Belief, Memory>
     requires told { FitsRate opening.now.miss opening.now.rate }
     ensures setup { IfOk result (λ belief. belief.setup ≡ setup_of opening.now) }
     ensures none { IfOk result (λ belief. StandsFor belief []) }
@@ -49,7 +49,7 @@ fn first_belief(alloc: Global, opening: &Opening) -> Result<Belief, Memory>
 }
 
 /// What a search believes after its runs.
-pub(crate) fn belief(alloc: Global, history: &[Entry], opening: &Opening) -> Result<Belief, Memory>
+pub fn belief(alloc: Global, history: &[Entry], opening: &Opening) -> Result<Belief, Memory>
     requires legal { IsLegal history.now }
     requires opened { Contains (openings history.now) opening.now }
     ensures setup { IfOk result (λ belief. belief.setup ≡ setup_of opening.now) }
@@ -93,7 +93,7 @@ fn tell(belief: &mut Belief, told: &[Run])
 // What was skipped.
 
 /// The positions of a search whose trees can't be tested, in the order in which that was said.
-pub(crate) fn skips(alloc: Global, history: &[Entry], opening: &Opening) -> Result<Skips, Memory>
+pub fn skips(alloc: Global, history: &[Entry], opening: &Opening) -> Result<Skips, Memory>
     requires legal { IsLegal history.now }
     requires opened { Contains (openings history.now) opening.now }
     ensures { IfOk result (λ skips. skips ≡ skipped history.now opening.now.search) }
@@ -246,11 +246,7 @@ pub(crate) fn standing_of_reached(
 
 /// Where a search stands, by the first case that fits: it was cancelled, it went over its budget, or what its belief
 /// says.
-pub(crate) fn standing(
-    alloc: Global,
-    history: &[Entry],
-    opening: &Opening,
-) -> Result<Standing, Memory>
+pub fn standing(alloc: Global, history: &[Entry], opening: &Opening) -> Result<Standing, Memory>
     requires legal { IsLegal history.now }
     requires opened { Contains (openings history.now) opening.now }
     ensures { IfOk result (λ found. found ≡ standing history.now opening.now) }

@@ -1,7 +1,7 @@
 use Rattle.std.proofs.Common.{Bool, Decides, ◌≡◌, sym, subst, ◌∙◌}
 use Rattle.farm_entry.specs.Legal.{command_of}
 use Rattle.farm_laws.proofs.SameEntries.{same_entry-Decides}
-use Rattle.plain_farm.proofs.Growth.{named-adds, next-tells}
+use Rattle.plain_farm.proofs.Growth.{next-tells}
 use Rattle.plain_farm.proofs.legal.is_next_by.Goals as goal
 
 pub returns-in-New : goal.returns-in-New
@@ -11,7 +11,3 @@ returns-in-New c =
     next-tells c.args.history.now e made c.in-Some.command (command_of e.what) c.eq.result
     (sym c.in_ok-command.ensures ∙ c.in-Some.is) (sym c.in_ok-made.ensures ∙ c.in-New.is)
     (subst (λ (b : Bool). Decides b (made ≡ e)) (sym c.eq.ensures) (same_entry-Decides made e))
-
-pub decide_by-requires-clause-adds : goal.decide_by-requires-clause-adds
-decide_by-requires-clause-adds c =
-    named-adds c.args.entry.now.what c.in-Some.command (sym c.in_ok-command.ensures ∙ c.in-Some.is)
