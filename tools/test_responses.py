@@ -46,7 +46,7 @@ class Peer:
     connection stays open behind them."""
 
     def __init__(self, answers: Callable[[str], tuple[list[bytes], bool]]) -> None:
-        self.address = own_address(1)
+        self.address = own_address()
         host, port = self.address.split(":")
         self.answers, self.asked, self.faults = answers, [], []
         self.listener = socket.create_server((host, int(port)))
