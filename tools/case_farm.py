@@ -1,6 +1,7 @@
 """What the tests of explain and watch share: farms of their own making in journals, served or not, and tools called."""
 from __future__ import annotations
 
+import atexit
 import contextlib
 import functools
 import importlib.machinery
@@ -26,7 +27,6 @@ ENV = {**os.environ, "CULPRIT_FINDER": PROGRAM, "PYTHONWARNINGS": "error", "TERM
 PATIENCE = 120.0  # seconds that something may take which takes well below one: the machine may be slow, and loaded
 
 os.environ["CULPRIT_FINDER"] = PROGRAM
-HELD: list[socket.socket] = []  # sockets of ports that this process has to its end
 Reply = dict[str, Any]
 Verdict = Callable[[Reply], Optional[str]]
 
@@ -47,7 +47,7 @@ def own_port() -> int:
     held = socket.socket()
     held.setsockopt(socket.SOL_SOCKET, socket.SO_REUSEADDR, 1)
     held.bind(("127.0.0.1", 0))
-    HELD.append(held)
+    atexit.register(held.close)
     return held.getsockname()[1]
 
 
