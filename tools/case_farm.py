@@ -1,6 +1,7 @@
 """What the tests of explain and watch share: farms of their own making in journals, served or not, and tools called."""
 from __future__ import annotations
 
+import atexit
 import contextlib
 import functools
 import importlib.machinery
@@ -38,6 +39,16 @@ def main_of(tool: str) -> Callable[[Sequence[str]], int]:
     module.__dict__["__file__"] = loader.path
     loader.exec_module(module)
     return module.main
+
+
+def own_port() -> int:
+    """A port on 127.0.0.1 for servers of this process's tests. A socket that never listens has it to the end, so that
+    no other process that asks for any port gets it, also while no server has begun, or one is started again."""
+    held = socket.socket()
+    held.setsockopt(socket.SOL_SOCKET, socket.SO_REUSEADDR, 1)
+    held.bind(("127.0.0.1", 0))
+    atexit.register(held.close)
+    return held.getsockname()[1]
 
 
 def commit(number: int) -> str:
@@ -117,14 +128,10 @@ class Service:
             except OSError:
                 assert time.monotonic() < limit, "the service doesn't answer"
                 time.sleep(0.02)
-                if self.process.poll() is not None:  # another process took the port meanwhile
-                    self._start(port)
+                assert self.process.poll() is None, "the service ended"
 
     def _start(self, port: int) -> None:
-        if not port:
-            with socket.socket() as taken:
-                taken.bind(("127.0.0.1", 0))
-                port = taken.getsockname()[1]
+        port = port or own_port()
         self.port, self.url = port, f"http://127.0.0.1:{port}"
         self.process = subprocess.Popen([PROGRAM, "serve", self.journal, f"127.0.0.1:{port}", "2", "1000000"],
                                         stdout=subprocess.DEVNULL, stderr=subprocess.DEVNULL)

@@ -1,6 +1,7 @@
 """What the tests of connections share: the program serving a journal, connections to it, and answers byte for byte."""
 from __future__ import annotations
 
+import functools
 import os
 import pathlib
 import re
@@ -13,12 +14,13 @@ import time
 import unittest
 from typing import Any, Optional
 
+from case_farm import own_port
+
 TOOLS = pathlib.Path(__file__).resolve().parent
 PROGRAM = os.environ.get("CULPRIT_FINDER") or str(TOOLS.parent / "finder")
 PATIENCE = 120.0  # seconds that something may take which takes well below one: the machine may be slow, and loaded
 MEMORY = next((it for it in ["/dev/shm"] if os.access(it, os.W_OK)), None)  # a folder whose syncs take no time
 MOMENT = 0.005  # seconds for which nothing may come where nothing is due
-PORT = 8080
 
 # The texts of the statuses, by RFC 9110 and, for 429, RFC 6585.
 PHRASES = {
@@ -29,10 +31,10 @@ PHRASES = {
 INTERIM = b"HTTP/1.1 100 Continue\r\n\r\n"
 
 
-def own_address(number: int = 1) -> str:
-    """An address on loopback that no other process of the tests has."""
-    process = os.getpid()
-    return f"127.{process // 62500 % 250 + 1}.{process // 250 % 250 + 1}.{process % 250 + 1}:{PORT + number}"
+@functools.lru_cache(None)
+def own_address() -> str:
+    """An address on loopback that no other process has."""
+    return f"127.0.0.1:{own_port()}"
 
 
 def spelled(text: str) -> bytes:

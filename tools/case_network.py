@@ -165,9 +165,9 @@ class Proxy(Peer):
     `.` the request is answered; `s` it is, a byte at a time; `i` it is, behind an interim answer; `a` the service takes
     it, and its answer is lost; `h` half of the answer comes; `H` the same, and the connection fails; `f` the service
     takes it, and the connection fails; `k` the service takes it, and is killed and started again; `r` the request is
-    lost; `x` the connection fails at once; `g` another answers, and not in HTTP; `5` memory ran out, says an answer, and
-    `3` that the disk failed; `4` an answer that workers aren't given; `d` the request comes late, before
-    the next one that is taken; `t` it comes twice; `c` what `ends` does is done, and then it is answered.
+    lost; `x` the connection fails at once; `g` another answers, and not in HTTP; `5` memory ran out, says an answer,
+    and `3` that the disk failed; `4` an answer that workers aren't given; `d` the request comes late, before the next
+    one that is taken; `t` it comes twice; `c` what `ends` does is done, and then it is answered.
     """
 
     def __init__(self, test: unittest.TestCase, farm: "Served", plan: str = ".",

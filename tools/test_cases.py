@@ -116,7 +116,7 @@ def hold_bytes(test: unittest.TestCase, file: pathlib.Path, word: str, wanted: s
 
 def cases_of(file: pathlib.Path) -> list[Case]:
     """The cases of a file."""
-    texts = [it.strip("\n") for it in re.split(r"\n\n+", file.read_text())]
+    texts = [it.strip("\n") for it in re.split(r"\n\n+", file.read_text("utf-8"))]
     return [Case(it.split("\n")) for it in texts if it]
 
 

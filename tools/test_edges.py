@@ -15,9 +15,9 @@ import socket
 import subprocess
 import time
 import unittest
-from typing import IO, Any, Optional, Union
+from typing import IO, Any, Union
 
-from case_farm import PATIENCE, PROGRAM, Case, Reply, commit
+from case_farm import PATIENCE, PROGRAM, Case, Reply, commit, own_port
 
 DAY = 86_400_000
 FARM = ('{"confirmed":0,"counted":0,"ended":0,"entries":%d,"orders":0,"reply":"farm","searches":0,"searching":0,'
@@ -153,29 +153,23 @@ class Quiet(Case):
 
     def begin_service(self, links: int) -> "tuple[subprocess.Popen[str], int]":
         """The service of the journal by one handler, with how many links it accepts, and its port."""
-        while True:
-            with socket.socket() as taken:
-                taken.bind(("127.0.0.1", 0))
-                port = taken.getsockname()[1]
-            service = subprocess.Popen([PROGRAM, "serve", self.journal, f"127.0.0.1:{port}", "1", str(links)],
-                                       stdout=subprocess.PIPE, stderr=subprocess.PIPE, text=True)
-            self.addCleanup(self.end, service)
-            first = self.connected(port, service)
-            if first:
-                first.close()  # without a byte: the first link
-                return service, port
+        port = own_port()
+        service = subprocess.Popen([PROGRAM, "serve", self.journal, f"127.0.0.1:{port}", "1", str(links)],
+                                   stdout=subprocess.PIPE, stderr=subprocess.PIPE, text=True)
+        self.addCleanup(self.end, service)
+        self.connected(port, service).close()  # without a byte: the first link
+        return service, port
 
     @staticmethod
-    def connected(port: int, service: "subprocess.Popen[str]") -> Optional[socket.socket]:
-        """A connection to the service, once it listens, and none where it found its port taken."""
+    def connected(port: int, service: "subprocess.Popen[str]") -> socket.socket:
+        """A connection to the service, once it listens."""
         limit = time.monotonic() + PATIENCE
-        while service.poll() is None:
+        while True:
             try:
                 return socket.create_connection(("127.0.0.1", port), PATIENCE)
             except ConnectionRefusedError:
-                assert time.monotonic() < limit, "the service doesn't listen"
+                assert time.monotonic() < limit and service.poll() is None, "the service doesn't listen"
                 time.sleep(0.02)
-        return None
 
     @staticmethod
     def page(link: socket.socket) -> bytes:

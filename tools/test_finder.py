@@ -13,7 +13,6 @@ import os
 import pathlib
 import re
 import shutil
-import socket
 import subprocess
 import sys
 import tempfile
@@ -21,6 +20,8 @@ import time
 import unittest
 import urllib.error
 import urllib.request
+
+from case_farm import own_port
 
 ROOT = pathlib.Path(__file__).resolve().parent.parent
 TOOLS = """awk bash cat chmod cmp cp cut date dirname env find getconf git grep gzip head install mkdir mktemp mv
@@ -58,12 +59,6 @@ def program():
 def script(path, text):
     path.write_text(text)
     path.chmod(0o755)
-
-
-def free_port():
-    with socket.socket() as it:
-        it.bind(("127.0.0.1", 0))
-        return it.getsockname()[1]
 
 
 class Tree(unittest.TestCase):
@@ -146,7 +141,7 @@ class Released(Tree):
 
     def test_it_serves_and_the_launcher_is_the_service(self):
         self.release()
-        journal, address = self.folder / "farm.journal", f"127.0.0.1:{free_port()}"
+        journal, address = self.folder / "farm.journal", f"127.0.0.1:{own_port()}"
         self.assertEqual(self.finder("found", journal, "60000", "10", "east:0").stdout, "founded\n")
         words = [self.top / "finder", "serve", journal, address, "2", "1000000000"]
         with subprocess.Popen(words, env={"PATH": str(self.bin)}) as service:

@@ -27,8 +27,8 @@ import time
 import unittest
 from typing import Callable
 
-from case_http import (INTERIM, PROGRAM, TOOLS, Case, Connection, Service, answer, audit, call, new_journal, records,
-                       request, spelled)
+from case_http import (INTERIM, PATIENCE, PROGRAM, TOOLS, Case, Connection, Service, answer, audit, call, new_journal,
+                       records, request, spelled)
 
 FOUNDED = "010000ea60000a02d0"  # of a founding, behind its moment: leases of 60 s, 10 orders a day, days of UTC
 ORDERS = '{"orders":[],"reply":"orders"}'
@@ -55,7 +55,7 @@ def get(target: str) -> bytes:
 def tables() -> dict[str, list[Row]]:
     """The tables of the file, by their titles."""
     found: dict[str, list[Row]] = {}
-    for text in (TOOLS / "cases_http" / "requests.txt").read_text().split("\n\n")[1:]:
+    for text in (TOOLS / "cases_http" / "requests.txt").read_text("utf-8").split("\n\n")[1:]:
         title, *rows = text.strip("\n").split("\n")
         found[title[2:]] = [(it.split(" => ")[0], it.split(" => ")[1:]) for it in rows]
     return found
@@ -446,7 +446,7 @@ class Served(Case):
     def test_an_address_that_is_taken_is_a_fault_of_the_network(self) -> None:
         with socket.create_server(("127.0.0.1", 0)) as taken:
             words = [PROGRAM, "serve", self.journal, f"127.0.0.1:{taken.getsockname()[1]}", "4", "9"]
-            ran = subprocess.run(words, capture_output=True, check=False)
+            ran = subprocess.run(words, capture_output=True, timeout=PATIENCE, check=False)
         self.assertEqual((ran.returncode, ran.stdout.decode(), ran.stderr),
                          (9, totals("farm", 1) + "\n", b"the network failed\n"))
 
@@ -454,7 +454,7 @@ class Served(Case):
         with open("/dev/full", "wb") as full:
             service = self.serve(4, 1, stdout=full)
             self.assertEqual(self.ask(service, 2)[1], 1)
-            service.process.wait()
+            service.process.wait(PATIENCE)
         assert service.process.stderr
         self.assertEqual((service.process.returncode, service.process.stderr.read()),
                          (4, b"the output could not be written\n"))

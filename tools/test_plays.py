@@ -23,7 +23,7 @@ import case_model
 from case_model import DAY_MS, Farm, Line, Reply
 
 PROGRAM = os.environ.get("CULPRIT_FINDER") or str(pathlib.Path(__file__).resolve().parent.parent / "finder")
-PATIENCE = 120.0  # seconds that a call may take which takes a few: the machine may be slow, and loaded
+PATIENCE = 600.0  # seconds that a call may take which takes a few: the machine may be slow, and loaded
 START = 100_000_000
 BASE = "c8" * 20
 

@@ -46,7 +46,7 @@ class Peer:
     connection stays open behind them."""
 
     def __init__(self, answers: Callable[[str], tuple[list[bytes], bool]]) -> None:
-        self.address = own_address(1)
+        self.address = own_address()
         host, port = self.address.split(":")
         self.answers, self.asked, self.faults = answers, [], []
         self.listener = socket.create_server((host, int(port)))
@@ -182,7 +182,7 @@ def test_of(rows: list[str]) -> Callable[[Responses], None]:
     return test
 
 
-for place, table in enumerate((TOOLS / "cases_http" / "responses.txt").read_text().split("\n\n")[1:], 1):
+for place, table in enumerate((TOOLS / "cases_http" / "responses.txt").read_text("utf-8").split("\n\n")[1:], 1):
     title, *told = table.strip("\n").split("\n")
     setattr(Responses, f"test_{place:02}_{'_'.join(re.findall(r'[a-z0-9]+', title.lower()))}"[:110], test_of(told))
 

@@ -354,7 +354,7 @@ class Many(unittest.TestCase):
             lines = [f'{{"at":{DAY + LEASE * number},"do":"lease","key":"{step * number:032x}","worker":"w"}}\n'
                      for number in range(KEYS)]
             ran = subprocess.run([PROGRAM, "run"], input="".join([asked + "\n", *lines, *lines[:1_000]]), text=True,
-                                 stdout=subprocess.PIPE, timeout=PATIENCE, check=False)
+                                 stdout=subprocess.PIPE, timeout=5 * PATIENCE, check=False)
             self.assertTrue(ran.stdout.splitlines() == replies + replies[1:1_001], f"multiples of {step}")
 
 

@@ -15,7 +15,7 @@ import threading
 import unittest
 from typing import Any, Callable, Iterator, Optional
 
-from case_farm import PATIENCE, PROGRAM, Case, Reply, Service, commit
+from case_farm import PATIENCE, PROGRAM, Case, Reply, Service, commit, own_port
 
 CALLERS = 6
 ROUNDS = 12
@@ -27,9 +27,7 @@ class Shared(Service):
     """The program serving a journal by four handlers."""
 
     def _start(self, port: int) -> None:
-        with socket.socket() as taken:
-            taken.bind(("127.0.0.1", port))
-            self.port = taken.getsockname()[1]
+        self.port = port or own_port()
         self.url = f"http://127.0.0.1:{self.port}"
         self.process = subprocess.Popen([PROGRAM, "serve", self.journal, f"127.0.0.1:{self.port}", "4", "1000000"],
                                         stdout=subprocess.DEVNULL, stderr=subprocess.DEVNULL)

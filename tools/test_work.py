@@ -18,7 +18,7 @@ from typing import Any, Callable, Optional, Sequence
 
 from case_farm import PATIENCE, Case, Reply, commit
 from case_network import (NOWHERE, Answer, Peer, Proxy, Scripted, Served, Told, came_to, http, line_of, reports_of,
-                          suspects_of)
+                          request_of, suspects_of)
 
 KEY = "00000000-0000-0000-0000-000000ffff01"
 ONE = {"key": KEY, "test": "t", "base": commit(0), "suspects": suspects_of(1, 1_000), "calm": 1, "rate": [1, 10],
@@ -159,7 +159,7 @@ class Networks(WorkCase):
 
     def soak(self, farm: Served, network: Proxy, names: Sequence[str], runs: int, runner: str) -> None:
         """Workers take turns until in one round none has a run to make, and the search is confirmed."""
-        limit = time.monotonic() + PATIENCE
+        limit = time.monotonic() + 5 * PATIENCE
         while True:
             ends = {self.work(network, runs, runner, it) for it in names}
             if ends == {"leased 0 reported 0 idle"} and farm.ask("/v1/searches/1")["standing"] == "confirmed":
@@ -354,7 +354,7 @@ class Services(WorkCase):
             port.listen()
             link, _ = port.accept()
             with link:
-                self.assertIn(b"/v1/leases", link.recv(10_000))
+                self.assertIn(b"/v1/leases", request_of(link))
                 link.sendall(NO_RUN)
             worker.join(PATIENCE)
         self.assertEqual(came, ["leased 0 reported 0 idle"])
@@ -412,7 +412,7 @@ class Host(Peer):
     reads = staticmethod(line_of)
 
     def __init__(self, test: WorkCase, say: Callable[[bytes], Answer], stays: float = 0.0) -> None:
-        self.say, self.stays, self.empty = say, stays, 0
+        self.say, self.stays, self.empty, self.left = say, stays, 0, threading.Event()
         super().__init__(test)
 
     def answer(self, number: int, asked: bytes) -> Answer:
@@ -422,6 +422,7 @@ class Host(Peer):
         asked = line_of(link)
         if not asked:
             self.empty += 1
+            self.left.set()
             return
         self.heard.append(asked)
         answer = self.answer(number, asked)
@@ -482,6 +483,7 @@ class Hosts(WorkCase):
         host = Host(self, lambda _: Answer(b"pass\n"))
         service = Scripted(self, [NO_RUN])
         self.assertEqual(self.work(service, 1, f"host:{host.address}"), "leased 0 reported 0 idle")
+        self.assertTrue(host.left.wait(PATIENCE), "it wasn't called")  # a connection may wait to be accepted still
         host.end()
         self.assertEqual((host.heard, host.empty), ([], 1))
 
