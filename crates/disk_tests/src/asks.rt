@@ -6,9 +6,11 @@ ghost use Rattle.farm_store.specs.Together.{all_asks};
 ghost use Rattle.farm_store.specs.declared.asking.TheConstants.{MAX_RECORD_BYTES};
 
 use farm_disk::Disk;
+use farm_entry::{Answer, Reply};
 use farm_store::{Answers, Ask, MAX_BATCH, MAX_RECORD_BYTES, Part, Store, most_bytes};
 use farm_wire::line_of;
 use std::alloc::{AllocError, Global};
+use weight_exact::Verdict;
 
 /// Whether callers may share a record: they ask something, and no more than fits one.
 fn may_share(parts: &[Part]) -> bool
@@ -48,6 +50,50 @@ fn parts_of(alloc: Global, text: &str) -> Result<Vec<Part>, AllocError> {
     Ok(parts)
 }
 
+/// Puts an answer behind a line: of a report which run it was of, its verdict, and whether it counts; of the farm how
+/// many entries and counted reports it has.
+fn put_answer(out: &mut String, answer: &Answer) -> Result<(), AllocError> {
+    match answer {
+        Answer::Done(
+            Reply::Reported {
+                run,
+                verdict,
+                fate,
+                ..
+            },
+        ) => {
+            let verdict = if *verdict == Verdict::Pass {
+                "pass"
+            } else {
+                "fail"
+            };
+            let counts = if fate.is_counted() {
+                "counted"
+            } else {
+                "not counted"
+            };
+            write!(out, "run {run} {verdict} {counts}, ")
+        }
+        Answer::Done(Reply::Farm(totals)) => {
+            write!(
+                out,
+                "farm {} with {} counted, ",
+                totals.entries, totals.counted
+            )
+        }
+        Answer::Done(_) => out.push_str("done, "),
+        Answer::Refused(refusal) => write!(out, "{refusal:?}, "),
+    }
+}
+
+/// Puts answers behind a line, and what stands behind them.
+fn put_answers(out: &mut String, answers: &[Answer], end: &str) -> Result<(), AllocError> {
+    for answer in answers {
+        put_answer(out, answer)?;
+    }
+    out.push_str(end)
+}
+
 /// Makes a call, and puts the answers behind a line; of several callers also how many entries there are behind each.
 fn ask_parts<D: Disk>(
     alloc: Global,
@@ -61,7 +107,7 @@ fn ask_parts<D: Disk>(
     }
     if parts.len() == 1 && !parts[0].asks.is_empty() && parts[0].asks.len() <= MAX_BATCH {
         return match store.call_batch(alloc, &parts[0].asks) {
-            Ok(answers) => write!(out, "{:?}; ", answers.as_slice()),
+            Ok(answers) => put_answers(out, answers.as_slice(), "in one batch; "),
             Err(fault) => write!(out, "{fault:?}; "),
         };
     }
@@ -69,7 +115,8 @@ fn ask_parts<D: Disk>(
         return write!(out, "{fault:?}; ");
     }
     for part in &parts {
-        write!(out, "{:?} to {}; ", part.answers.as_slice(), part.end)?;
+        put_answers(out, part.answers.as_slice(), "to entry ")?;
+        write!(out, "{}; ", part.end)?;
     }
     Ok(())
 }
