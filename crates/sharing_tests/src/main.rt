@@ -14,7 +14,7 @@ mod slow_disk;
 use asks::entries_of;
 use callers::{Farm, START_MS, ask_by};
 use farm_disk::{CalmDisk, Disk};
-use farm_entry::Settings;
+use farm_entry::{Entry, Settings};
 use farm_store::Store;
 use farm_types::Moment;
 use slow_disk::SlowDisk;
@@ -30,6 +30,24 @@ const ALONE: u64 = 183;
 fn number_at(text: &str, index: usize) -> u32 {
     let word = text.split(' ').nth(index).unwrap_or("");
     word.parse::<u32>().unwrap_or(u32::MAX)
+}
+
+/// Puts what callers came to, and how many entries of a history are whose.
+fn put_callers(
+    out: &mut String,
+    good: bool,
+    faults: u64,
+    history: &[Entry],
+    callers: u32,
+) -> Result<(), AllocError> {
+    write!(out, "good {good}, faults {faults}, entries")?;
+    for caller in 1..=callers {
+        match entries_of(history, caller) {
+            Some(count) => write!(out, " {count}")?,
+            None => out.push_str(" none")?,
+        }
+    }
+    write!(out, " of {}", history.len())
 }
 
 /// Callers that share a farm on a disk, and what they leave, put behind a line.
@@ -51,15 +69,9 @@ fn share<R: Threads + Wait + Sync>(
     };
     let (pass, good, faults) = ask_by(rt, alloc, &farm, pass, callers);
     let store = farm.close(rt, pass);
-    write!(out, "good {good}, faults {faults}, entries")?;
-    for caller in 1..=callers {
-        match entries_of(store.history(), caller) {
-            Some(count) => write!(out, " {count}")?,
-            None => out.push_str(" none")?,
-        }
-    }
-    write!(out, " of {}", store.history().len())?;
+    let told = put_callers(out, good, faults, store.history(), callers);
     let disk = store.into_disk();
+    told?;
     write!(
         out,
         ", disk faults {}, shared {}",
