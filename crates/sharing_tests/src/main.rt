@@ -32,6 +32,14 @@ fn number_at(text: &str, index: usize) -> u32 {
     word.parse::<u32>().unwrap_or(u32::MAX)
 }
 
+/// Puts how many entries of a history are a caller's.
+fn put_caller(out: &mut String, history: &[Entry], caller: u32) -> Result<(), AllocError> {
+    match entries_of(history, caller) {
+        Some(count) => write!(out, " {count}"),
+        None => out.push_str(" none"),
+    }
+}
+
 /// Puts what callers came to, and how many entries of a history are whose.
 fn put_callers(
     out: &mut String,
@@ -41,11 +49,8 @@ fn put_callers(
     callers: u32,
 ) -> Result<(), AllocError> {
     write!(out, "good {good}, faults {faults}, entries")?;
-    for caller in 1..=callers {
-        match entries_of(history, caller) {
-            Some(count) => write!(out, " {count}")?,
-            None => out.push_str(" none")?,
-        }
+    for before in 0..callers {
+        put_caller(out, history, before + 1)?;
     }
     write!(out, " of {}", history.len())
 }
