@@ -6,7 +6,7 @@ use std::fmt;
 pub const MAX_AUDITED: usize = 20_000;
 
 /// What was found of the bytes of a journal. Its text is the line for it, without the line feed.
-#[derive(Clone, Copy, PartialEq, Eq)]
+#[derive(Clone, Copy)]
 pub enum Finding {
     /// They stand for a legal history.
     Legal {

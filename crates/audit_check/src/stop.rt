@@ -7,7 +7,7 @@ use farm_types::Memory;
 use std::alloc::AllocFailed;
 
 /// Why no value was read from the front of some bytes.
-#[derive(Clone, Copy, PartialEq, Eq)]
+#[derive(Clone, Copy)]
 pub(crate) enum Stop {
     /// They begin with none.
     Malformed,

@@ -70,12 +70,4 @@ impl<T> ItemList<T> {
     {
         &self.items
     }
-
-    /// The items as the plain list that this one was made from, which takes no memory.
-    pub fn into_vec(self) -> Vec<T>
-        ensures { result.items ≡ self }
-    {
-        let ItemList { items } = self;
-        items
-    }
 }

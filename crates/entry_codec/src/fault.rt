@@ -27,7 +27,7 @@ impl<T: Drop> From<AllocFailed<T>> for CodecFault {
 }
 
 /// Why no value was read from the front of some bytes.
-#[derive(Clone, Copy, PartialEq, Eq)]
+#[derive(Clone, Copy)]
 pub(crate) enum Unread {
     /// They begin with no spelling of one.
     Malformed,

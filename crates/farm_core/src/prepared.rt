@@ -3,7 +3,7 @@ use farm_types::Memory;
 use thiserror::Error;
 
 /// What a command comes to that isn't refused.
-#[derive(PartialEq, Eq, Drop)]
+#[derive(Drop)]
 pub enum Prepared {
     /// The command was done before: its first reply again.
     Repeat(Reply),

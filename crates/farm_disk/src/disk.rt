@@ -17,7 +17,7 @@ ghost use Rattle.farm_disk.specs.Answers.{
 };
 
 /// What a call answers that is done or not.
-#[derive(Clone, Copy, PartialEq, Eq)]
+#[derive(Clone, Copy)]
 pub enum Did {
     /// It was done.
     Did,
@@ -26,7 +26,7 @@ pub enum Did {
 }
 
 /// What a disk answers that is asked for its size.
-#[derive(Clone, Copy, PartialEq, Eq)]
+#[derive(Clone, Copy)]
 pub enum Size {
     /// So many bytes.
     Size(u64),
@@ -35,7 +35,7 @@ pub enum Size {
 }
 
 /// What a write answers.
-#[derive(Clone, Copy, PartialEq, Eq)]
+#[derive(Clone, Copy)]
 pub enum Written {
     /// It was done.
     Did,

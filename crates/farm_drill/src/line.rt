@@ -15,7 +15,7 @@ use std::alloc::Global;
 use std::fmt;
 
 /// The searches of a farm, by where they stand.
-#[derive(Clone, Copy, PartialEq, Eq)]
+#[derive(Clone, Copy)]
 pub struct Tally {
     /// Those with a confirmed culprit.
     pub confirmed: u32,
@@ -26,7 +26,7 @@ pub struct Tally {
 }
 
 /// The numbers of a farm. Their text is the line of a drill, without its line feed.
-#[derive(Clone, Copy, PartialEq, Eq)]
+#[derive(Clone, Copy)]
 struct Numbers {
     searches: u32,
     tally: Tally,

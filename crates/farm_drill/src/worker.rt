@@ -19,7 +19,7 @@ use std::sync::Wait;
 use worker_core::{Action, Event, Tested, WorkerCore};
 
 /// How a worker came to its end.
-#[derive(Clone, Copy, PartialEq, Eq)]
+#[derive(Clone, Copy)]
 pub(crate) enum Ended {
     /// No run was due, or the farm refused what it didn't refuse to a worker before.
     Done,
@@ -49,7 +49,7 @@ impl From<CallFault> for Ended {
 }
 
 /// The run that a worker leased last: its search, and its position there.
-#[derive(Clone, Copy, PartialEq, Eq)]
+#[derive(Clone, Copy)]
 pub(crate) struct Held {
     pub(crate) search: u32,
     pub(crate) position: u16,

@@ -4,7 +4,7 @@ use crate::refusal::Refusal;
 use crate::reply::Reply;
 
 /// The answer to a command, for which a refusal is an answer like another.
-#[derive(PartialEq, Eq, Drop)]
+#[derive(Drop)]
 pub enum Answer {
     /// The reply: of the entry that the command made, now or before, or what it shows.
     Done(Reply),

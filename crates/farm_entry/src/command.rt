@@ -6,7 +6,7 @@ use weight_exact::Verdict;
 /// What a farm is asked to do, or to show. The commands with a key are done once: sent again with the same contents,
 /// they are answered as the first time. A report, with a verdict or as a skip, is told by its run instead. The last
 /// three change nothing.
-#[derive(PartialEq, Eq, Drop)]
+#[derive(Drop)]
 pub enum Command {
     /// To open a search.
     Open(OpenAsk),
@@ -71,7 +71,7 @@ pub type Suspects = ItemList<Suspect>;
 
 /// A search as it is asked for. Its numbers are those that were sent, and may lie outside their limits, for which the
 /// farm refuses the search.
-#[derive(PartialEq, Eq, Drop)]
+#[derive(Drop)]
 pub struct OpenAsk {
     /// The key of this request.
     pub key: Key,

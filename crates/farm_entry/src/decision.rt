@@ -1,7 +1,7 @@
 use crate::{Entry, Refusal, Reply};
 
 /// What a command comes to, at a history and a moment. There is one decision on each.
-#[derive(PartialEq, Eq, Drop)]
+#[derive(Drop)]
 pub enum Decision {
     /// The command is refused, and changes nothing.
     Refuse(Refusal),

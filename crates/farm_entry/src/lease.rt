@@ -18,7 +18,7 @@ pub struct LeasedRun {
 }
 
 /// The first report of a run, as its entry says.
-#[derive(Clone, Copy, PartialEq, Eq)]
+#[derive(Clone, Copy)]
 pub struct ReportedRun {
     /// The number of the run, from 1.
     pub run: u32,
@@ -29,7 +29,7 @@ pub struct ReportedRun {
 }
 
 /// The first report of a run whose tree can't be tested, as its entry says.
-#[derive(Clone, Copy, PartialEq, Eq)]
+#[derive(Clone, Copy)]
 pub struct SkippedRun {
     /// The number of the run, from 1.
     pub run: u32,

@@ -15,7 +15,7 @@
 //! over), `Legal` and `Playing` (what becomes of a history as commands are decided). They compute. Their laws stand in
 //! a crate above this one, `farm_laws`, and farms that are played by evaluating them in `farm_worked`. The layers above
 //! may cite the lemmas of `proofs/Growing` (what a history holds after appending an entry, and its last moment),
-//! `proofs/Asked` (what is made of the numbers of an ask) and `proofs/SameSettings`. Its tests stand in `entry_tests`.
+//! `proofs/Asked` (what is made of the numbers of an ask) and `proofs/SameSettings`.
 #![tactic(auto)]
 
 mod answer;

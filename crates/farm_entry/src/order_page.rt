@@ -2,7 +2,7 @@ use common_types::ItemList;
 use farm_types::{CommitId, Name};
 
 /// An order to revert a culprit, as it is shown.
-#[derive(PartialEq, Eq, Drop)]
+#[derive(Drop)]
 pub struct OrderLine {
     /// The number of the order, from 1.
     pub order: u32,

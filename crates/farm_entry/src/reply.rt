@@ -5,7 +5,7 @@ use weight_exact::Verdict;
 
 /// What a farm answers to a command that it doesn't refuse. Where an entry answers the command, a standing is the one
 /// right after that entry; in what is only shown it is the one of the whole history.
-#[derive(PartialEq, Eq, Drop)]
+#[derive(Drop)]
 pub enum Reply {
     /// A search was opened.
     Opened {
@@ -93,7 +93,7 @@ pub type Shares = ItemList<u32>;
 pub type Positions = ItemList<u16>;
 
 /// What is shown of a search.
-#[derive(PartialEq, Eq, Drop)]
+#[derive(Drop)]
 pub struct SearchPage {
     /// The number of the search, from 1.
     pub search: u32,

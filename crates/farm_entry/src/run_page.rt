@@ -4,7 +4,7 @@ use farm_types::{CommitId, Moment, Name, Stage};
 use weight_exact::Verdict;
 
 /// What the first report of a run said, and what it did to the search.
-#[derive(Clone, Copy, PartialEq, Eq)]
+#[derive(Clone, Copy)]
 pub enum RunOutcome {
     /// The test gave a verdict.
     Tested(Verdict, Fate),
@@ -13,7 +13,7 @@ pub enum RunOutcome {
 }
 
 /// The first report of a run, as it is shown.
-#[derive(Clone, Copy, PartialEq, Eq)]
+#[derive(Clone, Copy)]
 pub struct RunReport {
     /// When it was recorded.
     pub at: Moment,
@@ -22,7 +22,7 @@ pub struct RunReport {
 }
 
 /// A run of a search, as it is shown.
-#[derive(PartialEq, Eq, Drop)]
+#[derive(Drop)]
 pub struct RunLine {
     /// The number of the run, from 1.
     pub run: u32,
@@ -43,7 +43,7 @@ pub struct RunLine {
 }
 
 /// The runs of a search, in the order in which they were handed out: a page of them.
-#[derive(PartialEq, Eq, Drop)]
+#[derive(Drop)]
 pub struct RunPage {
     /// The number of the search, from 1.
     pub search: u32,

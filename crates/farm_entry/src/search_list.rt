@@ -3,7 +3,7 @@ use common_types::ItemList;
 use farm_types::{CommitId, Moment, Name};
 
 /// A search, as it is shown in the list of all.
-#[derive(PartialEq, Eq, Drop)]
+#[derive(Drop)]
 pub struct SearchLine {
     /// The number of the search, from 1.
     pub search: u32,
@@ -26,7 +26,7 @@ pub struct SearchLine {
 }
 
 /// The searches of a farm by their numbers: a page of them.
-#[derive(PartialEq, Eq, Drop)]
+#[derive(Drop)]
 pub struct SearchList {
     /// The first search of the page.
     pub from: u32,

@@ -9,7 +9,7 @@ use farm_disk::{Did, Disk, Size, Written};
 use std::alloc::{AllocError, AllocFailed};
 
 /// Why a call on the disk wasn't done.
-#[derive(Clone, Copy, PartialEq, Eq)]
+#[derive(Clone, Copy)]
 pub(super) enum DiskFault {
     /// Out of memory.
     Memory,

@@ -10,7 +10,7 @@ use crate::disk_calls::{DiskFault, read, sync};
 use farm_disk::Disk;
 
 /// What a repair found.
-#[derive(Clone, Copy, PartialEq, Eq)]
+#[derive(Clone, Copy)]
 pub enum Repaired {
     /// The payload was kept: it is one of the journal's.
     Kept,

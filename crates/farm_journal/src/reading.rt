@@ -35,7 +35,7 @@ pub(super) fn find(alloc: Global, bytes: &[u8]) -> Result<Found, Missed>
 }
 
 /// Why nothing was found.
-#[derive(Clone, Copy, PartialEq, Eq)]
+#[derive(Clone, Copy)]
 pub(super) enum Missed {
     Unborn,
     Damaged(u64),

@@ -4,14 +4,14 @@ use farm_types::CommitId;
 use thiserror::Error;
 
 /// A search whose culprit is confirmed: its number, and the commit to revert.
-#[derive(Clone, Copy, PartialEq, Eq)]
+#[derive(Clone, Copy)]
 pub struct Candidate {
     pub search: u32,
     pub commit: CommitId,
 }
 
 /// A commit for which an order to revert it stands, and the day of that order, in days since 1970-01-01.
-#[derive(Clone, Copy, PartialEq, Eq)]
+#[derive(Clone, Copy)]
 pub struct OrderedCommit {
     pub commit: CommitId,
     pub day: u32,
@@ -19,7 +19,7 @@ pub struct OrderedCommit {
 
 /// An order that can be given next: its number, counted from 1, the commit to revert, the search that found it, and its
 /// day, in days since 1970-01-01.
-#[derive(Clone, Copy, PartialEq, Eq)]
+#[derive(Clone, Copy)]
 pub struct Draft {
     pub order: u32,
     pub commit: CommitId,

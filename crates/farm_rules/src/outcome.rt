@@ -1,7 +1,7 @@
 //! What a rerun came to.
 
 /// What [`Verify::note`](crate::Verify::note) made of a rerun.
-#[derive(Clone, Copy, PartialEq, Eq)]
+#[derive(Clone, Copy)]
 pub enum Outcome {
     /// It counted, and the reruns go on.
     Open,

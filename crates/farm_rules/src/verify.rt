@@ -12,7 +12,7 @@ use weight_exact::Verdict;
 
 /// The verification of a culprit, in the midst of its reruns. A side is a position: the culprit's own, where the
 /// culprit is in the tree, and its parent's just below it, where it isn't.
-#[derive(Clone, Copy, PartialEq, Eq)]
+#[derive(Clone, Copy)]
 pub struct Verify {
     culprit: u16,
     asked: u8,

@@ -6,7 +6,7 @@ use link_io::PutFault;
 use std::alloc::AllocError;
 
 /// How the run of a script ended.
-#[derive(Clone, Copy, PartialEq, Eq)]
+#[derive(Clone, Copy)]
 pub enum RunEnd {
     /// The input was read to its end, and every line was answered.
     Done,

@@ -7,7 +7,7 @@ use farm_store::OpeningFault;
 use link_io::PutFault;
 
 /// How the service ended.
-#[derive(Clone, Copy, PartialEq, Eq)]
+#[derive(Clone, Copy)]
 pub enum Ending {
     /// All accepts were made, or one answered that no more will come, and the farm's line was put.
     Done,

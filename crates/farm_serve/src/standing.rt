@@ -6,7 +6,7 @@ use connection_laws::{ServeFault, Served};
 use shared_farm::Pass;
 
 /// How the serving stands.
-#[derive(Clone, Copy, PartialEq, Eq)]
+#[derive(Clone, Copy)]
 pub struct ServeState {
     /// How many accepts are left.
     pub left: u64,

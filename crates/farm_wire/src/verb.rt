@@ -1,5 +1,5 @@
 /// What a script line asks for, by its member `do`.
-#[derive(Clone, Copy, PartialEq, Eq)]
+#[derive(Clone, Copy)]
 pub(crate) enum Verb {
     Open,
     Lease,

@@ -1,7 +1,7 @@
 //! What is known of the size of a file.
 
 /// Between which sizes a file is, in bytes. After a write or a cut that failed they may differ.
-#[derive(Clone, Copy, PartialEq, Eq)]
+#[derive(Clone, Copy)]
 pub(crate) struct Extent {
     least: u64,
     most: u64,

@@ -9,7 +9,7 @@ use link_io::{INPUT_LIMIT, PIECE, Source, TakeFailed, take_piece};
 use std::alloc::{AllocError, Global};
 
 /// Why an input was not read to its end.
-#[derive(Clone, Copy, PartialEq, Eq)]
+#[derive(Clone, Copy)]
 pub enum InputFault {
     /// The input failed, and its count of faults rose.
     Failed,

@@ -1,7 +1,7 @@
 //! What stands at the front of the bytes held.
 
 /// What stands at the front of the bytes held.
-#[derive(Clone, Copy, PartialEq, Eq)]
+#[derive(Clone, Copy)]
 pub enum ResponseProgress {
     /// No response is whole yet, nor will one be before so many bytes are held, which is more than there are now.
     More(usize),
@@ -14,7 +14,7 @@ pub enum ResponseProgress {
 }
 
 /// A whole response, by where its body stands in the bytes held.
-#[derive(Clone, Copy, PartialEq, Eq)]
+#[derive(Clone, Copy)]
 pub struct Response {
     /// The status, which isn't that of an interim response.
     pub status: u16,

@@ -23,7 +23,7 @@ pub struct Response {
 }
 
 /// Why no whole response came.
-#[derive(Clone, Copy, PartialEq, Eq)]
+#[derive(Clone, Copy)]
 pub enum NoResponse {
     /// The bytes that came are none, whatever follows them; or the input ended first, or as many bytes were taken as
     /// are taken at most.

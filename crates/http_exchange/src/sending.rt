@@ -22,7 +22,7 @@ pub enum Sent {
 }
 
 /// What a request was lost by.
-#[derive(Clone, Copy, PartialEq, Eq)]
+#[derive(Clone, Copy)]
 pub enum Lost {
     /// No connection was made, or it failed, and the network's count of faults rose.
     Network,

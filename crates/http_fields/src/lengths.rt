@@ -8,7 +8,7 @@ use common_types::{are_digits, digits_up_to};
 use http_words::MAX_BODY_BYTES;
 
 /// What the `Content-Length` fields of a head state.
-#[derive(Clone, Copy, PartialEq, Eq)]
+#[derive(Clone, Copy)]
 pub enum StatedLength {
     /// There is no such field.
     Absent,

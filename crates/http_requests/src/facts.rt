@@ -10,7 +10,7 @@ use http_fields::{Fields, StatedLength, is_same, length_in, lists_close};
 use httparse::spans::HeaderSpan;
 
 /// How many fields have a name.
-#[derive(Clone, Copy, PartialEq, Eq)]
+#[derive(Clone, Copy)]
 pub(crate) enum Seen {
     Never,
     Once,

@@ -10,7 +10,7 @@ use http_words::MAX_HEAD_BYTES;
 use std::sync::ledger::Ledger;
 
 /// How far bytes were looked at, and where in a head those end.
-#[derive(Clone, Copy, PartialEq, Eq)]
+#[derive(Clone, Copy)]
 pub(crate) struct Look {
     /// How many bytes at the front were looked at.
     pub(crate) count: usize,

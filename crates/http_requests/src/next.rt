@@ -20,7 +20,7 @@ use std::marker::Brand;
 use std::sync::ledger::{Blank, Ledger};
 
 /// A request whose head is held and whose body isn't whole yet.
-#[derive(Clone, Copy, PartialEq, Eq)]
+#[derive(Clone, Copy)]
 pub struct Awaited {
     /// The interim answer is put before more bytes are taken.
     pub interim: bool,
@@ -29,7 +29,7 @@ pub struct Awaited {
 }
 
 /// What comes next of the bytes held.
-#[derive(Clone, Copy, PartialEq, Eq)]
+#[derive(Clone, Copy)]
 pub enum Next {
     /// There is no whole head yet: more bytes have to be taken.
     More,

@@ -10,13 +10,13 @@ use crate::request::Request;
 /// What was read of the next request of a connection, whose bytes come piece by piece. It is kept from one call of
 /// [`next_of`](crate::next_of) to the next, so that each byte of a head is looked at once, and each head is parsed
 /// once it is whole.
-#[derive(Clone, Copy, PartialEq, Eq)]
+#[derive(Clone, Copy)]
 pub struct Reading {
     pub(crate) stage: Stage,
 }
 
 /// How far the next request was read.
-#[derive(Clone, Copy, PartialEq, Eq)]
+#[derive(Clone, Copy)]
 pub(crate) enum Stage {
     /// There is no whole head yet.
     Head(Begun),
@@ -25,7 +25,7 @@ pub(crate) enum Stage {
 }
 
 /// How far the bytes of a head were read that isn't whole.
-#[derive(Clone, Copy, PartialEq, Eq)]
+#[derive(Clone, Copy)]
 pub(crate) struct Begun {
     pub(crate) look: Look,
     /// How many bytes the parser was last given, which may become a head.

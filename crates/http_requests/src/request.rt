@@ -5,7 +5,7 @@ ghost use Rattle.http_requests.specs.Next.{refusal};
 use http_words::{Endpoint, Fault};
 
 /// What is answered once: a request, or bytes that form none. It stands at the front of the bytes that were held.
-#[derive(Clone, Copy, PartialEq, Eq)]
+#[derive(Clone, Copy)]
 pub struct Request {
     /// The interim answer is put before the answer.
     pub interim: bool,

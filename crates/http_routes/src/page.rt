@@ -5,7 +5,7 @@ ghost use Rattle.http_routes.specs.Routes.{allow_of, allows};
 use http_words::Allow;
 
 /// A row of the path table.
-#[derive(Clone, Copy, PartialEq, Eq)]
+#[derive(Clone, Copy)]
 pub(crate) enum Page {
     Searches,
     Leases,

@@ -17,7 +17,7 @@ use net_io::Network;
 use std::alloc::Global;
 
 /// How far a leader was followed.
-#[derive(Clone, Copy, PartialEq, Eq)]
+#[derive(Clone, Copy)]
 pub struct Followed {
     /// How many entries are held.
     pub entries: u32,
@@ -26,7 +26,7 @@ pub struct Followed {
 }
 
 /// What a round came to.
-#[derive(Clone, Copy, PartialEq, Eq)]
+#[derive(Clone, Copy)]
 enum Went {
     /// A page was taken, with which so many entries are compared.
     On(u32),

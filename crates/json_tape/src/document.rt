@@ -9,7 +9,7 @@ use json::{Error, Scratch, Tape};
 use std::alloc::Global;
 
 /// Why a text isn't read.
-#[derive(Clone, Copy, Drop, PartialEq, Eq)]
+#[derive(Clone, Copy, Drop)]
 pub enum Unread {
     /// It is no JSON text in UTF-8, or `serde_json` refuses it: it nests too deep, or has a number out of range.
     Malformed,

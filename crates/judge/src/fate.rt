@@ -5,7 +5,7 @@ ghost use Rattle.std.specs.Prelude.{Some};
 use std::fmt;
 
 /// What becomes of a run line.
-#[derive(Clone, Copy, PartialEq, Eq)]
+#[derive(Clone, Copy)]
 pub enum JudgeFate {
     /// It changes the weights.
     Counted,

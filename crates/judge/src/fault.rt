@@ -6,7 +6,7 @@ use std::fmt;
 use weight_exact::Memory;
 
 /// Why an input has no answer.
-#[derive(Clone, Copy, Debug, PartialEq, Eq)]
+#[derive(Clone, Copy, Debug)]
 pub enum JudgeFault {
     /// The line with this number, counted from 1, is the first outside the form.
     BadInput(u64),

@@ -8,7 +8,7 @@ use common_types::number;
 use weight_exact::{Run, Verdict};
 
 /// `run R K pass` or `run R K fail`: a run's number R, from 1, where it was and what it said.
-#[derive(Clone, Copy, PartialEq, Eq)]
+#[derive(Clone, Copy)]
 pub struct RunLine {
     /// R.
     pub number: u32,

@@ -5,7 +5,7 @@ ghost use Rattle.std.specs.Prelude.{Some};
 use std::fmt;
 
 /// Where a search stands.
-#[derive(Clone, Copy, PartialEq, Eq)]
+#[derive(Clone, Copy)]
 pub enum JudgeStanding {
     /// No hypothesis reaches the bar.
     Searching,

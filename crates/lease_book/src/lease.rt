@@ -8,7 +8,7 @@ pub const OUT_MAX: usize = 16;
 
 /// A run that was handed out: its number, counted from 1, its search and stage, the position to run, and the deadline
 /// up to which it is waited for, in milliseconds.
-#[derive(Clone, Copy, PartialEq, Eq)]
+#[derive(Clone, Copy)]
 pub struct Lease {
     pub run: u32,
     pub search: u32,

@@ -25,7 +25,6 @@ mod decisions;
 mod due_run;
 mod kept;
 mod legal;
-mod lists;
 mod orders;
 mod pages;
 mod reply;

@@ -9,13 +9,12 @@ ghost use Rattle.farm_entry.specs.Legal.{IsLegal};
 ghost use Rattle.farm_entry.specs.Pages.{is_ended_otherwise, page_of, shares_of, totals, untestable_of};
 ghost use Rattle.farm_entry.specs.Standing.{is_confirmed, is_searching, is_verifying, standing};
 
-use crate::lists::order_lines;
 use crate::standings::{belief, skips, standing};
 use farm_entry::{
     Entry, Opening, OrderPage, Positions, SearchPage, Shares, Standing, Totals, What,
 };
 use farm_types::Memory;
-use plain_history::{leases, openings_count, orders_count, push_some, reruns, runs};
+use plain_history::{leases, openings_count, order_lines, orders_count, push_some, reruns, runs};
 use std::alloc::Global;
 
 /// The shares of all hypotheses of a search in basis points, that of "no culprit" last.

@@ -3,11 +3,10 @@
 ghost use Rattle.std.specs.Prelude.{◌≡◌, IfOk};
 ghost use Rattle.farm_entry.specs.RunPages.{run_line, run_lines, runs_page};
 
-use crate::lists::{lines_from, report_of};
 use common_types::ItemList;
 use farm_entry::{Entry, Opening, RunLine, RunPage, What};
 use farm_types::Memory;
-use plain_history::push_some;
+use plain_history::{lines_from, push_some, report_of};
 use std::alloc::Global;
 
 /// The run that an entry hands out, where it is of a search.

@@ -7,12 +7,11 @@ ghost use Rattle.farm_entry.specs.Legal.{IsLegal};
 ghost use Rattle.farm_entry.specs.SearchLines.{search_line, search_lines, search_list};
 ghost use Rattle.plain_history.specs.Held.{IsHeld};
 
-use crate::lists::{lines_from, order_lines};
 use crate::standings::standing;
 use common_types::ItemList;
 use farm_entry::{Entry, Opening, OrderLine, SearchLine, SearchList};
 use farm_types::{Memory, Moment};
-use plain_history::{leases, push_some, runs};
+use plain_history::{leases, lines_from, order_lines, push_some, runs};
 use std::alloc::Global;
 
 /// The number of the first of some orders that is to revert the culprit of a search.

@@ -7,7 +7,7 @@ ghost use Rattle.farm_entry.specs.History.{all_leases, counted, counted_run, has
 ghost use Rattle.farm_entry.specs.Orders.{orders};
 
 use crate::lists::push_some;
-use farm_entry::{Entry, LeasedRun, Opening, ReportedRun, SkippedRun};
+use farm_entry::{Entry, LeasedRun, Opening, OrderLine, ReportedRun, SkippedRun};
 use farm_rules::OrderedCommit;
 use farm_types::{Key, Memory, Stage};
 use std::alloc::Global;
@@ -238,7 +238,7 @@ pub fn place_of_key(history: &[Entry], key: Key) -> Option<usize>
 }
 
 /// Whether an entry is the report of a run, with a verdict or not.
-fn is_report_of(run: u32, entry: &Entry) -> bool
+pub(crate) fn is_report_of(run: u32, entry: &Entry) -> bool
     ensures { result ≡ is_report_of run entry.now }
 {
     match entry.what.told() {
@@ -253,6 +253,17 @@ pub fn place_of_report(history: &[Entry], run: u32) -> Option<usize>
     ensures within { IfSome result (λ place. place < length history.now) }
 {
     history.iter().position(|entry| is_report_of(run, entry))
+}
+
+/// All orders, by their numbers.
+pub fn order_lines(alloc: Global, history: &[Entry]) -> Result<Vec<OrderLine>, Memory>
+    ensures { IfOk result (λ lines. lines.items ≡ order_lines history.now) }
+{
+    let mut lines = Vec::new(alloc);
+    for entry in history {
+        push_some(&mut lines, entry.what.order()?)?;
+    }
+    Ok(lines)
 }
 
 /// The orders that stand, those that were carried over among them, in the order of their entries.

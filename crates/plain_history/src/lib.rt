@@ -15,9 +15,9 @@ mod settings;
 
 pub use filters::{
     all_leases_count, counted, is_closed, is_reported, last_lease, lease_of, leases,
-    opening_numbered, openings_count, orders, orders_count, place_of_key, place_of_report, reruns,
-    runs, skipped, was_cancelled, went_over,
+    opening_numbered, openings_count, order_lines, orders, orders_count, place_of_key,
+    place_of_report, reruns, runs, skipped, was_cancelled, went_over,
 };
-pub use lists::push_some;
-pub use reports::report_shown;
+pub use lists::{lines_from, push_some};
+pub use reports::{report_of, report_shown};
 pub use settings::{daily_limit, lease_ms, settings_of, zone_minutes};

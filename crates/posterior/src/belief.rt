@@ -31,7 +31,7 @@ use weight_exact::{
 const SMALL_WHOLE: u128 = u64::MAX as u128 / BASIS_POINTS;
 
 /// What [`Belief::note`] made of a run.
-#[derive(Clone, Copy, PartialEq, Eq)]
+#[derive(Clone, Copy)]
 pub enum Noted {
     /// The belief stands for its runs with this one at their end.
     Counted,

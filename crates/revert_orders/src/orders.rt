@@ -10,7 +10,7 @@ use std::marker::Model;
 
 /// An order that stood until it was taken back: its number, counted from 1, or 0 where it was carried over; its commit,
 /// and its day, in days since 1970-01-01.
-#[derive(Clone, Copy, PartialEq, Eq)]
+#[derive(Clone, Copy)]
 pub struct RevertOrder {
     pub order: u32,
     pub commit: CommitId,

@@ -23,6 +23,14 @@ const BATCHES: u64 = 16;
 /// The farm that callers share.
 pub(crate) type Farm = SharedFarm<SlowDisk>;
 
+/// The number of the search that an answer says was opened.
+fn opened(answer: &Answer) -> Option<u32> {
+    match answer {
+        Answer::Done(Reply::Opened { search, .. }) => Some(*search),
+        _ => None,
+    }
+}
+
 /// Asks a batch. Answers whether its two searches were opened, and the first one's ask answered alike again.
 fn ask_batch<R: Wait>(
     rt: &R,
@@ -44,12 +52,10 @@ fn ask_batch<R: Wait>(
     }
     let (answered, _) = farm.call_batch(rt, alloc, pass, &mut asks);
     match answered?.as_slice() {
-        [first, second, again] => Ok(
-            first == again
-                && first != second
-                && matches!(first, Answer::Done(Reply::Opened { .. }))
-                && matches!(second, Answer::Done(Reply::Opened { .. })),
-        ),
+        [first, second, again] => {
+            let (first, second, again) = (opened(first), opened(second), opened(again));
+            Ok(first.is_some() && second.is_some() && first == again && first != second)
+        }
         _ => Ok(false),
     }
 }

@@ -10,7 +10,7 @@ use mio::net::{TcpListener, TcpStream};
 use mio::{Events, Interest, Poll, Token};
 use std::alloc::Global;
 use std::io::ErrorKind;
-use std::net::{Net, SocketAddr, ToSocketAddrs};
+use std::net::{Net, ToSocketAddrs};
 use std::os::fd::OwnedFd;
 use std::rt::Clock;
 use std::sync::Arc;
@@ -65,11 +65,6 @@ impl Door {
             sweep_from: 0,
             listen_at: None,
         })
-    }
-
-    /// The address at which it listens.
-    pub(crate) fn local_addr(&self) -> io::Result<SocketAddr> {
-        self.listener.local_addr()
     }
 
     /// What it shares with its links, or none where no more can share it.

@@ -54,7 +54,7 @@ enum Origin {
 }
 
 /// Why a link that is idle ends its wait.
-#[derive(Clone, Copy, PartialEq, Eq)]
+#[derive(Clone, Copy)]
 enum Pause {
     /// There is something to read, or the connection is over.
     Speaks,

@@ -9,7 +9,7 @@ use std::io::{ErrorKind, Read, Write};
 use std::os::fd::AsRawFd;
 
 /// Why a read or a write moved no byte.
-#[derive(Clone, Copy, PartialEq, Eq)]
+#[derive(Clone, Copy)]
 pub(crate) enum Unmoved {
     /// The peer has sent nothing yet, or takes nothing yet.
     Nothing,
@@ -53,7 +53,7 @@ pub(crate) fn is_readable(stream: &TcpStream) -> bool {
 }
 
 /// What is left of what a peer sends to a connection that is over.
-#[derive(Clone, Copy, PartialEq, Eq)]
+#[derive(Clone, Copy)]
 pub(crate) enum Left {
     /// There may be more at once.
     More,

@@ -21,7 +21,7 @@ struct Waiter {
 }
 
 /// How far a connection is that waits.
-#[derive(Clone, Copy, Drop, PartialEq, Eq)]
+#[derive(Clone, Copy, Drop)]
 pub(crate) enum Stage {
     /// No handler has had it yet.
     New,
@@ -39,7 +39,7 @@ pub(crate) struct Speaker {
 }
 
 /// What a look at a connection that waits finds.
-#[derive(Clone, Copy, PartialEq, Eq)]
+#[derive(Clone, Copy)]
 enum Look {
     /// A handler is to have it: it has sent enough, or its input has ended before any handler had it.
     Enough,

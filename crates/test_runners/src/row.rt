@@ -13,7 +13,7 @@ use weight_exact::Verdict;
 use worker_core::Tested;
 
 /// Why a line is no row of a table.
-#[derive(Clone, Copy, PartialEq, Eq)]
+#[derive(Clone, Copy)]
 pub enum RowFault {
     /// Its first 40 bytes are not the digits of a commit's id.
     Commit,

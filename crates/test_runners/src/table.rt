@@ -12,7 +12,7 @@ use std::marker::Model;
 use worker_core::Tested;
 
 /// Why a text is no table.
-#[derive(Clone, Copy, PartialEq, Eq)]
+#[derive(Clone, Copy)]
 pub enum TableFault {
     /// The line with this number, counted from 1, is the first that is no row, and this is why.
     Line(u64, RowFault),

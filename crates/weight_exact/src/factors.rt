@@ -13,7 +13,7 @@ pub const MAX_FACTOR: u32 = Rate::MAX_DENOMINATOR * Miss::MAX_DENOMINATOR;
 /// The four likelihood numbers of a flake rate and a miss rate: what a run multiplies the weight of a hypothesis by,
 /// for a fail and for a pass, where the hypothesis' culprit is in the tree that was run (`in`) and where it is out
 /// (`out`). They are Bayes' likelihoods, each verdict's pair over one common denominator and in lowest terms.
-#[derive(Clone, Copy, PartialEq, Eq)]
+#[derive(Clone, Copy)]
 pub struct Factors {
     /// For a fail with the culprit in.
     pub fail_in: u32,

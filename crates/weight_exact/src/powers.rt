@@ -14,7 +14,7 @@ use std::marker::Model;
 use std::sync::ledger::Ledger;
 
 /// How many runs there are of each kind: failed or passed, with the culprit of a hypothesis in the tree or out of it.
-#[derive(Clone, Copy, PartialEq, Eq)]
+#[derive(Clone, Copy)]
 pub struct Counts {
     /// Fails with the culprit in.
     pub fail_in: u32,

@@ -24,7 +24,7 @@ impl Verdict {
 }
 
 /// A run of the test with suspects 1 to `position` applied, where 0 is the base.
-#[derive(Clone, Copy, PartialEq, Eq)]
+#[derive(Clone, Copy)]
 pub struct Run {
     pub position: u16,
     pub verdict: Verdict,

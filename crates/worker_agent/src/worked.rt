@@ -11,7 +11,7 @@ use worker_core::Action;
 use worker_io::{KeySource, Runner};
 
 /// What a worker did until it stopped.
-#[derive(Clone, Copy, PartialEq, Eq)]
+#[derive(Clone, Copy)]
 pub struct Worked {
     /// How many leases it took.
     pub leased: u32,
@@ -22,7 +22,7 @@ pub struct Worked {
 }
 
 /// Why a worker ended before that.
-#[derive(Clone, Copy, PartialEq, Eq)]
+#[derive(Clone, Copy)]
 pub enum WorkFault {
     /// No connection was made for the last try of a request, or that connection failed. The network's count rose.
     NetFault,

@@ -4,7 +4,7 @@ use crate::Tested;
 use farm_types::Key;
 
 /// What a worker does next.
-#[derive(Clone, Copy, PartialEq, Eq)]
+#[derive(Clone, Copy)]
 pub enum Action {
     /// To draw a key for the next lease.
     Draw,
@@ -19,7 +19,7 @@ pub enum Action {
 }
 
 /// Why a worker stops.
-#[derive(Clone, Copy, PartialEq, Eq)]
+#[derive(Clone, Copy)]
 pub enum End {
     /// The farm had no run to hand out.
     Idle,

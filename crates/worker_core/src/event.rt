@@ -4,7 +4,7 @@ use crate::Tested;
 use farm_types::Key;
 
 /// What came of the last action.
-#[derive(Clone, Copy, PartialEq, Eq)]
+#[derive(Clone, Copy)]
 pub enum Event {
     /// Nothing was done yet.
     Begin,

@@ -3,7 +3,7 @@
 use weight_exact::Verdict;
 
 /// What is said of a tree once its test was to be run.
-#[derive(Clone, Copy, PartialEq, Eq)]
+#[derive(Clone, Copy)]
 pub enum Tested {
     /// The test ran to its end, and passed or failed.
     Verdict(Verdict),

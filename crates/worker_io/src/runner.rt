@@ -8,7 +8,7 @@ use farm_types::{CommitId, Name};
 use worker_core::Tested;
 
 /// What a run answers.
-#[derive(Clone, Copy, PartialEq, Eq)]
+#[derive(Clone, Copy)]
 pub enum Ran {
     /// The test passed or failed, or the tree can't be tested.
     Tested(Tested),

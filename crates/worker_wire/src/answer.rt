@@ -10,7 +10,7 @@ use serde_json::Value;
 use std::alloc::Global;
 
 /// A run that was handed out.
-#[derive(PartialEq, Eq, Drop)]
+#[derive(Drop)]
 pub struct LeaseAnswer {
     /// The number of the run, from 1.
     pub run: u32,
@@ -21,7 +21,7 @@ pub struct LeaseAnswer {
 }
 
 /// Why a body is no answer to a lease.
-#[derive(Clone, Copy, PartialEq, Eq)]
+#[derive(Clone, Copy)]
 pub enum AnswerFault {
     /// It is no JSON object that has the members in their forms.
     Shape,

@@ -6,7 +6,7 @@ ghost use Rattle.farm_disk.specs.DiskFault.{kept_at, kept_next, plan_after};
 use std::marker::Model;
 
 /// A call of a disk that is to fail.
-#[derive(Clone, Copy, PartialEq, Eq)]
+#[derive(Clone, Copy)]
 pub struct DiskFail {
     /// Its number, counted from 1 since the disk was made, all kinds of call together but for `faults`.
     pub call: u64,

@@ -4,7 +4,7 @@ use crate::Clock;
 use farm_types::Moment;
 
 /// A clock that stands still at a moment, and tells it.
-#[derive(Clone, Copy, PartialEq, Eq)]
+#[derive(Clone, Copy)]
 pub struct MemClock {
     at: Moment,
 }

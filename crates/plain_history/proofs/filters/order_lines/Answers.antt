@@ -3,7 +3,7 @@ use Rattle.std.specs.List.{cons_option}
 use Rattle.farm_entry.specs.History.{order_in, order_lines}
 use Rattle.farm_entry.specs.declared.order_page.OrderLine.{OrderLine}
 use Rattle.plain_history.proofs.Passes.{order_lines-upto}
-use Rattle.plain_farm.proofs.lists.order_lines.Goals as goal
+use Rattle.plain_history.proofs.filters.order_lines.Goals as goal
 
 pub loop-entry-preserved : goal.loop-entry-preserved
 loop-entry-preserved c =

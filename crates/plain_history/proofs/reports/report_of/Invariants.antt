@@ -2,7 +2,7 @@ use Rattle.std.proofs.Common.{◌≡◌, drop, find}
 use Rattle.std.specs.Option.{option_and_then}
 use Rattle.farm_entry.specs.History.{is_report_of}
 use Rattle.farm_entry.specs.RunPages.{report_of, report_shown}
-use Rattle.plain_farm.proofs.lists.report_of.Given as goal
+use Rattle.plain_history.proofs.reports.report_of.Given as goal
 
 abbrev pub invariant-loop-entry : goal.invariant-loop-entry
 invariant-loop-entry l =
