@@ -8,7 +8,7 @@ use std::alloc::{AllocError, AllocFailed};
 use thiserror::Error;
 
 /// Why bytes could not be read as entries.
-#[derive(Clone, Copy, Debug, PartialEq, Eq, Error)]
+#[derive(Clone, Copy, Debug, Error)]
 pub enum CodecFault {
     /// The bytes before this offset are entries, and at the offset, which isn't the end, no other one begins.
     #[error("the bytes from offset {0} on begin with no entry")]

@@ -15,7 +15,7 @@ use std::marker::Model;
 use thiserror::Error;
 
 /// Why an entry was not admitted.
-#[derive(Clone, Copy, Debug, PartialEq, Eq, Error)]
+#[derive(Clone, Copy, Debug, Error)]
 pub enum AdmitFault {
     /// No command makes this entry the next one.
     #[error("the entry can't come next")]

@@ -14,7 +14,7 @@ pub enum Prepared {
 }
 
 /// Why a command was not prepared.
-#[derive(Clone, Copy, Debug, PartialEq, Eq, Error)]
+#[derive(Clone, Copy, Debug, Error)]
 pub enum CoreFault {
     /// The farm refuses the command.
     #[error("{0}")]

@@ -100,7 +100,7 @@ pub enum What {
 }
 
 /// What a report did to its search.
-#[derive(Clone, Copy, PartialEq, Eq, Hash)]
+#[derive(Clone, Copy, PartialEq, Eq)]
 pub enum Fate {
     /// It counts among the runs of the search, or among the reruns that verify it.
     Counted,
@@ -112,7 +112,7 @@ pub enum Fate {
 }
 
 /// What a report did to its search that says that the run's tree can't be tested.
-#[derive(Clone, Copy, PartialEq, Eq, Hash)]
+#[derive(Clone, Copy, PartialEq, Eq)]
 pub enum SkipFate {
     /// It closes the run's position: the search runs nothing there any more.
     Taken,

@@ -3,7 +3,7 @@ use farm_types::Stage;
 use weight_exact::Verdict;
 
 /// A run that was handed out, as its entry says.
-#[derive(Clone, Copy, PartialEq, Eq, Hash)]
+#[derive(Clone, Copy)]
 pub struct LeasedRun {
     /// The number of the run, from 1.
     pub run: u32,
@@ -38,7 +38,7 @@ pub struct SkippedRun {
 }
 
 /// A run that can be handed out.
-#[derive(Clone, Copy, PartialEq, Eq, Hash)]
+#[derive(Clone, Copy)]
 pub struct DueRun {
     /// The search that the run is for.
     pub search: u32,

@@ -6,7 +6,7 @@ use thiserror::Error;
 use weight_exact::MAX_WIDTH;
 
 /// Why a farm refuses a command. A refused command changes nothing, and its key stays unused.
-#[derive(Clone, Copy, Debug, PartialEq, Eq, Error)]
+#[derive(Clone, Copy, Debug, Error)]
 pub enum Refusal {
     /// The search can't be opened as it was asked for.
     #[error("the search can't be opened: {0}")]
@@ -50,7 +50,7 @@ pub enum Refusal {
 }
 
 /// Why a search can't be opened. Where several causes stand, the first in this order is answered.
-#[derive(Clone, Copy, Debug, PartialEq, Eq, Error)]
+#[derive(Clone, Copy, Debug, Error)]
 pub enum OpenFault {
     /// The suspects make no range. Running out of memory isn't said in this way.
     #[error(transparent)]

@@ -118,7 +118,7 @@ pub struct SearchPage {
 }
 
 /// What is counted of a farm.
-#[derive(Clone, Copy, PartialEq, Eq, Hash)]
+#[derive(Clone, Copy)]
 pub struct Totals {
     /// The entries of the history.
     pub entries: u64,

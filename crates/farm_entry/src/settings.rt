@@ -15,7 +15,7 @@ pub const MAX_DAILY: u32 = 1_000;
 
 /// What a farm is founded with, and keeps: how long a lease lasts, how many orders to revert a day may have, and where
 /// its days begin.
-#[derive(Clone, Copy, PartialEq, Eq, Hash)]
+#[derive(Clone, Copy, PartialEq, Eq)]
 pub struct Settings {
     lease_ms: u32,
     daily: u32,
@@ -26,7 +26,7 @@ pub struct Settings {
 }
 
 /// Why three numbers are no settings: the first of them that is outside its limits.
-#[derive(Clone, Copy, Debug, PartialEq, Eq, Error)]
+#[derive(Clone, Copy, Debug, Error)]
 pub enum SettingsFault {
     /// A lease of this many milliseconds is shorter than [`LEASE_MIN_MS`] or longer than [`LEASE_MAX_MS`].
     #[error("a lease lasts {min} to {max} ms, and not {0}", min = LEASE_MIN_MS, max = LEASE_MAX_MS)]

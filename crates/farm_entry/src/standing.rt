@@ -1,7 +1,7 @@
 use std::fmt;
 
 /// Where a search stands. A culprit is named by its position, which is from 1 on. All but the first two are ends.
-#[derive(Clone, Copy, Debug, PartialEq, Eq, Hash)]
+#[derive(Clone, Copy, Debug)]
 pub enum Standing {
     /// No hypothesis has reached the bar yet.
     Searching,

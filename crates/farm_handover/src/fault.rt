@@ -4,7 +4,7 @@ use farm_types::Memory;
 use thiserror::Error;
 
 /// Why an input hands nothing over.
-#[derive(Clone, Copy, Debug, PartialEq, Eq, Error)]
+#[derive(Clone, Copy, Debug, Error)]
 pub enum HandoverFault {
     /// The line with this number, counted from 1, is the first outside the form; one past the last where the line
     /// `closed N` is missing.

@@ -2,7 +2,7 @@
 use thiserror::Error;
 
 /// Why no journal was created.
-#[derive(Clone, Copy, Debug, PartialEq, Eq, Error)]
+#[derive(Clone, Copy, Debug, Error)]
 pub enum CreateFault {
     /// The disk holds something already: it isn't unborn.
     #[error("the journal is already founded")]
@@ -21,7 +21,7 @@ pub enum CreateFault {
 }
 
 /// Why no journal was opened.
-#[derive(Clone, Copy, Debug, PartialEq, Eq, Error)]
+#[derive(Clone, Copy, Debug, Error)]
 pub enum OpeningFault {
     /// Nothing was created there yet.
     #[error("the journal has not been founded")]
@@ -43,7 +43,7 @@ pub enum OpeningFault {
 }
 
 /// Why nothing was acknowledged.
-#[derive(Clone, Copy, Debug, PartialEq, Eq, Error)]
+#[derive(Clone, Copy, Debug, Error)]
 pub enum JournalFault {
     /// The disk failed: its count of faults before the call, and after it.
     #[error("the journal could not be used")]

@@ -28,7 +28,7 @@ pub struct Draft {
 }
 
 /// Why no order can be given. Where both causes stand, the first is answered.
-#[derive(Clone, Copy, Debug, PartialEq, Eq, Error)]
+#[derive(Clone, Copy, Debug, Error)]
 pub enum NoOrder {
     /// Each candidate's commit has an order already, or there is no candidate.
     #[error("no confirmed search is left without a revert order")]

@@ -57,7 +57,7 @@ pub struct Part {
 }
 
 /// Why a call was not answered.
-#[derive(Clone, Copy, Debug, PartialEq, Eq, Error)]
+#[derive(Clone, Copy, Debug, Error)]
 pub enum CallFault {
     /// The farm refuses the command.
     #[error("{0}")]

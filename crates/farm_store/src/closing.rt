@@ -11,7 +11,7 @@ use farm_types::Moment;
 use thiserror::Error;
 
 /// Why a farm was not closed.
-#[derive(Clone, Copy, Debug, PartialEq, Eq, Error)]
+#[derive(Clone, Copy, Debug, Error)]
 pub enum CloseFault {
     /// A search goes on, or an order is still to be taken.
     #[error("the farm has active searches or orders to take")]

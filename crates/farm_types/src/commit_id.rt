@@ -14,7 +14,7 @@ pub const ID_DIGITS: usize = 40;
 
 /// The id of a commit: 20 bytes, which git writes as 40 hexadecimal digits. Ids are equal exactly where their bytes
 /// are, and are ordered as their bytes are, the first byte first.
-#[derive(Clone, Copy, PartialEq, Eq, PartialOrd, Ord, Hash)]
+#[derive(Clone, Copy, PartialEq, Eq)]
 pub struct CommitId {
     bytes: [u8; ID_BYTES],
     ghost whole: { length bytes ≡ ID_BYTES },
@@ -22,7 +22,7 @@ pub struct CommitId {
 }
 
 /// Why a text is no commit's id.
-#[derive(Clone, Copy, Debug, PartialEq, Eq, Error)]
+#[derive(Clone, Copy, Debug, Error)]
 pub enum IdFault {
     /// The text has this many bytes, and not 40.
     #[error("a commit id has 40 digits, and this text has {0} bytes")]

@@ -15,14 +15,14 @@ pub const LAST_DAY: u32 = 47_482;
 
 /// A moment in time: milliseconds since 1970-01-01 in UTC with no leap seconds, from [`MOMENT_MIN_MS`] to
 /// [`MOMENT_MAX_MS`]. Moments are ordered as their numbers are.
-#[derive(Clone, Copy, PartialEq, Eq, PartialOrd, Ord, Hash)]
+#[derive(Clone, Copy, PartialEq, Eq)]
 pub struct Moment {
     ms: u64,
     ghost in_range: { IsMoment ms },
 }
 
 /// The number that is no moment, since it lies before [`MOMENT_MIN_MS`] or after [`MOMENT_MAX_MS`].
-#[derive(Clone, Copy, Debug, PartialEq, Eq, Error)]
+#[derive(Clone, Copy, Debug, Error)]
 #[error("{0} ms after 1970-01-01 is no moment, which is at {min} to {max} ms", min = MOMENT_MIN_MS, max = MOMENT_MAX_MS)]
 pub struct MomentFault(pub u64);
 

@@ -80,7 +80,7 @@ impl Ord for Name {
 }
 
 /// Why a text is no name, or could not be kept as one.
-#[derive(Clone, Copy, Debug, PartialEq, Eq, Error)]
+#[derive(Clone, Copy, Debug, Error)]
 pub enum NameFault {
     /// The text has this many bytes, and not 1 to 200.
     #[error("a name has 1 to 200 bytes, and this text has {0}")]

@@ -1,5 +1,5 @@
 /// What a run of a test is for.
-#[derive(Clone, Copy, PartialEq, Eq, PartialOrd, Ord, Hash)]
+#[derive(Clone, Copy, PartialEq, Eq)]
 pub enum Stage {
     /// To find the culprit among the suspects.
     Search,

@@ -4,7 +4,7 @@ ghost use Rattle.farm_wire.specs.Fields.{field_name};
 use std::fmt;
 
 /// The members of a JSON object that a command is read from, and the numbers in the path of a page.
-#[derive(Clone, Copy, Debug, PartialEq, Eq, Hash)]
+#[derive(Clone, Copy, Debug, PartialEq, Eq)]
 pub enum Field {
     /// When a script line is asked: a moment.
     At,

@@ -55,7 +55,7 @@ impl Bar {
 }
 
 /// Two numbers that are no bar, as they were given.
-#[derive(Clone, Copy, Debug, PartialEq, Eq)]
+#[derive(Clone, Copy, Debug)]
 pub struct BarFault {
     /// The numerator as given.
     pub t: u32,

@@ -82,7 +82,7 @@ impl Miss {
 }
 
 /// Two numbers that are no miss rate, as they were given.
-#[derive(Clone, Copy, Debug, PartialEq, Eq)]
+#[derive(Clone, Copy, Debug)]
 pub struct MissFault {
     /// The numerator as given.
     pub c: u32,

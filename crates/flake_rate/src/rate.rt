@@ -66,7 +66,7 @@ impl Rate {
 }
 
 /// Two numbers that are no flake rate, as they were given.
-#[derive(Clone, Copy, Debug, PartialEq, Eq)]
+#[derive(Clone, Copy, Debug)]
 pub struct RateFault {
     /// The numerator as given.
     pub a: u32,

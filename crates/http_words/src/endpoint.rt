@@ -3,7 +3,7 @@
 use crate::Route;
 
 /// What a request asks for by its method and path.
-#[derive(Clone, Copy, PartialEq, Eq, Hash)]
+#[derive(Clone, Copy)]
 pub enum Endpoint {
     /// A command at the farm.
     Command(Route),

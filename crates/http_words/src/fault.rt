@@ -1,7 +1,7 @@
 //! Why a request is answered without a command.
 
 /// The methods that a path allows.
-#[derive(Clone, Copy, PartialEq, Eq, Hash)]
+#[derive(Clone, Copy)]
 pub enum Allow {
     /// `POST` alone.
     Post,
@@ -10,7 +10,7 @@ pub enum Allow {
 }
 
 /// A number that stands in a path.
-#[derive(Clone, Copy, PartialEq, Eq, Hash)]
+#[derive(Clone, Copy)]
 pub enum PathField {
     /// The number of a run.
     Run,
@@ -21,7 +21,7 @@ pub enum PathField {
 }
 
 /// Why a request is answered without a command.
-#[derive(Clone, Copy, PartialEq, Eq, Hash)]
+#[derive(Clone, Copy)]
 pub enum Fault {
     /// The head can't be read, HTTP/1.1 comes without exactly one `Host` field, `Content-Length` stands twice or is no
     /// number, or the input ends before the body does.

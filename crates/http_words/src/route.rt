@@ -1,7 +1,7 @@
 //! Which command a request asks for.
 
 /// Which command a request asks for by its method and path, with the numbers that stand in the path.
-#[derive(Clone, Copy, PartialEq, Eq, Hash)]
+#[derive(Clone, Copy)]
 pub enum Route {
     /// To open a search.
     Open,

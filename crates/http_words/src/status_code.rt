@@ -1,7 +1,7 @@
 //! The statuses of answers.
 
 /// The status of an answer (RFC 9110, section 15, and RFC 6585).
-#[derive(Clone, Copy, PartialEq, Eq, Hash)]
+#[derive(Clone, Copy)]
 pub enum StatusCode {
     /// 200: what was asked for was done, or is shown.
     Ok,

@@ -8,7 +8,7 @@ use std::alloc::{AllocError, AllocFailed};
 use thiserror::Error;
 
 /// Why a page was not taken, or a leader not followed.
-#[derive(Clone, Copy, Debug, PartialEq, Eq, Error)]
+#[derive(Clone, Copy, Debug, Error)]
 pub enum FollowFault {
     /// A page begins past the entry behind those that are held.
     #[error("the entries before {from} are not held")]

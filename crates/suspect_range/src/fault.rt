@@ -3,7 +3,7 @@ use weight_exact::{MAX_CALM, MAX_SUSPECTS, MAX_WEIGHT};
 
 /// Why suspects make no range. Where several causes stand, the first in this order is answered. Positions count the
 /// suspects from 1, since the base has position 0.
-#[derive(Clone, Copy, Debug, PartialEq, Eq, Error)]
+#[derive(Clone, Copy, Debug, Error)]
 pub enum RangeFault {
     /// There is no suspect.
     #[error("there is no suspect")]
