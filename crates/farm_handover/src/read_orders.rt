@@ -5,9 +5,8 @@ ghost use Rattle.farm_entry.specs.declared.limits.TheConstants.{MAX_CARRIED};
 ghost use Rattle.farm_handover.specs.Handover.{is_further};
 
 use farm_entry::MAX_CARRIED;
-use farm_rules::OrderedCommit;
+use farm_rules::{OrderedCommit, Orders};
 use farm_types::Memory;
-use revert_orders::Orders;
 use std::alloc::Global;
 
 /// The orders that were read so far, with their book, which tells whether a commit is among them.

@@ -8,7 +8,7 @@ use Rattle.farm_rules.specs.Orders as rules
 use Rattle.farm_rules.proofs.Drafts.{next_draft-ok}
 use Rattle.farm_types.specs.Moment.{moment_ms}
 use Rattle.farm_types.specs.declared.moment.Moment.{Moment}
-use Rattle.revert_orders.specs.Book.{Book}
+use Rattle.farm_rules.specs.Book.{Book}
 use Rattle.farm_entry.specs.History.{carried_in, daily_limit, order_in, order_lines, ordered_in}
 use Rattle.farm_entry.specs.Legal.{IsLegal}
 use Rattle.farm_entry.specs.Orders.{carried, confirmed_searches, day_in, orders}

@@ -6,7 +6,7 @@ use Rattle.std.proofs.lemmas.List.Elements.{All-contains_itself, All-nil}
 use Rattle.farm_rules.specs.Orders.{Ordered, candidates, draft_of, earliest, has_order, next_draft, orders_of}
 use Rattle.farm_rules.specs.declared.orders.Candidate.{Candidate}
 use Rattle.farm_rules.proofs.Earliest.{earliest-first}
-use Rattle.revert_orders.proofs.Earliest.{earliest-free}
+use Rattle.farm_rules.proofs.EarliestFound.{earliest-free}
 use Rattle.farm_rules.specs.declared.orders.Draft.{Draft}
 use Rattle.farm_rules.specs.declared.orders.NoOrder.{NoOrder}
 use Rattle.farm_entry.specs.Closing.{has_order_to_take}

@@ -3,7 +3,7 @@ use Rattle.std.specs.Prelude.{◌≡◌, ℕ, ◌+◌, ◌-◌, ◌<◌, ◌≤�
 use Rattle.farm_rules.specs.Orders.{has_order}
 use Rattle.farm_rules.specs.Orders as rules
 use Rattle.farm_rules.specs.declared.orders.Draft.{Draft}
-use Rattle.revert_orders.specs.Book.{Book, ordered}
+use Rattle.farm_rules.specs.Book.{Book, ordered}
 use Rattle.farm_entry.specs.declared.entry.What.{What}
 use Rattle.farm_entry.specs.declared.entry.What.TheVariants.{Ordered, Carried}
 use Rattle.farm_ledger.specs.declared.notes.Booking.{Booking}

@@ -8,10 +8,9 @@ ghost use Rattle.farm_ledger.specs.Booked.{MayBook, booking_in, given_in, is_boo
 ghost use Rattle.farm_ledger.specs.Rows.{blank, row_numbered, with_lease, with_row, without_lease, without_row};
 
 use farm_entry::{Entry, LeasedRun, Opening, Standing, What};
-use farm_rules::{Candidate, Draft, OrderedCommit};
+use farm_rules::{Candidate, Draft, OrderedCommit, Orders, day_of};
 use farm_types::{Memory, Moment};
 use plain_history::zone_minutes;
-use revert_orders::{Orders, day_of};
 
 /// What is kept of a search beside its state: the place of the entry that opened it, and how many of its runs were
 /// handed out.

@@ -14,12 +14,11 @@ use crate::notes::{
     take_order, take_row,
 };
 use farm_entry::{Entry, Opening, Settings, What};
-use farm_rules::{Candidate, Draft, NoOrder};
+use farm_rules::{Candidate, Draft, NoOrder, Orders};
 use farm_state::FarmState;
 use farm_turns::FarmTurns;
 use farm_types::{CommitId, Memory, Moment};
 use plain_history::daily_limit;
-use revert_orders::Orders;
 use std::alloc::Global;
 use std::marker::Model;
 

@@ -5,3 +5,10 @@ pub mod Days
 pub mod PlanEntries
 pub mod Rulings
 pub mod Noted
+pub mod Dates
+pub mod OrderDays
+pub mod EarliestFound
+pub mod ChainEnds
+pub mod ChainItems
+pub mod ChainTops
+pub mod ChainWalks

@@ -6,3 +6,6 @@ pub mod Day
 pub mod Verification
 pub mod StandsFor
 pub mod Answer
+pub mod Book
+pub mod Earlier
+pub mod OrderChains

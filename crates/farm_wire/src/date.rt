@@ -12,5 +12,5 @@ pub(crate) fn day_text(alloc: Global, day: u32) -> Result<String, Memory>
     requires { day ≤ LAST_DAY }
     ensures { IfOk result (λ text. string_bytes text ≡ day_text day) }
 {
-    revert_orders::date_text(alloc, day)
+    farm_rules::date_text(alloc, day)
 }

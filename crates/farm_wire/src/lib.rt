@@ -7,8 +7,8 @@
 //!
 //! The crate stands on `farm_entry` for commands, replies and refusals, on `farm_laws` for the days that a legal
 //! history's replies show, on `farm_types`, `suspect_range`, `flake_rate` and `weight_exact` for the values in them, on
-//! `http_words` for routes, on `revert_orders` and `jiff` for dates, on `json_tape` for what is read, on `serde_json`
-//! and `json` for what is written, on `itoa` and `simdutf8` for digits, on `uuid` for keys, on `hex` for ids, and on
+//! `http_words` for routes, on `farm_rules` and `jiff` for dates, on `json_tape` for what is read, on `serde_json` and
+//! `json` for what is written, on `itoa` and `simdutf8` for digits, on `uuid` for keys, on `hex` for ids, and on
 //! `thiserror` for the texts of its faults. The layers above may use every name below. What a text says is defined by
 //! `line_reading` and `body_reading` of `specs/`, over the value that `serde_json` reads; what is written is
 //! `serde_json`'s text of `reply_data`, `refusal_data` and `fault_data`. Replies are written member by member into one

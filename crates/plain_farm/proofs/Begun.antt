@@ -17,7 +17,7 @@ use Rattle.farm_entry.specs.declared.entry.Entry.{Entry}
 use Rattle.farm_entry.specs.declared.entry.What.{What}
 use Rattle.farm_entry.specs.declared.entry.What.TheVariants.{Carried}
 use Rattle.farm_entry.specs.declared.limits.TheConstants.{MAX_ENTRIES}
-use Rattle.revert_orders.specs.Book.{Book}
+use Rattle.farm_rules.specs.Book.{Book}
 use Rattle.plain_farm.specs.Begun.{CanBeKept, HasBegun, IsCarriedOn, IsKept}
 use Rattle.plain_history.proofs.Holding.{length-filter_map-le}
 

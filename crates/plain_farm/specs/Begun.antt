@@ -8,7 +8,7 @@ use Rattle.farm_entry.specs.Closing.{begins_at}
 use Rattle.farm_entry.specs.Legal.{IsLegal, IsNext}
 use Rattle.farm_entry.specs.Orders.{orders}
 use Rattle.farm_entry.specs.declared.entry.Entry.{Entry}
-use Rattle.revert_orders.specs.Book.{Book}
+use Rattle.farm_rules.specs.Book.{Book}
 
 -- only a founding and carried orders stand in a history, all at this moment, and their orders are those kept
 pub record HasBegun (H : List Entry) (at : Moment) (book : Book) : Type 0 where

@@ -6,9 +6,8 @@ ghost use Rattle.farm_entry.specs.Legal.{IsLegal};
 ghost use Rattle.plain_farm.specs.Begun.{CanBeKept, HasBegun, IsBeginning, IsCarriedOn, IsKept};
 
 use farm_entry::{Entry, MAX_ENTRIES, What};
-use farm_rules::OrderedCommit;
+use farm_rules::{OrderedCommit, Orders};
 use farm_types::{LAST_DAY, Memory, Moment};
-use revert_orders::Orders;
 use std::alloc::Global;
 
 /// Whether a carried order may come next at the moment at which a history begins, by the orders that are kept of it.

@@ -15,10 +15,9 @@ ghost use Rattle.plain_history.specs.Held.{IsHeld};
 use crate::kept::standing_by;
 use crate::rows::Row;
 use farm_entry::{Entry, Opening, Standing, What};
-use farm_rules::{Candidate, Draft, NoOrder, OrderedCommit};
+use farm_rules::{Candidate, Draft, NoOrder, OrderedCommit, day_of};
 use farm_types::{CommitId, Memory, Moment};
 use plain_history::{daily_limit, orders, orders_count, push_some, zone_minutes};
-use revert_orders::day_of;
 use std::alloc::Global;
 
 /// The day of a moment in the farm's zone, in days since 1970-01-01.

@@ -1,7 +1,0 @@
-use Rattle.std.proofs.Common.{sym}
-use Rattle.revert_orders.proofs.Earliest.{earliest-free}
-use Rattle.revert_orders.proofs.orders.Orders.next.Goals as goal
-
-pub returns-clause-free : goal.returns-clause-free
-returns-clause-free c =
-    earliest-free c.args.confirmed.now c.args.self.now.orders c.in-Some.chosen (sym c.in-Some.ensures)

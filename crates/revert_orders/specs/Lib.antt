@@ -1,3 +1,0 @@
-pub mod Book
-pub mod Earlier
-pub mod Chains
