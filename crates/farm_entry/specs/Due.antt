@@ -4,7 +4,7 @@ use Rattle.std.specs.List.{filter_map}
 use Rattle.std.specs.Option.{option_map}
 use Rattle.farm_types.specs.declared.stage.Stage.{Stage}
 use Rattle.farm_types.specs.declared.stage.Stage.TheVariants.{Search, Verify}
-use Rattle.open_positions.specs.Open.{open_plan}
+use Rattle.threshold_pick.specs.Open.{open_plan}
 use Rattle.farm_rules.specs.Due.{due_search, due_verify}
 use Rattle.farm_rules.specs.Reruns.{reruns_at}
 use Rattle.farm_entry.specs.History.{is_reported, last_lease, leases, openings, reruns, runs, same_stage, skipped}

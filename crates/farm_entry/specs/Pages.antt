@@ -1,7 +1,7 @@
 -- What is shown of a farm.
 use Rattle.std.specs.Prelude.{ℕ, Bool, not, ◌&&◌, List, length, map, filter, count_by}
 use Rattle.std.specs.List.{range_with_len}
-use Rattle.open_positions.specs.Open.{is_skipped}
+use Rattle.threshold_pick.specs.Open.{is_skipped}
 use Rattle.weight_exact.specs.Share.{basis_points}
 use Rattle.weight_exact.specs.Weights.{hypotheses}
 use Rattle.farm_entry.specs.History.{is_counted, leases, openings, order_lines, reports, reruns, runs, skipped}

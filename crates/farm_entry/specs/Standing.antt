@@ -1,7 +1,7 @@
 -- Where a search stands in a history.
 use Rattle.std.specs.Prelude.{ℕ, ◌-◌, ◌==◌, nat_lt, Bool, true, false, ◌&&◌, ◌||◌, List, count_by, if◌then◌else◌, Option, Some, None}
-use Rattle.open_positions.specs.Blocks.{is_hidden}
-use Rattle.open_positions.specs.Open.{is_skipped}
+use Rattle.threshold_pick.specs.HiddenBlocks.{is_hidden}
+use Rattle.threshold_pick.specs.Open.{is_skipped}
 use Rattle.weight_exact.specs.Counts.{is_fail_at, is_pass_at}
 use Rattle.weight_exact.specs.Share.{reached}
 use Rattle.weight_exact.specs.Weights.{hypotheses}

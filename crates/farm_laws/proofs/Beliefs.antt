@@ -14,8 +14,8 @@ use Rattle.weight_exact.specs.declared.limits.TheConstants.{BASIS_POINTS}
 use Rattle.weight_exact.specs.declared.run.Run.{Run}
 use Rattle.weight_exact.proofs.FactorNumbers.{fail_in_positive, fail_out_positive, pass_out_positive}
 use Rattle.weight_exact.proofs.Shares.{total_positive}
-use Rattle.open_positions.specs.Blocks.{is_hidden}
-use Rattle.open_positions.specs.Open.{open_pick}
+use Rattle.threshold_pick.specs.HiddenBlocks.{is_hidden}
+use Rattle.threshold_pick.specs.Open.{open_pick}
 use Rattle.posterior.specs.Kept.{Kept, at}
 use Rattle.posterior.specs.StandsFor.{StandsFor}
 use Rattle.threshold_pick.specs.Blocks.{CanHalve, is_hidden_in}

@@ -9,7 +9,7 @@ use Rattle.farm_types.specs.declared.stage.Stage.{Stage}
 use Rattle.farm_types.specs.declared.stage.Stage.TheVariants.{Search, Verify}
 use Rattle.farm_rules.specs.Due.{due_search, due_verify, first_entry, struck, times_at}
 use Rattle.farm_rules.specs.Reruns.{reruns_at}
-use Rattle.open_positions.specs.Open.{open_plan}
+use Rattle.threshold_pick.specs.Open.{open_plan}
 use Rattle.farm_entry.specs.Due.{due_at, due_searching, due_verifying, open_leases, outstanding_positions}
 use Rattle.farm_entry.specs.History.{reruns, runs, same_stage, skipped}
 use Rattle.farm_entry.specs.Setup.{setup_of}

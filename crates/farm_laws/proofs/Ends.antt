@@ -1,7 +1,7 @@
 -- What a search names stays, and so does how it ended.
 use Rattle.std.proofs.Common.{◌≡◌, ◌≢◌, ◌⊎◌, inl, inr, ℕ, ◌≤◌, Bool, true, false, not, ◌&&◌, ◌||◌, if◌then◌else◌, List, [], ◌∷◌, ◌++◌, Contains, Some, refl, sym, ap, subst, ◌∙◌, arith, true≢false, ⊎_elim}
 use Rattle.std.specs.Option.{is_none}
-use Rattle.open_positions.specs.Blocks.{is_hidden}
+use Rattle.threshold_pick.specs.HiddenBlocks.{is_hidden}
 use Rattle.std.proofs.lemmas.Bool.{cases_Bool}
 use Rattle.farm_types.specs.declared.stage.Stage.TheVariants.{Search}
 use Rattle.weight_exact.specs.Load.{load}

@@ -10,7 +10,7 @@ use Rattle.farm_types.specs.Moment.{moment_ms}
 use Rattle.farm_types.specs.declared.stage.Stage.{Stage}
 use Rattle.farm_types.specs.declared.stage.Stage.TheVariants.{Search, Verify}
 use Rattle.weight_exact.specs.Load.{floor}
-use Rattle.open_positions.specs.Open.{is_skipped, open_plan}
+use Rattle.threshold_pick.specs.Open.{is_skipped, open_plan}
 use Rattle.weight_exact.specs.Share.{IsReached}
 use Rattle.weight_exact.specs.Weights.{AreInRange, Setup, hypotheses, suspects, total}
 use Rattle.weight_exact.specs.declared.run.Run.{Run}

@@ -4,7 +4,7 @@ use Rattle.std.specs.List.{cons_option, filter_map, range_with_len}
 use Rattle.std.proofs.lemmas.List.Elements.{All-contains_itself, All-weaker}
 use Rattle.std.proofs.lemmas.List.FromFn.{length-range_with_len}
 use Rattle.std.proofs.lemmas.Option.{none-some}
-use Rattle.open_positions.specs.Open.{is_open, is_skipped, nearer, nearest_open, open_pick, open_plan}
+use Rattle.threshold_pick.specs.Open.{is_open, is_skipped, nearer, nearest_open, open_pick, open_plan}
 use Rattle.weight_exact.specs.Load.{floor}
 use Rattle.weight_exact.specs.Plan.{distance}
 use Rattle.weight_exact.specs.Weights.{Setup, cumulative, suspects, total}

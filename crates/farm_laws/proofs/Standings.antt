@@ -5,7 +5,7 @@ use Rattle.std.proofs.lemmas.Bool.{and_parts, cases_Bool, cases_lt}
 use Rattle.std.proofs.lemmas.Bool.Decides.{nat_tests}
 use Rattle.std.proofs.lemmas.Option.{none-some}
 use Rattle.farm_rules.specs.Reruns.{Outcome, confirmed, outcome, verifying, vindicating}
-use Rattle.open_positions.specs.Blocks.{is_hidden}
+use Rattle.threshold_pick.specs.HiddenBlocks.{is_hidden}
 use Rattle.weight_exact.specs.Load.{floor}
 use Rattle.weight_exact.specs.Share.{reached}
 use Rattle.weight_exact.specs.Weights.{Setup, hypotheses, sum_to, suspects, total, weight}

@@ -7,9 +7,9 @@ use Rattle.farm_types.specs.Moment.{moment_ms}
 use Rattle.farm_types.specs.declared.moment.Moment.{Moment}
 use Rattle.farm_types.specs.declared.stage.Stage.TheVariants.{Search}
 use Rattle.farm_rules.specs.Due.{due_search}
-use Rattle.open_positions.proofs.Blocks.{is_hidden-nothing_skipped}
-use Rattle.open_positions.proofs.Plans.{open_plan-nothing_skipped}
-use Rattle.open_positions.specs.Open.{open_plan}
+use Rattle.threshold_pick.proofs.HiddenBlocks.{is_hidden-nothing_skipped}
+use Rattle.threshold_pick.proofs.PlansOverOpen.{open_plan-nothing_skipped}
+use Rattle.threshold_pick.specs.Open.{open_plan}
 use Rattle.weight_exact.specs.Budget.{budget_of}
 use Rattle.weight_exact.specs.Example.{fail_at}
 use Rattle.weight_exact.specs.Load.{floor, load}

@@ -4,7 +4,7 @@ use Rattle.std.proofs.lemmas.Bool.{eqb-true}
 use Rattle.std.proofs.lemmas.Bool.Decides.{nat_tests}
 use Rattle.std.proofs.lemmas.Option.{none-some}
 use Rattle.farm_rules.specs.Reruns.{Outcome, confirmed, outcome, verifying, vindicating}
-use Rattle.open_positions.specs.Blocks.{is_hidden}
+use Rattle.threshold_pick.specs.HiddenBlocks.{is_hidden}
 use Rattle.judge.specs.Fates.{standing_by}
 use Rattle.judge.specs.declared.standing.JudgeStanding.TheVariants as judged
 use Rattle.weight_exact.specs.Weights.{hypotheses}

@@ -1,9 +1,9 @@
 -- Whether hypotheses that can't be told apart any more are at the bar together, both ways; and whether a position is open.
 use Rattle.std.proofs.Common.{◌≡◌, ℕ, zero, suc, ◌+◌, ◌-◌, ◌<◌, ◌≤◌, ◌⊎◌, inl, inr, ⊎_elim, Bool, true, false, not, List, Contains, None, refl, sym, subst, ◌∙◌, arith, true≢false}
 use Rattle.std.proofs.lemmas.Bool.{cases_Bool, cases_lt, false_from_ne_true}
-use Rattle.open_positions.specs.Blocks.{first_at, is_hidden, last_below, middle}
-use Rattle.open_positions.specs.Open.{is_open, is_skipped}
-use Rattle.open_positions.proofs.Blocks.{IsHidden-from_test, is_hidden-from_IsHidden, is_hidden-none_open}
+use Rattle.threshold_pick.specs.HiddenBlocks.{first_at, is_hidden, last_below, middle}
+use Rattle.threshold_pick.specs.Open.{is_open, is_skipped}
+use Rattle.threshold_pick.proofs.HiddenBlocks.{IsHidden-from_test, is_hidden-from_IsHidden, is_hidden-none_open}
 use Rattle.weight_exact.specs.Load.{floor}
 use Rattle.weight_exact.specs.Weights.{suspects}
 use Rattle.farm_entry.specs.History.{openings, runs, skipped}

@@ -8,7 +8,7 @@ use Rattle.std.proofs.lemmas.List.Elements.{All-cons, All-nil}
 use Rattle.std.proofs.lemmas.List.Elements.{filter_map-append}
 use Rattle.std.proofs.lemmas.List.Folds.{list_any-append, list_any_none}
 use Rattle.farm_types.specs.declared.stage.Stage.TheVariants.{Search, Verify}
-use Rattle.open_positions.specs.Open.{open_plan}
+use Rattle.threshold_pick.specs.Open.{open_plan}
 use Rattle.farm_rules.specs.Due.{due_search, due_verify}
 use Rattle.farm_rules.specs.Reruns.{reruns_at}
 use Rattle.farm_entry.specs.Due.{due, due_at, is_open, outstanding_positions, outstanding, outstanding_at}

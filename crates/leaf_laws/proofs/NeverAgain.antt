@@ -10,7 +10,7 @@ use Rattle.farm_types.specs.Moment.{moment_ms}
 use Rattle.farm_types.specs.declared.stage.Stage.TheVariants.{Search, Verify}
 use Rattle.farm_rules.specs.Due.{times_at}
 use Rattle.farm_rules.specs.Reruns.{reruns_at}
-use Rattle.open_positions.specs.Open.{is_skipped}
+use Rattle.threshold_pick.specs.Open.{is_skipped}
 use Rattle.weight_exact.specs.Counts.{is_fail_at, is_pass_at}
 use Rattle.weight_exact.specs.Load.{is_fail}
 use Rattle.weight_exact.specs.declared.run.Run.{Run}

@@ -1,7 +1,7 @@
 -- What a history holds of a search that stands so, said by its entries and by Bayes' rule.
 use Rattle.std.specs.Prelude.{◌≡◌, ℕ, ◌+◌, ◌-◌, ◌<◌, ◌≤◌, ◌⊎◌, true, false, List, Contains, count_by}
-use Rattle.open_positions.specs.Blocks.{IsHidden}
-use Rattle.open_positions.specs.Open.{is_skipped}
+use Rattle.threshold_pick.specs.HiddenBlocks.{IsHidden}
+use Rattle.threshold_pick.specs.Open.{is_skipped}
 use Rattle.weight_exact.specs.Counts.{is_fail_at, is_pass_at}
 use Rattle.weight_exact.specs.Load.{floor}
 use Rattle.weight_exact.specs.Share.{IsReached}

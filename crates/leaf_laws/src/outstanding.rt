@@ -3,7 +3,7 @@ ghost use Rattle.std.specs.Prelude.{◌≡◌, ◌≢◌, ◌↔◌, ℕ, ◌-�
 ghost use Rattle.std.specs.List.{All};
 ghost use Rattle.std.specs.Option.{option_map};
 ghost use Rattle.farm_types.specs.declared.stage.Stage.TheVariants.{Search, Verify};
-ghost use Rattle.open_positions.specs.Open.{is_skipped, open_plan};
+ghost use Rattle.threshold_pick.specs.Open.{is_skipped, open_plan};
 ghost use Rattle.farm_rules.specs.Due.{due_search, due_verify};
 ghost use Rattle.farm_rules.specs.Reruns.{reruns_at};
 ghost use Rattle.farm_entry.specs.Due.{due, is_open, outstanding_positions, outstanding};

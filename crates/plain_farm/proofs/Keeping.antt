@@ -7,7 +7,7 @@ use Rattle.std.proofs.lemmas.Option.{same_Some}
 use Rattle.std.proofs.Math.Seq.{get_or-append_seam}
 use Rattle.std.proofs.Math.ListN.{length-set}
 use Rattle.farm_types.specs.declared.stage.Stage.TheVariants.{Search, Verify}
-use Rattle.open_positions.specs.Open.{open_plan}
+use Rattle.threshold_pick.specs.Open.{open_plan}
 use Rattle.weight_exact.specs.declared.run.Run.{Run}
 use Rattle.farm_entry.specs.History.{opening_in, openings, runs, skipped}
 use Rattle.farm_entry.specs.Legal.{IsLegal, ask_of}

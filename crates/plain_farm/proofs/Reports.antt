@@ -2,7 +2,7 @@
 use Rattle.std.proofs.Common.{◌≡◌, ℕ, ◌==◌, Bool, ◌||◌, not, List, [], ◌++◌, filter, Contains, Option, sym, ap, subst, ◌∙◌}
 use Rattle.std.specs.List.{cons_option}
 use Rattle.farm_types.specs.declared.stage.Stage.TheVariants.{Search, Verify}
-use Rattle.open_positions.specs.Open.{open_plan}
+use Rattle.threshold_pick.specs.Open.{open_plan}
 use Rattle.weight_exact.specs.declared.run.Run.{Run}
 use Rattle.farm_entry.specs.History.{counted, is_over, lease_in, openings, reruns, runs, skipped, was_cancelled, went_over}
 use Rattle.farm_entry.specs.Setup.{setup_of}

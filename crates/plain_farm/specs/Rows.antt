@@ -2,7 +2,7 @@
 -- definition of the farm gives.
 use Rattle.std.specs.Prelude.{◌≡◌, ℕ, true, ◌+◌, ◌<◌, ◌≤◌, ◌&&◌, not, if◌then◌else◌, List, [], ◌∷◌, ◌++◌, length, filter, get_or, Contains, Option, Some, None}
 use Rattle.farm_types.specs.declared.stage.Stage.{Stage}
-use Rattle.open_positions.specs.Open.{open_plan}
+use Rattle.threshold_pick.specs.Open.{open_plan}
 use Rattle.weight_exact.specs.declared.run.Run.{Run}
 use Rattle.farm_entry.specs.Decision.{run_with}
 use Rattle.farm_entry.specs.History.{is_counted, is_reported, is_taken, last_lease, lease_of, leases, openings, report_in, reruns, runs, same_stage, skip_in, skipped, was_cancelled, went_over}

@@ -5,7 +5,7 @@ ghost use Rattle.std.specs.Option.{option_and_then};
 ghost use Rattle.farm_rules.specs.Reruns.{reruns_at};
 ghost use Rattle.farm_types.specs.Moment.{moment_ms};
 ghost use Rattle.farm_types.specs.declared.stage.Stage.TheVariants.{Search, Verify};
-ghost use Rattle.open_positions.specs.Open.{open_pick, open_plan};
+ghost use Rattle.threshold_pick.specs.Open.{open_pick, open_plan};
 ghost use Rattle.farm_entry.specs.Due.{due, due_runs, due_searching, due_verifying, is_open, next_run, open_leases, outstanding_positions, sooner, soonest};
 ghost use Rattle.farm_entry.specs.History.{opening_in, openings, runs, skipped};
 ghost use Rattle.farm_entry.specs.Legal.{IsLegal};
@@ -22,11 +22,10 @@ use crate::standings::{belief, skips};
 use farm_entry::{DueRun, Entry, LeasedRun, Opening, Standing, What};
 use farm_rules::{due_search, due_verify};
 use farm_types::{Memory, Moment, Stage};
-use open_positions::Skips;
 use plain_history::{is_reported, leases, push_some};
 use posterior::Belief;
 use std::alloc::Global;
-use threshold_pick::open_pick_uncounted;
+use threshold_pick::{Skips, open_pick_uncounted};
 use weight_exact::Run;
 
 /// Whether a lease is open at a moment: its run has no report, and its deadline lies later.

@@ -1,7 +1,7 @@
 //! What a decision asks of a search: read off the search's row where one is kept, and else found anew.
 
 ghost use Rattle.std.specs.Prelude.{◌≡◌, ◌&&◌, nat_lt, filter, map, Contains, IfOk};
-ghost use Rattle.open_positions.specs.Open.{open_plan};
+ghost use Rattle.threshold_pick.specs.Open.{open_plan};
 ghost use Rattle.farm_types.specs.Moment.{moment_ms};
 ghost use Rattle.farm_entry.specs.Due.{outstanding_positions};
 ghost use Rattle.farm_entry.specs.History.{last_lease, openings, reruns, runs, same_stage, skipped};

@@ -12,9 +12,9 @@
 //! belief asks for, that runs are in range and within the budget. [`first_illegal`] takes any list.
 //!
 //! It stands on `plain_history` for what a history holds, on `farm_entry` for the types and the definitions, on
-//! `posterior`, `open_positions`, `threshold_pick` and `farm_rules` for the belief of a search, the positions that were
-//! skipped, the position to run next and the day of a moment, and on the crates below them for values. The layer above
-//! may use every name below, and none of its lemmas.
+//! `posterior`, `threshold_pick` and `farm_rules` for the belief of a search, the positions that were skipped, the
+//! position to run next and the day of a moment, and on the crates below them for values. The layer above may use every
+//! name below, and none of its lemmas.
 #![tactic(auto)]
 
 mod beginning;

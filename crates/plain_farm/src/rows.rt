@@ -8,7 +8,7 @@ ghost use Rattle.farm_entry.specs.Legal.{IsLegal};
 ghost use Rattle.farm_entry.specs.Setup.{setup_of};
 ghost use Rattle.farm_entry.specs.Standing.{standing};
 ghost use Rattle.farm_entry.specs.declared.standing.Standing.TheVariants.{Searching};
-ghost use Rattle.open_positions.specs.Open.{open_plan};
+ghost use Rattle.threshold_pick.specs.Open.{open_plan};
 ghost use Rattle.plain_farm.specs.Rows.{AreRows, IsCancelledRow, IsLeasedRow, IsRow, IsSkipOf, IsStep, IsToldOf, closed_position, told_run, unreported};
 
 use crate::due_run::plan_of;

@@ -7,7 +7,7 @@ ghost use Rattle.weight_exact.specs.Counts.{is_fail_at, is_pass_at};
 ghost use Rattle.weight_exact.specs.Share.{reached};
 ghost use Rattle.weight_exact.specs.Weights.{AreInRange};
 ghost use Rattle.weight_exact.specs.declared.limits.TheConstants.{MAX_SUSPECTS};
-ghost use Rattle.open_positions.specs.Blocks.{is_hidden};
+ghost use Rattle.threshold_pick.specs.HiddenBlocks.{is_hidden};
 ghost use Rattle.posterior.specs.StandsFor.{StandsFor};
 ghost use Rattle.farm_entry.specs.History.{openings, runs, skipped};
 ghost use Rattle.farm_entry.specs.Legal.{IsLegal};
@@ -18,11 +18,10 @@ ghost use Rattle.plain_farm.specs.Believed.{IsBelieved};
 
 use farm_entry::{Entry, Opening, Standing};
 use farm_types::Memory;
-use open_positions::Skips;
 use plain_history::{reruns, runs, skipped, was_cancelled, went_over};
 use posterior::Belief;
 use std::alloc::Global;
-use threshold_pick::is_hidden;
+use threshold_pick::{Skips, is_hidden};
 use weight_exact::Run;
 
 // What the runs say.

@@ -3,7 +3,7 @@ use Rattle.std.specs.Prelude.{ℕ, Bool, not, ◌&&◌, List, [], ◌∷◌, ◌
 use Rattle.std.specs.List.{cons_option}
 use Rattle.std.specs.Option.{is_none, option_and_then}
 use Rattle.farm_types.specs.declared.stage.Stage.TheVariants.{Search}
-use Rattle.open_positions.specs.Blocks.{is_hidden}
+use Rattle.threshold_pick.specs.HiddenBlocks.{is_hidden}
 use Rattle.weight_exact.specs.declared.run.Run.{Run}
 use Rattle.farm_entry.specs.History.{lease_of, report_in, run_of, runs, skipped, was_cancelled, went_over}
 use Rattle.farm_entry.specs.Setup.{setup_of}

@@ -2,8 +2,8 @@
 use Rattle.std.proofs.Common.{◌≡◌, ℕ, ◌+◌, ◌≤◌, Bool, List, [], Option, Some, None, sym, ap, subst, ◌∙◌, arith}
 use Rattle.flake_rate.specs.Bar.{bar_denominator, bar_numerator}
 use Rattle.flake_rate.specs.declared.bar.Bar.{Bar}
-use Rattle.open_positions.specs.Blocks.{is_hidden}
-use Rattle.open_positions.proofs.Blocks.{is_hidden-nothing_skipped}
+use Rattle.threshold_pick.specs.HiddenBlocks.{is_hidden}
+use Rattle.threshold_pick.proofs.HiddenBlocks.{is_hidden-nothing_skipped}
 use Rattle.weight_exact.specs.Share.{IsReached, reached}
 use Rattle.weight_exact.specs.Weights.{AreInRange, Setup, hypotheses, total}
 use Rattle.weight_exact.specs.declared.limits.TheConstants.{MAX_SUSPECTS}

@@ -1,6 +1,6 @@
 -- What a standing says of the parts that it is read off, and what they say of it.
 use Rattle.std.proofs.Common.{◌≡◌, ℕ, ◌≤◌, ◌==◌, Bool, true, false, if◌then◌else◌, List, Option, Some, None, refl, sym, ap, subst, ◌∙◌, true≢false}
-use Rattle.open_positions.specs.Blocks.{is_hidden}
+use Rattle.threshold_pick.specs.HiddenBlocks.{is_hidden}
 use Rattle.farm_rules.specs.Reruns.{Outcome, confirmed, outcome, verifying, vindicating}
 use Rattle.weight_exact.specs.Share.{reached}
 use Rattle.weight_exact.specs.Weights.{hypotheses}

@@ -2,7 +2,7 @@
 use Rattle.std.proofs.Common.{◌≡◌, ℕ, zero, suc, ◌+◌, ◌-◌, ◌<◌, ◌≤◌, Bool, true, false, if◌then◌else◌, List, [], ◌∷◌, ◌++◌, Option, Some, None, is_some, length, refl, sym, ap, ◌∙◌, ⊎_elim, add-one, arith, le-ltb, lt-ltb, true≢false}
 use Rattle.std.specs.List.{cons_option, filter_map, range_with_len}
 use Rattle.std.proofs.lemmas.Bool.{cases_Bool}
-use Rattle.open_positions.specs.Open.{is_open, nearer, nearest_open, open_pick, open_plan}
+use Rattle.threshold_pick.specs.Open.{is_open, nearer, nearest_open, open_pick, open_plan}
 use Rattle.weight_exact.specs.Load.{floor}
 use Rattle.weight_exact.specs.Plan.{distance}
 use Rattle.weight_exact.specs.Weights.{Setup, cumulative, suspects, total}

@@ -1,7 +1,7 @@
 -- What follows of the belief of a search that has no reruns, and of the positions that were skipped.
 use Rattle.std.specs.Prelude.{◌≡◌, ℕ, ◌+◌, ◌-◌, nat_lt, Bool, ◌&&◌, ◌||◌, List, [], Option}
 use Rattle.flake_rate.specs.declared.bar.Bar.{Bar}
-use Rattle.open_positions.specs.Open.{is_skipped}
+use Rattle.threshold_pick.specs.Open.{is_skipped}
 use Rattle.weight_exact.specs.Share.{reached}
 use Rattle.weight_exact.specs.Weights.{hypotheses}
 use Rattle.weight_exact.specs.declared.run.Run.{Run}

@@ -3,7 +3,7 @@
 use Rattle.std.specs.Prelude.{◌≡◌, ℕ, ◌+◌, ◌-◌, ◌<◌, ◌≤◌, ◌⊎◌, nat_lt, Bool, true, false, ◌&&◌, ◌||◌, List, [], ◌∷◌, ◌++◌, map, filter, if◌then◌else◌, Option, Some, None}
 use Rattle.std.specs.List.{range_with_len}
 use Rattle.std.specs.Option.{option_map}
-use Rattle.open_positions.specs.Open.{is_skipped, open_plan}
+use Rattle.threshold_pick.specs.Open.{is_skipped, open_plan}
 use Rattle.weight_exact.specs.Load.{floor, is_fail, load, may_miss}
 use Rattle.weight_exact.specs.Share.{basis_points, reached}
 use Rattle.weight_exact.specs.Weights.{hypotheses}

@@ -4,8 +4,8 @@ ghost use Rattle.std.specs.Prelude.{◌≡◌, ℕ, ◌+◌, ◌≤◌, nat_lt, 
 ghost use Rattle.weight_exact.specs.Share.{reached};
 ghost use Rattle.weight_exact.specs.Weights.{hypotheses};
 ghost use Rattle.weight_exact.specs.declared.limits.TheConstants.{MAX_SUSPECTS, MAX_WIDTH};
-ghost use Rattle.open_positions.specs.Blocks.{is_hidden};
-ghost use Rattle.open_positions.specs.Open.{is_skipped};
+ghost use Rattle.threshold_pick.specs.HiddenBlocks.{is_hidden};
+ghost use Rattle.threshold_pick.specs.Open.{is_skipped};
 ghost use Rattle.farm_rules.specs.Reruns.{Outcome as Ruling};
 ghost use Rattle.threshold_pick.specs.CanPick.{CanPick};
 ghost use Rattle.threshold_pick.specs.Picks.{open_pick_in};
@@ -19,9 +19,8 @@ ghost use Rattle.search_state.specs.SearchInside.{IsVerificationOf};
 use farm_entry::{Opening, Standing};
 use farm_rules::{Outcome, Verify};
 use flake_rate::Bar;
-use open_positions::Skips;
 use posterior::Belief;
-use threshold_pick::{is_hidden, open_pick_uncounted};
+use threshold_pick::{Skips, is_hidden, open_pick_uncounted};
 use weight_exact::Run;
 
 /// What follows of the belief of a search that has no reruns.

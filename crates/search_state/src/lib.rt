@@ -9,9 +9,8 @@
 //! skipped, and takes no memory after its start. `specs/Seen` says what a history holds of a search, and
 //! `proofs/Changes` and `AllStates` how appending an entry changes it.
 //!
-//! It stands on `farm_entry` for the types and the definitions, on `posterior`, `open_positions`, `threshold_pick`
-//! and `farm_rules` for the belief, the plan, the reruns and the run that is due, and on `farm_laws` for what they ask
-//! for.
+//! It stands on `farm_entry` for the types and the definitions, on `posterior`, `threshold_pick` and `farm_rules` for
+//! the belief, the plan, the reruns and the run that is due, and on `farm_laws` for what they ask for.
 #![tactic(auto)]
 
 mod decided;

@@ -3,7 +3,7 @@
 ghost use Rattle.std.specs.Prelude.{ℕ, ◌≡◌, ◌⊎◌, ◌+◌, ◌<◌, ◌≤◌, [], true, false, length, IfOk};
 ghost use Rattle.std.specs.Option.{option_map};
 ghost use Rattle.flake_rate.specs.Miss.{FitsRate};
-ghost use Rattle.open_positions.specs.Open.{open_pick};
+ghost use Rattle.threshold_pick.specs.Open.{open_pick};
 ghost use Rattle.weight_exact.specs.Weights.{hypotheses};
 ghost use Rattle.posterior.specs.StandsFor.{StandsFor};
 ghost use Rattle.farm_entry.specs.Setup.{budget_of_search, setup_of};
@@ -18,12 +18,11 @@ use farm_entry::{DueRun, Fate, Opening, Positions, Shares, SkipFate, Standing};
 use farm_rules::{Verify, due_verify, is_left};
 use farm_types::{Memory, Stage};
 use flake_rate::Bar;
-use open_positions::Skips;
 use posterior::Belief;
 use std::alloc::Global;
 use std::marker::Model;
 use std::snapshot::Snapshot;
-use threshold_pick::open_pick_uncounted;
+use threshold_pick::{Skips, open_pick_uncounted};
 use weight_exact::{Factors, MAX_WIDTH, Run};
 
 /// A search of a farm, kept from report to report.

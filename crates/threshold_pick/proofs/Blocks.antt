@@ -8,8 +8,8 @@ use Rattle.weight_exact.specs.Weights.{Setup, cumulative, hypotheses, suspects, 
 use Rattle.weight_exact.specs.declared.run.Run.{Run}
 use Rattle.weight_exact.proofs.Shares.{at_bar-scaled}
 use Rattle.weight_exact.proofs.SumTo.{sum_to_more}
-use Rattle.open_positions.specs.Blocks.{first_at, first_from, is_hidden, last_below, middle}
-use Rattle.open_positions.proofs.Firsts.{IsFirst, IsFirst-first_at, IsFirst-first_from, IsLast-last_below, first_from-same}
+use Rattle.threshold_pick.specs.HiddenBlocks.{first_at, first_from, is_hidden, last_below, middle}
+use Rattle.threshold_pick.proofs.Firsts.{IsFirst, IsFirst-first_at, IsFirst-first_from, IsLast-last_below, first_from-same}
 use Rattle.threshold_pick.specs.Sums.{sum_at, suspects_in, whole}
 use Rattle.threshold_pick.specs.Blocks.{is_hidden_in, middle_in, sum_upto}
 use Rattle.threshold_pick.specs.Cumulative.{AreCumulative}

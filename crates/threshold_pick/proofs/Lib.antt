@@ -6,3 +6,9 @@ pub mod Alive
 pub mod OpenPicks
 pub mod OpenPlans
 pub mod Blocks
+pub mod Nearest
+pub mod PlansOverOpen
+pub mod Firsts
+pub mod HiddenBlocks
+pub mod Listed
+pub mod Bits

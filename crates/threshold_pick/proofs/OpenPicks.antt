@@ -1,11 +1,11 @@
 -- Of the open positions the nearest to a threshold is one of the two next to where the sums reach it.
 use Rattle.std.proofs.Common.{◌≡◌, ℕ, ◌+◌, ◌-◌, ◌*◌, ◌<◌, ◌≤◌, ◌⊎◌, inl, inr, true, false, not, Some, None, List, [], length, refl, sym, ap, ◌∙◌, subst, arith, ⊎_elim}
 use Rattle.std.proofs.lemmas.Bool.{cases_Bool, cases_lt, false≢true}
-use Rattle.open_positions.specs.Open.{is_open}
-use Rattle.open_positions.specs.Nearest.{AreShut, IsNearestOf}
-use Rattle.open_positions.specs.Blocks.{first_at, last_below}
-use Rattle.open_positions.proofs.Firsts.{IsFirst, IsFirst-first_at, IsLast, IsLast-last_below, first-le}
-use Rattle.open_positions.proofs.Nearest.{nearest_open-is, nearest_open-none}
+use Rattle.threshold_pick.specs.Open.{is_open}
+use Rattle.threshold_pick.specs.Nearest.{AreShut, IsNearestOf}
+use Rattle.threshold_pick.specs.HiddenBlocks.{first_at, last_below}
+use Rattle.threshold_pick.proofs.Firsts.{IsFirst, IsFirst-first_at, IsLast, IsLast-last_below, first-le}
+use Rattle.threshold_pick.proofs.Nearest.{nearest_open-is, nearest_open-none}
 use Rattle.threshold_pick.specs.Sums.{RiseAbove, sum_at, suspects_in, whole}
 use Rattle.threshold_pick.specs.Picks.{IsPick, away, open_pick_in}
 use Rattle.threshold_pick.proofs.Valleys.{IsValley, IsValley-away}

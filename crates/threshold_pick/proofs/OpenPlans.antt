@@ -7,8 +7,8 @@ use Rattle.weight_exact.specs.Plan.{distance}
 use Rattle.weight_exact.specs.Weights.{Setup, cumulative, suspects, total}
 use Rattle.weight_exact.specs.declared.run.Run.{Run}
 use Rattle.weight_exact.proofs.Plans.{nearest-scaled}
-use Rattle.open_positions.specs.Open.{is_open, nearest_open, open_pick, open_plan}
-use Rattle.open_positions.proofs.Nearest.{nearest_open-same}
+use Rattle.threshold_pick.specs.Open.{is_open, nearest_open, open_pick, open_plan}
+use Rattle.threshold_pick.proofs.Nearest.{nearest_open-same}
 use Rattle.threshold_pick.specs.Sums.{sum_at, suspects_in, whole}
 use Rattle.threshold_pick.specs.Picks.{away, open_pick_in, open_plan_in}
 use Rattle.threshold_pick.specs.Cumulative.{AreCumulative}

@@ -1,6 +1,6 @@
 -- Hypotheses at the bar together that skipped positions alone part, by cumulative sums.
 use Rattle.std.specs.Prelude.{ℕ, zero, suc, ◌-◌, ◌*◌, ◌^◌, ◌<◌, ◌≤◌, Bool, List, nat_le}
-use Rattle.open_positions.specs.Blocks.{first_at, first_from, last_below}
+use Rattle.threshold_pick.specs.HiddenBlocks.{first_at, first_from, last_below}
 use Rattle.weight_exact.specs.Cumulative.{AreRising}
 use Rattle.weight_exact.specs.Share.{is_at_bar}
 use Rattle.weight_exact.specs.declared.limits.TheConstants.{BASIS_POINTS, MAX_SUSPECTS}

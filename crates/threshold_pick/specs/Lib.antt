@@ -3,3 +3,7 @@ pub mod CanPick
 pub mod Picks
 pub mod Cumulative
 pub mod Blocks
+pub mod Open
+pub mod Nearest
+pub mod HiddenBlocks
+pub mod SkipsInside

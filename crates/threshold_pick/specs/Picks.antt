@@ -1,7 +1,7 @@
 -- Where to run next, by cumulative sums.
 use Rattle.std.specs.Prelude.{◌≡◌, ℕ, ◌-◌, ◌≤◌, List, Option, length, slice_index}
 use Rattle.std.specs.List.{filter_map, range_with_len}
-use Rattle.open_positions.specs.Open.{is_open, nearest_open}
+use Rattle.threshold_pick.specs.Open.{is_open, nearest_open}
 use Rattle.weight_exact.specs.Plan.{distance, IsNearest}
 use Rattle.threshold_pick.specs.Sums.{sum_at, whole, suspects_in}
 

@@ -7,8 +7,8 @@ ghost use Rattle.weight_exact.specs.Steps.{CanCount};
 ghost use Rattle.threshold_pick.specs.Sums.{suspects_in};
 ghost use Rattle.threshold_pick.specs.Blocks.{CanHalve, is_hidden_in, middle_in, sum_upto};
 
+use crate::Skips;
 use flake_rate::Bar;
-use open_positions::Skips;
 use std::marker::Brand;
 use std::sync::ledger::{Blank, Ledger};
 use weight_exact::{BASIS_POINTS, Steps, Sums};

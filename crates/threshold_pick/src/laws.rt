@@ -1,8 +1,8 @@
 //! The laws that tie picks over sums to the plan of a search. A function here does nothing: its contract is the law.
 
 ghost use Rattle.std.specs.Prelude.{◌≡◌, ℕ, ◌+◌, ◌*◌, ◌^◌, ◌<◌, ◌≤◌, List};
-ghost use Rattle.open_positions.specs.Open.{open_pick, open_plan};
-ghost use Rattle.open_positions.specs.Blocks.{is_hidden};
+ghost use Rattle.threshold_pick.specs.Open.{open_pick, open_plan};
+ghost use Rattle.threshold_pick.specs.HiddenBlocks.{is_hidden};
 ghost use Rattle.weight_exact.specs.Load.{floor};
 ghost use Rattle.weight_exact.specs.Plan.{pick, plan};
 ghost use Rattle.weight_exact.specs.Weights.{Setup, suspects, total};

@@ -7,9 +7,9 @@ ghost use Rattle.threshold_pick.specs.CanPick.{CanPick};
 ghost use Rattle.threshold_pick.specs.Sums.{suspects_in};
 ghost use Rattle.threshold_pick.specs.Picks.{open_pick_in};
 
+use crate::Skips;
 use crate::picks::{first_reaching, pick};
 use crate::threshold::Threshold;
-use open_positions::Skips;
 use std::marker::Brand;
 use std::sync::ledger::{Blank, Ledger};
 use weight_exact::{Steps, Sums};

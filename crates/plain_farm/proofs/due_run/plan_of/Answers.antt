@@ -1,6 +1,6 @@
 use Rattle.std.proofs.Common.{ℕ, List, [], ◌++◌, Option, sym, ap, ◌∙◌}
 use Rattle.std.specs.List.{cons_option, filter_map, range_with_len}
-use Rattle.open_positions.specs.Open.{open_pick}
+use Rattle.threshold_pick.specs.Open.{open_pick}
 use Rattle.farm_entry.specs.History.{runs}
 use Rattle.farm_entry.specs.Setup.{setup_of}
 use Rattle.plain_farm.proofs.Plans.{plan-more}

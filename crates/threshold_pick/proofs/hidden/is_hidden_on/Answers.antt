@@ -1,5 +1,5 @@
 use Rattle.std.proofs.Common.{◌≤◌, arith, length}
-use Rattle.open_positions.proofs.Firsts.{IsLast-last_below}
+use Rattle.threshold_pick.proofs.Firsts.{IsLast-last_below}
 use Rattle.threshold_pick.proofs.Blocks.{block-range, sum_upto-le, sum_upto-le-whole}
 use Rattle.threshold_pick.proofs.hidden.is_hidden_on.Goals.{After-first_at}
 use Rattle.threshold_pick.proofs.hidden.is_hidden_on.Goals as goal

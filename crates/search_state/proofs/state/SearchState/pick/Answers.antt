@@ -1,5 +1,5 @@
 use Rattle.std.proofs.Common.{◌≡◌, ℕ, List, reverse, sym, ap, subst, ◌∙◌}
-use Rattle.open_positions.specs.Open.{open_pick}
+use Rattle.threshold_pick.specs.Open.{open_pick}
 use Rattle.threshold_pick.specs.CanPick.{CanPick}
 use Rattle.threshold_pick.specs.Picks.{open_pick_in}
 use Rattle.farm_entry.specs.Setup.{setup_of}

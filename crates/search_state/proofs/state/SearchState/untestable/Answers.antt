@@ -1,6 +1,6 @@
 use Rattle.std.proofs.Common.{ℕ, ap, ◌∙◌}
 use Rattle.std.specs.List.{filter, range_with_len}
-use Rattle.open_positions.specs.Open.{is_skipped}
+use Rattle.threshold_pick.specs.Open.{is_skipped}
 use Rattle.search_state.specs.SearchView.{untestable_in}
 use Rattle.search_state.proofs.Deciding.{few-suspects}
 use Rattle.search_state.proofs.state.SearchState.untestable.Goals as goal

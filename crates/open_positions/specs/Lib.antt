@@ -1,4 +1,0 @@
-pub mod Open
-pub mod Nearest
-pub mod Blocks
-pub mod SkipsInside
