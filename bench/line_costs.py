@@ -24,7 +24,7 @@ LEASE_MS = 60_000
 # The crates between the lines and the journal.
 FARM = (
     "farm_core kept_farm farm_ledger farm_turns farm_state farm_books plain_history search_state posterior "
-    "threshold_pick farm_rules lease_book report_inbox active_order revert_orders weight_exact suspect_range"
+    "threshold_pick farm_rules search_books weight_exact suspect_range"
 ).split()
 # How many samples perf takes in a second, and of how many runs of a script.
 SAMPLES = 10_000

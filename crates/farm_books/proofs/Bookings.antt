@@ -9,7 +9,7 @@ use Rattle.std.proofs.lemmas.List.Elements.{All-head, All-tail}
 use Rattle.std.proofs.lemmas.List.Folds.{list_any_none}
 use Rattle.std.proofs.lemmas.Option.{none-some}
 use Rattle.farm_types.proofs.FirstIndex.{fails-from_none}
-use Rattle.lease_book.specs.Leases.{Held, marked}
+use Rattle.search_books.specs.Leases.{Held, marked}
 use Rattle.farm_entry.specs.History.{all_leases, is_of_run, is_report_of, is_reported, lease_in, place_of_report, told_in, told_runs}
 use Rattle.farm_entry.specs.Legal.{IsLegal}
 use Rattle.farm_entry.specs.declared.entry.Entry.{Entry}

@@ -4,7 +4,7 @@ use Rattle.std.specs.FinMap.{get}
 use Rattle.std.specs.Option.{IfSome}
 use Rattle.std.proofs.lemmas.List.{length-take-le}
 use Rattle.farm_types.specs.declared.key.Key.{Key}
-use Rattle.lease_book.specs.Leases.{Held}
+use Rattle.search_books.specs.Leases.{Held}
 use Rattle.farm_entry.specs.History.{all_leases, key_in, lease_in, told_in}
 use Rattle.farm_entry.specs.Legal.{IsLegal}
 use Rattle.farm_entry.specs.declared.entry.Entry.{Entry}

@@ -9,7 +9,7 @@ use Rattle.std.proofs.lemmas.Cmp.{nat_cmp_total}
 use Rattle.std.specs.FinMap.{get, get-insert, get-remove, insert, remove}
 use Rattle.farm_types.specs.declared.key.Key.{Key}
 use Rattle.farm_types.proofs.FirstIndex.{fails-from_none, position-first, position-none}
-use Rattle.report_inbox.proofs.Finds.{tied, untied}
+use Rattle.search_books.proofs.Finds.{tied, untied}
 use Rattle.farm_entry.specs.History.{has_key, is_key, is_of_run, is_report_of, key_in, place_of_key, place_of_report, told_in}
 use Rattle.farm_entry.specs.declared.entry.Entry.{Entry}
 use Rattle.farm_books.specs.Kept.{AreKeys, AreReports, Places, with_key, with_report, without_key, without_report}

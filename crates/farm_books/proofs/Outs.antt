@@ -2,8 +2,8 @@
 use Rattle.std.proofs.Common.{◌≡◌, ℕ, ◌==◌, nat_lt, Bool, true, false, not, ◌&&◌, if◌then◌else◌, List, [], ◌∷◌, map, filter, refl, sym, ap, ◌∙◌}
 use Rattle.farm_types.specs.declared.stage.Stage.{Stage}
 use Rattle.farm_types.specs.declared.stage.Stage.TheVariants.{Search, Verify}
-use Rattle.lease_book.specs.Leases.{Held}
-use Rattle.lease_book.specs.Outstanding.{is_out, positions_out, same_stage as same_kind}
+use Rattle.search_books.specs.Leases.{Held}
+use Rattle.search_books.specs.Outstanding.{is_out, positions_out, same_stage as same_kind}
 use Rattle.farm_entry.specs.Due.{outstanding_positions}
 use Rattle.farm_entry.specs.History.{is_reported, same_stage}
 use Rattle.farm_entry.specs.declared.entry.Entry.{Entry}

@@ -4,8 +4,8 @@ use Rattle.std.specs.List.{range_with_len}
 use Rattle.std.specs.Option.{option_map}
 use Rattle.std.proofs.lemmas.Bool.{cases_eq}
 use Rattle.std.proofs.lemmas.Bool.Decides.{nat_tests}
-use Rattle.lease_book.specs.Leases.{Held, lease_numbered}
-use Rattle.lease_book.specs.declared.lease.Lease.{Lease}
+use Rattle.search_books.specs.Leases.{Held, lease_numbered}
+use Rattle.search_books.specs.declared.lease.Lease.{Lease}
 use Rattle.farm_entry.specs.History.{all_leases, lease_of}
 use Rattle.farm_entry.specs.Legal.{IsLegal}
 use Rattle.farm_entry.specs.declared.entry.Entry.{Entry}

@@ -3,8 +3,8 @@ use Rattle.std.specs.Prelude.{◌≡◌, ℕ, ◌-◌, Bool, false, List, [], �
 use Rattle.std.specs.FinMap.{FinMap, get, insert, remove}
 use Rattle.std.specs.Ordering.{nat_cmp}
 use Rattle.farm_types.specs.declared.key.Key.{Key}
-use Rattle.lease_book.specs.Leases.{Held, marked}
-use Rattle.lease_book.specs.declared.lease.Lease.{Lease}
+use Rattle.search_books.specs.Leases.{Held, marked}
+use Rattle.search_books.specs.declared.lease.Lease.{Lease}
 use Rattle.farm_entry.specs.History.{all_leases, is_reported, place_of_key, place_of_report}
 use Rattle.farm_entry.specs.declared.entry.Entry.{Entry}
 use Rattle.farm_entry.specs.declared.lease.LeasedRun.{LeasedRun}

@@ -12,8 +12,7 @@ use crate::notes::{
 };
 use farm_entry::{Entry, LeasedRun, Settings, What};
 use farm_types::{Key, Memory, Moment, Stage};
-use lease_book::{LeaseBook, OUT_MAX};
-use report_inbox::Inbox;
+use search_books::{Inbox, LeaseBook, OUT_MAX};
 use std::alloc::Global;
 use std::marker::Model;
 

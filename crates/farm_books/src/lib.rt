@@ -4,8 +4,8 @@
 //! Contracts see [`Books`] as the history, a list of entries, and each look-up as the definition of the farm that it
 //! answers. An entry more is booked with it, and the last one can be taken away again, which takes no memory.
 //!
-//! It stands on `report_inbox` and `lease_book` for the books, on `farm_entry` for the types and the definitions, and
-//! on `farm_laws` for what legal histories keep.
+//! It stands on `search_books` for the books, on `farm_entry` for the types and the definitions, and on `farm_laws` for
+//! what legal histories keep.
 #![tactic(auto)]
 
 mod books;

@@ -6,8 +6,7 @@ ghost use Rattle.farm_books.specs.Kept.{with_key, with_lease, with_mark, with_re
 
 use farm_entry::LeasedRun;
 use farm_types::{Key, Memory};
-use lease_book::{Lease, LeaseBook};
-use report_inbox::Inbox;
+use search_books::{Inbox, Lease, LeaseBook};
 
 /// Makes room for a key, and for the report of a run.
 pub(crate) fn reserve_places(inbox: &mut Inbox, told: Option<u32>) -> Result<(), Memory>

@@ -5,7 +5,7 @@ use Rattle.std.proofs.lemmas.List.{length-map}
 use Rattle.std.proofs.lemmas.Option.{none-some}
 use Rattle.farm_types.specs.declared.stage.Stage.{Stage}
 use Rattle.farm_types.specs.declared.stage.Stage.TheVariants.{Search, Verify}
-use Rattle.lease_book.specs.declared.lease.TheConstants.{OUT_MAX}
+use Rattle.search_books.specs.declared.lease.TheConstants.{OUT_MAX}
 use Rattle.farm_entry.specs.Due.{due, due_at, open_leases, outstanding_positions}
 use Rattle.farm_entry.specs.History.{opening_numbered}
 use Rattle.farm_entry.specs.Legal.{IsLegal}

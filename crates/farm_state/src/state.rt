@@ -15,7 +15,7 @@ use crate::telling::retell;
 use farm_books::Books;
 use farm_entry::{DueRun, Entry, Opening, ReportedRun, Settings, SkippedRun, Standing, What};
 use farm_types::{Memory, Moment, Stage};
-use lease_book::OUT_MAX;
+use search_books::OUT_MAX;
 use search_state::SearchState;
 use std::alloc::Global;
 use std::marker::Model;

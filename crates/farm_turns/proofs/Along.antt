@@ -3,8 +3,8 @@ use Rattle.std.proofs.Common.{◌≡◌, ◌≢◌, ℕ, true, List, [], ◌∷�
 use Rattle.std.specs.Option.{option_and_then, option_or}
 use Rattle.std.proofs.lemmas.Bool.{cases_eq}
 use Rattle.std.proofs.lemmas.Option.{none-some}
-use Rattle.active_order.specs.Order.{has}
-use Rattle.active_order.proofs.Lists.{has-rest}
+use Rattle.search_books.specs.Order.{has}
+use Rattle.search_books.proofs.Lists.{has-rest}
 use Rattle.farm_turns.specs.WhoseTurn.{ComesBefore}
 use Rattle.farm_turns.proofs.TurnOrder.{the_turn}
 use Rattle.farm_entry.specs.Due.{due, due_at, due_runs, next_run, soonest}

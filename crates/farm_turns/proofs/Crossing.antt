@@ -1,7 +1,7 @@
 -- A farm with its order of turns may be handed to another thread.
 use denote.Param.Send.{IsSend, sendable}
 use Rattle.std.proofs.Crossing.{crosses}
-use Rattle.active_order.proofs.active.ActiveOrder.TheSendSync as ActiveOrder
+use Rattle.search_books.proofs.active.ActiveOrder.TheSendSync as ActiveOrder
 use Rattle.farm_state.proofs.Crossing.{farm_state-send}
 use Rattle.farm_turns.specs.contracts.turns.FarmTurns as FarmTurns
 

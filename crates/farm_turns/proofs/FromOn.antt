@@ -2,8 +2,8 @@
 use Rattle.std.proofs.Common.{◌≡◌, ◌≢◌, ℕ, ◌≤◌, true, false, List, [], ◌∷◌, None, refl, sym, ap, ◌∙◌, ⊎_elim, arith}
 use Rattle.std.specs.Option.{option_or}
 use Rattle.std.proofs.lemmas.Bool.{cases_Bool, cases_eq, true≢false}
-use Rattle.active_order.specs.Order.{has, first_of, next_of, IsOnce}
-use Rattle.active_order.proofs.Lists.{has-rest, none-first, none-rest, other, same}
+use Rattle.search_books.specs.Order.{has, first_of, next_of, IsOnce}
+use Rattle.search_books.proofs.Lists.{has-rest, none-first, none-rest, other, same}
 use Rattle.farm_entry.specs.History.{openings}
 use Rattle.farm_entry.specs.Legal.{IsLegal}
 use Rattle.farm_entry.specs.declared.entry.Entry.{Entry}

@@ -6,8 +6,8 @@ use Rattle.std.proofs.lemmas.Bool.Decides.{nat_tests}
 use Rattle.std.proofs.lemmas.List.Elements.{All-contains, Contains-append_right}
 use Rattle.std.proofs.lemmas.Option.{none-some}
 use Rattle.farm_types.specs.Moment.{moment_ms}
-use Rattle.active_order.specs.Order.{has, strike, IsOnce}
-use Rattle.active_order.proofs.Lists.{strike-absent, strike-gone, strike-once, strike-other}
+use Rattle.search_books.specs.Order.{has, strike, IsOnce}
+use Rattle.search_books.proofs.Lists.{strike-absent, strike-gone, strike-once, strike-other}
 use Rattle.farm_entry.specs.History.{all_leases, is_lease_for, is_of_search, last_lease, last_place, lease_in, opening_in, opening_numbered, openings}
 use Rattle.farm_entry.specs.Legal.{IsLegal, ask_of}
 use Rattle.farm_entry.specs.Standing.{is_active, standing}

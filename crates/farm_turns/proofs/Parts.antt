@@ -1,8 +1,8 @@
 -- Lists of searches by turns: one behind another, with a number struck, and with one more at the end.
 use Rattle.std.proofs.Common.{◌≡◌, ◌≢◌, ℕ, ◌⊎◌, Bool, true, false, List, [], ◌∷◌, ◌++◌, refl, sym, ap, subst, inl, inr, ◌∙◌, ⊎_elim, arith}
 use Rattle.std.proofs.lemmas.Bool.{cases_Bool, cases_eq, true≢false}
-use Rattle.active_order.specs.Order.{has, strike, IsOnce}
-use Rattle.active_order.proofs.Lists.{has-here, has-rest, has-there, none-first, none-rest, other, same, strike-gone, strike-none}
+use Rattle.search_books.specs.Order.{has, strike, IsOnce}
+use Rattle.search_books.proofs.Lists.{has-here, has-rest, has-there, none-first, none-rest, other, same, strike-gone, strike-none}
 use Rattle.farm_turns.specs.WhoseTurn.{ComesBefore}
 use Rattle.farm_entry.specs.History.{last_lease}
 use Rattle.farm_entry.specs.declared.entry.Entry.{Entry}

@@ -1,9 +1,9 @@
 -- A search that is moved or struck in two lists, and is put back where it stood.
 use Rattle.std.proofs.Common.{◌≡◌, ◌≢◌, ℕ, ◌<◌, ◌≤◌, ◌⊎◌, inl, inr, nat_eq, Bool, true, false, cond, if◌then◌else◌, List, [], ◌∷◌, refl, sym, ap, ◌∙◌, ⊎_elim, arith, true≢false}
 use Rattle.std.proofs.lemmas.Bool.{cases_eq}
-use Rattle.active_order.specs.Order.{has, prior_of, put_behind, strike, IsOnce}
-use Rattle.active_order.proofs.Lists.{has-here, has-rest, has-there, other, same, strike-absent, strike-gone}
-use Rattle.active_order.proofs.Paths.{put_back}
+use Rattle.search_books.specs.Order.{has, prior_of, put_behind, strike, IsOnce}
+use Rattle.search_books.proofs.Lists.{has-here, has-rest, has-there, other, same, strike-absent, strike-gone}
+use Rattle.search_books.proofs.Paths.{put_back}
 use Rattle.farm_turns.specs.Moves.{MayPutIn, StandsIn, Turns, prior_in, put_in}
 
 -- what stands in front of a number is there after it is struck

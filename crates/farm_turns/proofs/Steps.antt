@@ -3,8 +3,8 @@ use Rattle.std.proofs.Common.{◌≡◌, ℕ, ◌+◌, ◌-◌, ◌<◌, ◌⊎�
 use Rattle.std.specs.List.{cons_option}
 use Rattle.std.proofs.lemmas.Bool.{cases_Bool}
 use Rattle.std.proofs.lemmas.List.Elements.{All-contains, Contains-append_right}
-use Rattle.active_order.specs.Order.{has, strike}
-use Rattle.active_order.proofs.Lists.{strike-absent, strike-gone}
+use Rattle.search_books.specs.Order.{has, strike}
+use Rattle.search_books.proofs.Lists.{strike-absent, strike-gone}
 use Rattle.farm_entry.specs.History.{all_leases, cancelled_in, lease_in, lease_of, opening_in, opening_numbered, openings, told_in}
 use Rattle.farm_entry.specs.Legal.{IsLegal, ask_of}
 use Rattle.farm_entry.specs.Standing.{is_active, standing}

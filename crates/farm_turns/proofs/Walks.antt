@@ -2,8 +2,8 @@
 use Rattle.std.proofs.Common.{◌≡◌, ◌≢◌, ℕ, ◌<◌, ◌≤◌, ◌+◌, ◌⊎◌, true, false, List, [], ◌∷◌, ◌++◌, length, Option, Some, None, refl, sym, ap, subst, ◌∙◌, ⊎_elim, arith, true≢false}
 use Rattle.std.specs.Option.{option_or}
 use Rattle.std.proofs.lemmas.Bool.{cases_Bool, cases_eq}
-use Rattle.active_order.specs.Order.{has, first_of, next_of, IsOnce}
-use Rattle.active_order.proofs.Lists.{has-here, has-rest, has-there, none-first, none-rest, other, same}
+use Rattle.search_books.specs.Order.{has, first_of, next_of, IsOnce}
+use Rattle.search_books.proofs.Lists.{has-here, has-rest, has-there, none-first, none-rest, other, same}
 use Rattle.farm_entry.specs.Due.{next_run}
 use Rattle.farm_entry.specs.declared.lease.DueRun.{DueRun}
 use Rattle.farm_entry.specs.declared.limits.TheConstants.{MAX_SEARCHES}

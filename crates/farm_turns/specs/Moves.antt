@@ -1,7 +1,7 @@
 -- What an entry changes in the order of turns, and how that is undone.
 use Rattle.std.specs.Prelude.{ℕ, ◌≡◌, ◌+◌, ◌-◌, ◌<◌, ◌≤◌, ◌⊎◌, Bool, true, false, List, [], ◌∷◌, ◌++◌, if◌then◌else◌, Option, Some, None, ⊤}
-use Rattle.active_order.specs.Active.{Active}
-use Rattle.active_order.specs.Order.{has, prior_of, put_behind, strike}
+use Rattle.search_books.specs.Active.{Active}
+use Rattle.search_books.specs.Order.{has, prior_of, put_behind, strike}
 use Rattle.farm_entry.specs.History.{lease_of, opening_numbered}
 use Rattle.farm_entry.specs.Standing.{is_active, standing}
 use Rattle.farm_entry.specs.declared.entry.Entry.{Entry}

@@ -1,7 +1,7 @@
 -- The order of turns, in which the active searches of a history are asked for a run, and what is due along it.
 use Rattle.std.specs.Prelude.{ℕ, ◌≡◌, ◌<◌, ◌⊎◌, true, cond, nat_eq, List, [], ◌∷◌, Contains, Option, None, ⊤}
 use Rattle.std.specs.Option.{option_and_then, option_or}
-use Rattle.active_order.specs.Order.{has, IsOnce}
+use Rattle.search_books.specs.Order.{has, IsOnce}
 use Rattle.farm_turns.specs.WhoseTurn.{ComesBefore}
 use Rattle.farm_entry.specs.Due.{due}
 use Rattle.farm_entry.specs.History.{last_lease, opening_numbered, openings}

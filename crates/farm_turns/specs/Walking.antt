@@ -1,6 +1,6 @@
 -- A walk along the order of turns.
 use Rattle.std.specs.Prelude.{ℕ, ◌≡◌, ◌≢◌, true, List}
-use Rattle.active_order.specs.Order.{has}
+use Rattle.search_books.specs.Order.{has}
 use Rattle.farm_entry.specs.Due.{next_run}
 use Rattle.farm_entry.specs.declared.entry.Entry.{Entry}
 use Rattle.farm_turns.specs.TurnOrder.{first_due_from}

@@ -11,7 +11,7 @@
 //! what is due along one. The lemmas say that the run that is handed out next is the first that is due along the order,
 //! and that appending an entry changes it so.
 //!
-//! It stands on `farm_state` for the history with its books and the state of each search, on `active_order` for the
+//! It stands on `farm_state` for the history with its books and the state of each search, on `search_books` for the
 //! order, on `farm_entry` for the types and the definitions, and on the lemmas of `farm_laws`.
 #![tactic(auto)]
 

@@ -3,9 +3,9 @@
 ghost use Rattle.std.specs.Prelude.{◌≡◌, ◌≤◌, ◌+◌};
 ghost use Rattle.farm_turns.specs.Moves.{AreFew, MayMove, MayUndo, StandsIn, about_move, added, change_of, count_after, count_before, is_going, made, move_in, place_of, turns_in, undone};
 
-use active_order::ActiveOrder;
 use farm_entry::What;
 use farm_state::FarmState;
+use search_books::ActiveOrder;
 use std::ops::Deref;
 
 /// What an entry does to the order.

@@ -7,10 +7,10 @@ ghost use Rattle.farm_entry.specs.Legal.{IsLegal};
 ghost use Rattle.farm_laws.specs.Laws.{IsNotBefore};
 
 use crate::moves::{Change, make, move_of, undo};
-use active_order::ActiveOrder;
 use farm_entry::{DueRun, Entry, Settings, What};
 use farm_state::FarmState;
 use farm_types::{Memory, Moment};
+use search_books::ActiveOrder;
 use std::alloc::Global;
 use std::marker::Model;
 

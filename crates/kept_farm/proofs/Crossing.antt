@@ -2,7 +2,7 @@
 use denote.Param.Send.{IsSend, sendable}
 use Rattle.std.proofs.Crossing.{crosses}
 use Rattle.farm_ledger.proofs.Crossing.{ledger-send}
-use Rattle.search_places.proofs.places.SearchPlaces.TheSendSync as SearchPlaces
+use Rattle.search_books.proofs.places.SearchPlaces.TheSendSync as SearchPlaces
 use Rattle.kept_farm.proofs.row.Row.TheSendSync as Row
 use Rattle.kept_farm.specs.contracts.farm.KeptFarm as KeptFarm
 

@@ -13,7 +13,7 @@ use Rattle.std.proofs.lemmas.Option.{slice_get_past}
 use Rattle.farm_entry.specs.RunPages.{lines_from}
 use Rattle.farm_entry.specs.declared.entry.Entry.{Entry}
 use Rattle.farm_entry.specs.declared.limits.TheConstants.{PAGE_LINES}
-use Rattle.search_places.specs.SearchRows.{first_of}
+use Rattle.search_books.specs.SearchRows.{first_of}
 
 -- Parts of a list that are as long as it at most.
 

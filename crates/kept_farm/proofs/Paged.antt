@@ -18,7 +18,7 @@ use Rattle.farm_entry.specs.declared.order_page.OrderLine.{OrderLine}
 use Rattle.farm_laws.proofs.Lists.{contains-head, contains-tail}
 use Rattle.farm_laws.proofs.Numbered.{opening-found}
 use Rattle.farm_ledger.proofs.Counts.{opened-number}
-use Rattle.search_places.specs.SearchRows.{RowView, row_numbered}
+use Rattle.search_books.specs.SearchRows.{RowView, row_numbered}
 use Rattle.kept_farm.specs.Lines.{order_at, order_in_row, run_line_at, run_lines_at, runs_in, search_line_at, search_lines_at}
 use Rattle.kept_farm.specs.Searches.{search_rows}
 use Rattle.kept_farm.proofs.Looked.{found-at, lines-found, made-all}

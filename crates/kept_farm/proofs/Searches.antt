@@ -30,11 +30,11 @@ use Rattle.farm_laws.proofs.Known.{made-from, next_run-due}
 use Rattle.farm_laws.proofs.Stepped.{Stepped}
 use Rattle.farm_ledger.proofs.Counts.{opened-number}
 use Rattle.farm_ledger.proofs.Places.{openings-count}
-use Rattle.search_places.specs.SearchRows.{RowView, changed, first_of, new_row, row_numbered, with_entry, with_order, with_run, without_entry}
-use Rattle.search_places.specs.declared.entry_kind.EntryKind.{EntryKind}
-use Rattle.search_places.specs.declared.entry_kind.EntryKind.TheVariants as kind
-use Rattle.search_places.proofs.Changed.{added-at, changed-count, changed-here, changed-there, row_at}
-use Rattle.search_places.proofs.TakenBack.{AreBefore, added-before, taken-back}
+use Rattle.search_books.specs.SearchRows.{RowView, changed, first_of, new_row, row_numbered, with_entry, with_order, with_run, without_entry}
+use Rattle.search_books.specs.declared.entry_kind.EntryKind.{EntryKind}
+use Rattle.search_books.specs.declared.entry_kind.EntryKind.TheVariants as kind
+use Rattle.search_books.proofs.Changed.{added-at, changed-count, changed-here, changed-there, row_at}
+use Rattle.search_books.proofs.TakenBack.{AreBefore, added-before, taken-back}
 use Rattle.kept_farm.specs.Lines.{runs_in}
 use Rattle.kept_farm.specs.Searches.{kind_of, rows_from, search_rows}
 use Rattle.kept_farm.proofs.Looked.{first-more, first-same, places-more, places-same, places_of}

@@ -9,7 +9,7 @@ use Rattle.farm_entry.specs.declared.entry.Entry.{Entry}
 use Rattle.farm_entry.specs.declared.opening.Opening.{Opening}
 use Rattle.farm_entry.specs.declared.run_page.RunLine.{RunLine}
 use Rattle.farm_entry.specs.declared.search_list.SearchLine.{SearchLine}
-use Rattle.search_places.specs.SearchRows.{RowView}
+use Rattle.search_books.specs.SearchRows.{RowView}
 
 -- the run of a search that the entry at a place hands out
 abbrev pub run_line_at : List Entry → Opening → (place : ℕ) → Option RunLine

@@ -3,9 +3,9 @@ use Rattle.std.specs.Prelude.{ℕ, ◌+◌, List, [], ◌∷◌}
 use Rattle.farm_entry.specs.declared.entry.Entry.{Entry}
 use Rattle.farm_entry.specs.declared.entry.What.{What}
 use Rattle.farm_entry.specs.declared.entry.What.TheVariants.{Opened, Leased, Ordered}
-use Rattle.search_places.specs.SearchRows.{RowView, with_entry}
-use Rattle.search_places.specs.declared.entry_kind.EntryKind.{EntryKind}
-use Rattle.search_places.specs.declared.entry_kind.EntryKind.TheVariants.{Opening, Lease, Order, Other}
+use Rattle.search_books.specs.SearchRows.{RowView, with_entry}
+use Rattle.search_books.specs.declared.entry_kind.EntryKind.{EntryKind}
+use Rattle.search_books.specs.declared.entry_kind.EntryKind.TheVariants.{Opening, Lease, Order, Other}
 
 -- what an entry is to the searches
 abbrev pub kind_of : What → EntryKind

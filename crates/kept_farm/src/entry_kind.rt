@@ -4,7 +4,7 @@ ghost use Rattle.std.specs.Prelude.{◌≡◌};
 ghost use Rattle.kept_farm.specs.Searches.{kind_of};
 
 use farm_entry::What;
-use search_places::EntryKind;
+use search_books::EntryKind;
 
 /// What an entry is to the searches.
 pub(crate) fn kind_of(what: &What) -> EntryKind

@@ -35,7 +35,7 @@ use farm_ledger::Ledger;
 use farm_rules::{Draft, NoOrder};
 use farm_state::FarmState;
 use farm_types::{CommitId, Key, LAST_DAY, Memory, Moment};
-use search_places::SearchPlaces;
+use search_books::SearchPlaces;
 use search_state::SearchState;
 use std::alloc::Global;
 use std::marker::Model;

@@ -5,7 +5,7 @@
 //! it answers. An entry more costs what it changes, and the last one can be taken away again, which takes no memory.
 //!
 //! It stands on `farm_ledger` for the history, its books, the states of the searches, the order of their turns and the
-//! orders that stand, and on `search_places` for where the entries of each search stand; on `farm_laws` and
+//! orders that stand, and on `search_books` for where the entries of each search stand; on `farm_laws` and
 //! `search_state` for what appending an entry changes, on `plain_history` for lists that are made item by item, and on
 //! `farm_entry` for the types and the definitions. The layer above may use every name below.
 #![tactic(auto)]

@@ -9,7 +9,7 @@ use farm_books::Books;
 use farm_entry::{Entry, Opening, PAGE_LINES, RunLine, RunReport, What};
 use farm_types::{Memory, Moment};
 use plain_history::{push_some, report_shown};
-use search_places::SearchRow;
+use search_books::SearchRow;
 use std::alloc::Global;
 
 /// What a page shows of a list from the item with a number on.

@@ -11,7 +11,7 @@ use farm_entry::{Entry, Opening, SearchLine, What};
 use farm_ledger::Ledger;
 use farm_types::{Memory, Moment};
 use plain_history::push_some;
-use search_places::{SearchPlaces, SearchRow};
+use search_books::{SearchPlaces, SearchRow};
 use std::alloc::Global;
 
 /// The entry at a place.

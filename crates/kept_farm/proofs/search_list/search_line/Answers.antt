@@ -10,7 +10,7 @@ use Rattle.farm_entry.specs.declared.opening.Opening.{Opening}
 use Rattle.farm_entry.specs.declared.standing.Standing.{Standing}
 use Rattle.search_state.specs.Seen.{seen}
 use Rattle.search_state.specs.SearchView.{SearchView, standing_in}
-use Rattle.search_places.specs.SearchRows.{RowView, row_numbered}
+use Rattle.search_books.specs.SearchRows.{RowView, row_numbered}
 use Rattle.kept_farm.specs.Lines.{order_in_row}
 use Rattle.kept_farm.proofs.Paged.{order-looked_up}
 use Rattle.kept_farm.proofs.search_list.search_line.Goals as goal

@@ -1,7 +1,7 @@
 use Rattle.std.proofs.Common.{◌<◌, ℕ, List, [], ◌++◌, length, sym, ap, ◌∙◌, arith}
 use Rattle.std.specs.List.{cons_option}
 use Rattle.farm_entry.specs.declared.search_list.SearchLine.{SearchLine}
-use Rattle.search_places.specs.SearchRows.{RowView, new_row}
+use Rattle.search_books.specs.SearchRows.{RowView, new_row}
 use Rattle.kept_farm.specs.Lines.{search_line_at}
 use Rattle.kept_farm.proofs.Looked.{found-upto}
 use Rattle.kept_farm.proofs.search_list.search_lines_at.Goals as goal

@@ -2,8 +2,8 @@ use Rattle.std.proofs.Common.{◌≡◌, ◌≤◌, ℕ, List, length, sym, ap, 
 use Rattle.farm_types.specs.Moment.{moment_ms}
 use Rattle.farm_entry.specs.Due.{outstanding_positions}
 use Rattle.farm_entry.specs.declared.entry.Entry.{Entry}
-use Rattle.lease_book.specs.Outstanding.{positions_out}
-use Rattle.lease_book.specs.declared.lease.TheConstants.{OUT_MAX}
+use Rattle.search_books.specs.Outstanding.{positions_out}
+use Rattle.search_books.specs.declared.lease.TheConstants.{OUT_MAX}
 use Rattle.farm_books.proofs.Outs.{positions-are}
 use Rattle.farm_books.proofs.books.Books.outstanding_positions.Goals as goal
 

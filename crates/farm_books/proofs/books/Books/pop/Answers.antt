@@ -1,6 +1,6 @@
 use Rattle.std.proofs.Common.{◌≡◌, ℕ, ◌+◌, ◌-◌, ◌<◌, false, List, length, take, Option, sym, subst, ap, ◌∙◌, arith}
 use Rattle.farm_types.specs.declared.key.Key.{Key}
-use Rattle.lease_book.specs.Leases.{Held}
+use Rattle.search_books.specs.Leases.{Held}
 use Rattle.farm_entry.specs.History.{lease_in}
 use Rattle.farm_entry.specs.declared.entry.Entry.{Entry}
 use Rattle.farm_entry.specs.declared.lease.LeasedRun.{LeasedRun}

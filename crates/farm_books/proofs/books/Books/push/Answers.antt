@@ -1,6 +1,6 @@
 use Rattle.std.proofs.Common.{◌≡◌, ℕ, true, List, [], ◌∷◌, ◌++◌, length, Option, sym, ap, subst, ◌∙◌, arith}
 use Rattle.farm_types.specs.declared.key.Key.{Key}
-use Rattle.lease_book.specs.Leases.{Held}
+use Rattle.search_books.specs.Leases.{Held}
 use Rattle.farm_entry.specs.History.{lease_in}
 use Rattle.farm_entry.specs.Legal.{IsLegal}
 use Rattle.farm_entry.specs.declared.entry.Entry.{Entry}

@@ -4,7 +4,7 @@ use Rattle.farm_entry.specs.RunPages.{lines_from}
 use Rattle.farm_entry.specs.declared.entry.Entry.{Entry}
 use Rattle.farm_entry.specs.declared.opening.Opening.{Opening}
 use Rattle.farm_entry.specs.declared.run_page.RunLine.{RunLine}
-use Rattle.search_places.specs.SearchRows.{RowView, row_numbered}
+use Rattle.search_books.specs.SearchRows.{RowView, row_numbered}
 use Rattle.kept_farm.specs.Lines.{run_lines_at, runs_in}
 use Rattle.kept_farm.specs.Searches.{search_rows}
 use Rattle.kept_farm.proofs.Paged.{runs-paged}

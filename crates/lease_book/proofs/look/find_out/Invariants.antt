@@ -1,8 +1,0 @@
-use Rattle.lease_book.proofs.Looks.{IsLook}
-use Rattle.lease_book.proofs.look.find_out.Given as goal
-
-abbrev pub invariant-loop-at : goal.invariant-loop-at
-invariant-loop-at l = IsLook l.search l.stage l.moment l.rows l.found l.from l.at
-
-abbrev pub decreases-loop-at : goal.decreases-loop-at
-decreases-loop-at l = l.at

@@ -1,7 +1,0 @@
-use Rattle.std.proofs.Common.{rules}
-use Rattle.report_inbox.specs.Bucket.{home_of}
-use Rattle.report_inbox.proofs.bucket.home.Goals as goal
-
-pub returns-clause-home : goal.returns-clause-home
-unfolding home_of
-returns-clause-home c = search rules

@@ -1,7 +1,0 @@
-use Rattle.std.proofs.Common.{take}
-use Rattle.report_inbox.specs.KeyTable.{IsGrown}
-use Rattle.std.specs.Vec.{vec_capacity}
-use Rattle.report_inbox.proofs.chains.grown.Given as goal
-
-abbrev pub invariant-loop-item : goal.invariant-loop-item
-invariant-loop-item l = IsGrown (take l.item-index l.items) l.size l.heads.items l.moved.items (vec_capacity l.moved)

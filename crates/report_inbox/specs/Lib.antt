@@ -1,5 +1,0 @@
-pub mod Bucket
-pub mod Chains
-pub mod InboxView
-pub mod KeyTable
-pub mod RunRows

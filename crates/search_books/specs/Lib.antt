@@ -1,0 +1,12 @@
+pub mod LeaseChains
+pub mod Leases
+pub mod Outstanding
+pub mod Bucket
+pub mod KeyChains
+pub mod InboxView
+pub mod KeyTable
+pub mod RunRows
+pub mod Active
+pub mod Order
+pub mod Rings
+pub mod SearchRows
