@@ -23,7 +23,7 @@ START = 1_795_770_000_000
 LEASE_MS = 60_000
 # The crates between the lines and the journal.
 FARM = (
-    "farm_core kept_farm farm_ledger farm_turns farm_state farm_books plain_history search_state posterior "
+    "farm_core kept_farm farm_ledger farm_state farm_books plain_history search_state posterior "
     "threshold_pick farm_rules search_books weight_exact suspect_range"
 ).split()
 # How many samples perf takes in a second, and of how many runs of a script.

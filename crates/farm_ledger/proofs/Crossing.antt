@@ -1,7 +1,7 @@
 -- A farm with its openings, leases and orders may be handed to another thread.
 use denote.Param.Send.{IsSend, sendable}
 use Rattle.std.proofs.Crossing.{crosses}
-use Rattle.farm_turns.proofs.Crossing.{farm_turns-send}
+use Rattle.farm_state.proofs.TurnsCrossing.{farm_turns-send}
 use Rattle.farm_ledger.specs.contracts.ledger.Ledger as Ledger
 use Rattle.farm_ledger.specs.contracts.register.Register as Register
 

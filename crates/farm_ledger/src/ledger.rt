@@ -13,7 +13,7 @@ ghost use Rattle.farm_ledger.specs.Waiting.{IsLowest, IsServed, low_after};
 use crate::register::Register;
 use farm_entry::{Entry, Opening, Settings, What};
 use farm_rules::{Draft, NoOrder};
-use farm_turns::FarmTurns;
+use farm_state::FarmTurns;
 use farm_types::{CommitId, Memory, Moment};
 use std::alloc::Global;
 use std::marker::Model;

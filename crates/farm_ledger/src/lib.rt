@@ -6,7 +6,7 @@
 //! first search that waits for an order is kept beside each entry: an entry more moves it on over those that don't wait
 //! any more, or back to the one that now does, so that the next order is looked up.
 //!
-//! It stands on `farm_turns` for the history with the states and the turns, on `farm_rules` for the book of the orders,
+//! It stands on `farm_state` for the history with the states and the turns, on `farm_rules` for the book of the orders,
 //! on `plain_history` for what the farm was founded with, on `farm_entry` for the types and the definitions, and on the
 //! crates of laws for what legal histories keep.
 #![tactic(auto)]

@@ -15,8 +15,7 @@ use crate::notes::{
 };
 use farm_entry::{Entry, Opening, Settings, What};
 use farm_rules::{Candidate, Draft, NoOrder, Orders};
-use farm_state::FarmState;
-use farm_turns::FarmTurns;
+use farm_state::{FarmState, FarmTurns};
 use farm_types::{CommitId, Memory, Moment};
 use plain_history::daily_limit;
 use std::alloc::Global;

@@ -3,3 +3,16 @@ pub mod DueRuns
 pub mod Retold
 pub mod Popping
 pub mod Crossing
+pub mod Folds
+pub mod Places
+pub mod Steps
+pub mod Closing
+pub mod Walks
+pub mod Going
+pub mod TurnsCrossing
+pub mod Along
+pub mod FromOn
+pub mod NeverLeased
+pub mod NextTurns
+pub mod Parts
+pub mod TurnOrder

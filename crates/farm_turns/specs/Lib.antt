@@ -1,6 +1,0 @@
-pub mod Moves
-pub mod Turns
-pub mod TurnsInside
-pub mod Walking
-pub mod TurnOrder
-pub mod WhoseTurn
