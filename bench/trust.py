@@ -161,7 +161,7 @@ class Tree:
                     continue
                 if first == "crate" and rest and self.module("/".join([crate, "src", *rest])):
                     nodes.add(("src", "/".join([crate, "src", *rest]), name))
-                elif (CRATES / first).is_dir() and (found := self.public(first, name)):
+                elif found := self.public(crate if first == "crate" else first, name):
                     nodes.add(found)
         return nodes
 

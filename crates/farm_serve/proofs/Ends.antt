@@ -18,7 +18,7 @@ use Rattle.farm_types.specs.declared.moment.Moment.{Moment}
 use Rattle.common_types.specs.Counts.{Rose}
 use Rattle.link_io.specs.declared.sink.PutFault.{PutFault}
 use Rattle.link_io.specs.declared.sink.PutFault.TheVariants as put
-use Rattle.net_io.specs.Events.{NetworkEvent}
+use Rattle.link_io.specs.Events.{NetworkEvent}
 use Rattle.shared_farm.specs.Rests.{AreTurns, CameBy, Rest, begun_of, rest_of}
 use Rattle.farm_serve.proofs.Counts.{IfSome-map, Rose-from}
 use Rattle.farm_serve.proofs.Crashes.{IsReached, mark_of_rest, turns-kept, turns-reached, within-first, within-from}

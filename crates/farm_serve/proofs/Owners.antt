@@ -12,7 +12,7 @@ use Rattle.farm_entry.specs.declared.entry.Entry.{Entry}
 use Rattle.farm_http.specs.Callers.{mark_of}
 use Rattle.farm_types.specs.declared.moment.Moment.{Moment}
 use Rattle.link_io.specs.Links.{LinkState}
-use Rattle.net_io.specs.Events.{NetworkEvent}
+use Rattle.link_io.specs.Events.{NetworkEvent}
 use Rattle.common_types.specs.Rows.{IsAmong}
 use Rattle.turn_lock.specs.Known.{IsOwned, IsReady, Known, WasPending, all_parts, both_stakes, first_stake, given, stake_kept}
 use Rattle.turn_lock.specs.Loans.{AreOut}

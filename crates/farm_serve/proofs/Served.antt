@@ -8,7 +8,7 @@ use Rattle.turn_lock.specs.declared.view.Lending.{Lending}
 use Rattle.farm_types.specs.declared.moment.Moment.{Moment}
 use Rattle.link_io.specs.Notes.{Note}
 use Rattle.common_types.specs.Counts.{Rose}
-use Rattle.net_io.specs.Events.{NetworkEvent}
+use Rattle.link_io.specs.Events.{NetworkEvent}
 use Rattle.farm_serve.proofs.Counts.{IfSome-map}
 use Rattle.farm_serve.proofs.Marks.{Follows-trans, IsSaidBy}
 use Rattle.farm_serve.proofs.Steps.{AreHeldBack-all, AreHeldBack-longer, stands}

@@ -17,7 +17,7 @@ use Rattle.link_io.specs.Telling.{add_told}
 use Rattle.common_types.proofs.Rows.{AreAmong-before, AreAmong-behind, AreAmong-refl}
 use Rattle.common_types.specs.Rows.{AreAmong}
 use Rattle.common_types.specs.declared.row.Row.{Row}
-use Rattle.net_io.specs.Events.{NetworkEvent, accepted, accept_ended, accept_failed, connected, connect_failed, returned}
+use Rattle.link_io.specs.Events.{NetworkEvent, accepted, accept_ended, accept_failed, connected, connect_failed, returned}
 use Rattle.common_types.proofs.Prefixes.{IsPrefix-trans}
 use Rattle.turn_lock.specs.Known.{Known, IsReady, borrowed, both_lendings, lending_kept}
 use Rattle.turn_lock.specs.Loans.{AreOut, AreSame, HasOut, weigh}

@@ -3,7 +3,7 @@ use Rattle.std.specs.Prelude.{ℕ, List, [], Option, None}
 use Rattle.atomic_table.specs.Seated.{TableId}
 use Rattle.connection_laws.specs.Marks.{Mark, mark_with}
 use Rattle.farm_entry.specs.declared.entry.Entry.{Entry}
-use Rattle.net_io.specs.Events.{NetworkEvent}
+use Rattle.link_io.specs.Events.{NetworkEvent}
 
 -- the farm's lock, its history and its disk's count at entry, what the network had told and its count at entry, and how
 -- many accepts are to be made

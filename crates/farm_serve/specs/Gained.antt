@@ -5,7 +5,7 @@ use Rattle.connection_laws.specs.Owners.{Owned, both_owned, none_owned}
 use Rattle.connection_laws.specs.Told.{Saying}
 use Rattle.farm_types.specs.declared.moment.Moment.{Moment}
 use Rattle.link_io.specs.Notes.{Note}
-use Rattle.net_io.specs.Events.{NetworkEvent, accepted, accept_ended, accept_failed, connected, connect_failed, returned}
+use Rattle.link_io.specs.Events.{NetworkEvent, accepted, accept_ended, accept_failed, connected, connect_failed, returned}
 use Rattle.turn_lock.specs.Loans.{AreSame}
 use Rattle.turn_lock.specs.declared.view.Loan.{Loan}
 use Rattle.farm_serve.specs.Links.{IsHeldBack, loan_of, mark_lent}

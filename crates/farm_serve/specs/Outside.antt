@@ -3,7 +3,7 @@ use Rattle.std.specs.Prelude.{ℕ, Bool, List, Option}
 use Rattle.farm_disk.specs.Images.{DiskState}
 use Rattle.farm_disk.specs.declared.disk.Disk as disk
 use Rattle.link_io.specs.declared.sink.Sink as sink
-use Rattle.net_io.specs.Events.{NetworkEvent}
+use Rattle.link_io.specs.Events.{NetworkEvent}
 
 -- what a network did, the newest first, where it tells, and how often it and its links failed
 pub record NetworkSeen : Type 0 where

@@ -13,7 +13,7 @@ use Rattle.farm_store.specs.Opened.{IsMissedBy}
 use Rattle.farm_store.specs.State.{IsStored}
 use Rattle.farm_types.specs.declared.moment.Moment.{Moment}
 use Rattle.common_types.specs.Counts.{Rose}
-use Rattle.net_io.specs.Events.{NetworkEvent}
+use Rattle.link_io.specs.Events.{NetworkEvent}
 use Rattle.connection_laws.specs.Owners.{AreAllOwned, Owned}
 use Rattle.connection_laws.specs.Told.{Saying}
 use Rattle.turn_lock.specs.Places.{ArePlaces}

@@ -9,7 +9,7 @@ use Rattle.farm_store.specs.State.{StoreState}
 use Rattle.farm_types.specs.declared.moment.Moment.{Moment}
 use Rattle.common_types.specs.Counts.{Rose}
 use Rattle.link_io.specs.Notes.{Note}
-use Rattle.net_io.specs.Events.{NetworkEvent}
+use Rattle.link_io.specs.Events.{NetworkEvent}
 use Rattle.turn_lock.specs.Known.{Known, IsReady, all_parts, first_stake}
 use Rattle.turn_lock.specs.Loans.{AreOut}
 use Rattle.turn_lock.specs.Places.{ArePlaces}

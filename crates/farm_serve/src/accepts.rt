@@ -3,10 +3,10 @@ ghost use Rattle.std.specs.Prelude.{◌≡◌, ◌≤◌, false, IfSome};
 ghost use Rattle.common_types.specs.Counts.{Rose};
 ghost use Rattle.link_io.specs.Links.{link_state, fresh_link};
 ghost use Rattle.link_io.specs.Telling.{add_told};
-ghost use Rattle.net_io.specs.Answers.{IfAccepted, OnAcceptFailed};
-ghost use Rattle.net_io.specs.Events.{accept_event};
+ghost use Rattle.link_io.specs.Answers.{IfAccepted, OnAcceptFailed};
+ghost use Rattle.link_io.specs.Events.{accept_event};
 
-use net_io::{Accepted, Network};
+use link_io::{Accepted, Network};
 
 /// The next link of a network. Where this was the last accept, or it answered that no more will come, the network is
 /// told that no accept follows.

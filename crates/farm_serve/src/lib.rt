@@ -5,7 +5,7 @@
 //! puts the farm's line, and gives disk and network back. What it promises is one clause, `ServeEnds` of `specs/`.
 //!
 //! The crate stands on `farm_http` for the serving of one connection, on `shared_farm` and `farm_store` for the farm,
-//! on `net_io` for networks, and on `farm_wire` for the line. It alone starts threads. The layers above may use
+//! on `link_io` for networks, and on `farm_wire` for the line. It alone starts threads. The layers above may use
 //! `serve` and `Ending`.
 #![tactic(auto)]
 

@@ -9,8 +9,7 @@ ghost use Rattle.farm_serve.specs.Nexts.{IsFresh, IsNew, IsPassOf, IsReaderOf};
 use crate::naming::Naming;
 use farm_disk::DatedDisk;
 use farm_http::{Caller, ServeFault, Served, Service, serve_link};
-use link_io::Clock;
-use net_io::Network;
+use link_io::{Clock, Network};
 use shared_farm::Beginning;
 use std::sync::Wait;
 

@@ -2,7 +2,7 @@
 use Rattle.std.specs.Prelude.{◌≡◌, ◌⊎◌, ◌++◌, ℕ, Bool, true, false, List, [], ◌∷◌, Option, Result, Ok, Err, codes, decimal}
 use Rattle.farm_types.specs.declared.key.Key.{Key}
 use Rattle.common_types.specs.Counts.{Rose}
-use Rattle.net_io.specs.Events.{NetworkEvent}
+use Rattle.link_io.specs.Events.{NetworkEvent}
 use Rattle.worker_agent.specs.Told.{Told}
 use Rattle.worker_agent.specs.Work.{Works}
 use Rattle.worker_agent.specs.declared.worked.Worked.{Worked}

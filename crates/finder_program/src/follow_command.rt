@@ -22,8 +22,7 @@ use crate::put_text::put_text;
 use crate::status::Status;
 use farm_disk::Disk;
 use journal_follow::{FollowFault, Followed, Follower, follow};
-use link_io::Sink;
-use net_io::Network;
+use link_io::{Network, Sink};
 use std::alloc::Global;
 
 /// Opens the journal, or takes an empty file for one without an entry, and follows the leader at the network's address

@@ -3,10 +3,10 @@
 //!
 //! It stands on `finder_words` for the words, on `judge`, `audit_check`, `rates_report`, `search_evidence`,
 //! `farm_handover` and `farm_script` for the answers, on `farm_drill` for drills, on `farm_store` for a farm whose
-//! history is on a disk, on `farm_serve` for the service of one over a network, and on `link_io`, `net_io`,
-//! `farm_disk`, `file_disk` and `tcp_net` for the traits of the outside and for the adapters over the system.
-//! `run_words` makes the real objects and calls `finder`; `run_process` does so for the process's words, writes the
-//! status's line to standard error, and ends with the status's number: `main` of the program is that call alone.
+//! history is on a disk, on `farm_serve` for the service of one over a network, and on `link_io`, `farm_disk`,
+//! `file_disk` and `tcp_net` for the traits of the outside and for the adapters over the system. `run_words` makes the
+//! real objects and calls `finder`; `run_process` does so for the process's words, writes the status's line to standard
+//! error, and ends with the status's number: `main` of the program is that call alone.
 #![tactic(auto)]
 
 mod asked;

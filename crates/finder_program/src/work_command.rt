@@ -8,8 +8,7 @@ ghost use Rattle.finder_program.specs.WorkCommand.{WorkCompletes, WorkEnds, work
 use crate::put_text::put_text;
 use crate::status::Status;
 use farm_types::Name;
-use link_io::Sink;
-use net_io::Network;
+use link_io::{Network, Sink};
 use std::alloc::Global;
 use worker_agent::{Worked, work};
 use worker_io::{KeySource, Runner};

@@ -11,7 +11,7 @@ use Rattle.link_io.specs.Telling.{add_told}
 use Rattle.link_io.specs.declared.sink.PutFault.{PutFault}
 use Rattle.link_io.specs.declared.sink.PutFault.TheVariants as put_fault
 use Rattle.common_types.specs.Prefix.{IsPrefix}
-use Rattle.net_io.specs.Events.{NetworkEvent, returned}
+use Rattle.link_io.specs.Events.{NetworkEvent, returned}
 use Rattle.http_exchange.specs.Exchanges.{AnsweredBy, AskedOver, IfAnswered, IsOutcome, talk_state, talked}
 use Rattle.http_exchange.specs.Responses.{unput}
 use Rattle.http_exchange.specs.declared.connection.Exchanged.{Exchanged}

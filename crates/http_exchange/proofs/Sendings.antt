@@ -4,7 +4,7 @@ use Rattle.std.proofs.Math.Nat.{eq-or-lt_of_le}
 use Rattle.std.proofs.lemmas.List.{length-append}
 use Rattle.common_types.specs.Counts.{Rose}
 use Rattle.common_types.specs.declared.memory.Memory.{Memory}
-use Rattle.net_io.specs.Events.{NetworkEvent}
+use Rattle.link_io.specs.Events.{NetworkEvent}
 use Rattle.http_exchange.specs.Exchanges.{AnsweredBy, Exchange, IsPut, exchange_events, talked, tell_all, unconnected}
 use Rattle.http_exchange.specs.Sending.{AreLost, IsLost, IsTry, Sends, SendsOnce, Try, sent_of, told_tries, told_try}
 use Rattle.http_exchange.specs.declared.connection.Exchanged.{Exchanged}

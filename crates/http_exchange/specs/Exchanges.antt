@@ -5,7 +5,7 @@ use Rattle.http_exchange.specs.Whole.{IsWhole}
 use Rattle.link_io.specs.Links.{LinkState}
 use Rattle.link_io.specs.Telling.{add_told}
 use Rattle.common_types.specs.Prefix.{IsPrefix}
-use Rattle.net_io.specs.Events.{NetworkEvent, connect_failed, connected, returned}
+use Rattle.link_io.specs.Events.{NetworkEvent, connect_failed, connected, returned}
 use Rattle.http_exchange.specs.Responses.{IsBroken}
 use Rattle.http_exchange.specs.declared.connection.Exchanged.{Exchanged}
 use Rattle.http_exchange.specs.declared.connection.Exchanged.TheVariants.{Answered, Broken, Failed}

@@ -1,7 +1,7 @@
 -- What sending a request comes to, by what the network tells of its tries.
 use Rattle.std.specs.Prelude.{◌≡◌, ◌<◌, ◌+◌, ℕ, Bool, true, false, List, [], ◌∷◌, length, Option, Result, Ok, Err, ⊤}
 use Rattle.common_types.specs.declared.memory.Memory.{Memory}
-use Rattle.net_io.specs.Events.{NetworkEvent}
+use Rattle.link_io.specs.Events.{NetworkEvent}
 use Rattle.http_exchange.specs.Exchanges.{AnsweredBy, Exchange, IsPut, exchange_events, tell_all}
 use Rattle.http_exchange.specs.Statuses.{is_lost_with}
 use Rattle.http_exchange.specs.declared.connection.Exchanged.{Exchanged}

@@ -4,7 +4,7 @@ ghost use Rattle.std.specs.Io.KnownBytes.{append_known};
 ghost use Rattle.common_types.specs.Counts.{Rose};
 ghost use Rattle.link_io.specs.Links.{fresh_link, link_state};
 ghost use Rattle.link_io.specs.Telling.{add_told};
-ghost use Rattle.net_io.specs.Events.{returned};
+ghost use Rattle.link_io.specs.Events.{returned};
 ghost use Rattle.http_exchange.specs.Exchanges.{
   AnsweredBy,
   AskedOver,
@@ -21,8 +21,7 @@ ghost use Rattle.http_exchange.specs.Responses.{HasJustCome};
 
 use crate::{NoResponse, Response, take_response};
 use common_types::Memory;
-use link_io::{Link, Source, put_all};
-use net_io::{Connected, Network};
+use link_io::{Connected, Link, Network, Source, put_all};
 use std::alloc::Global;
 
 /// What a request came to.

@@ -15,8 +15,8 @@
 //! ([`laws`]). So a reader of a connection needs no more than [`ResponseProgress`] says.
 //!
 //! The crate stands on `httparse`, on `http_fields` for what fields say, on `http_words` for statuses and limits, on
-//! `net_io` and `link_io` for connections, on `common_types` for the out-of-memory error, counts and a body as a list,
-//! and on `itoa` for numbers. The layers above may use every name below.
+//! `link_io` for connections, on `common_types` for the out-of-memory error, counts and a body as a list, and on `itoa`
+//! for numbers. The layers above may use every name below.
 #![tactic(auto)]
 
 mod connection;

@@ -6,7 +6,7 @@ ghost use Rattle.http_exchange.specs.Sending.{Sends, SendsOnce, sent_of};
 use crate::status::is_lost_with;
 use crate::{Exchanged, Response, exchange};
 use common_types::Memory;
-use net_io::Network;
+use link_io::Network;
 use std::alloc::Global;
 
 /// How often a request is sent at most.

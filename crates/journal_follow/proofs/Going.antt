@@ -15,7 +15,7 @@ use Rattle.journal_follow.specs.Taking.{Came, Held, IsDecided, IsLeft, Takes, fo
 use Rattle.journal_follow.specs.Taking.{unstored}
 use Rattle.common_types.specs.Prefix.{IsPrefix}
 use Rattle.common_types.proofs.Prefixes.{IsPrefix-append, IsPrefix-refl, IsPrefix-trans}
-use Rattle.net_io.specs.Events.{NetworkEvent}
+use Rattle.link_io.specs.Events.{NetworkEvent}
 use Rattle.journal_follow.specs.Following.{AreTaken, Ends, Follows, IsRound, Last, Round, answered, compared_after}
 use Rattle.journal_follow.specs.Following.{cut_off, entries_of, nothing, told_last, told_round, told_rounds, unanswered}
 use Rattle.journal_follow.specs.Rounds.{GoesOn, IsLast, RoundSays}

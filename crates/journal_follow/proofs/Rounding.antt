@@ -9,7 +9,7 @@ use Rattle.journal_follow.proofs.Going.{stored-behind}
 use Rattle.journal_follow.proofs.Holding.{may-front}
 use Rattle.journal_follow.proofs.Takings.{may-bounded}
 use Rattle.journal_follow.specs.Taking.{Came, Held, Takes, foreign, gap, stored, undecided, unrepaired, unstored}
-use Rattle.net_io.specs.Events.{NetworkEvent}
+use Rattle.link_io.specs.Events.{NetworkEvent}
 use Rattle.journal_follow.specs.Asked.{AskComesTo, AskEnds}
 use Rattle.journal_follow.specs.Following.{Ends, IsRound, Last, Round, answered, cut_off, nothing, told_last}
 use Rattle.journal_follow.specs.Following.{told_round, unanswered}

@@ -8,7 +8,7 @@ use Rattle.http_exchange.specs.declared.response.Response.{Response}
 use Rattle.http_exchange.specs.declared.sending.Lost as sending
 use Rattle.http_exchange.specs.declared.sending.Lost.TheVariants as lost_by
 use Rattle.http_exchange.specs.declared.sending.Sent.TheVariants.{Answered, Lost}
-use Rattle.net_io.specs.Events.{NetworkEvent}
+use Rattle.link_io.specs.Events.{NetworkEvent}
 use Rattle.journal_follow.specs.Asked.{AskComesTo, given_up}
 use Rattle.journal_follow.specs.Asks.{Reads, ask_request}
 use Rattle.journal_follow.specs.Following.{answered, cut_off, unanswered}

@@ -5,7 +5,7 @@ use Rattle.http_exchange.specs.Sending.{AreLost}
 use Rattle.http_exchange.specs.declared.sending.Lost.{Lost}
 use Rattle.http_exchange.specs.declared.sending.Lost.TheVariants as lost_by
 use Rattle.http_exchange.specs.declared.sending.TheConstants.{MAX_TRIES}
-use Rattle.net_io.specs.Events.{NetworkEvent}
+use Rattle.link_io.specs.Events.{NetworkEvent}
 use Rattle.journal_follow.specs.Asks.{ask_request}
 use Rattle.journal_follow.specs.Following.{GivesUp, IsRound, Last, WasPut, answered, cut_off, told_last, unanswered}
 use Rattle.journal_follow.specs.declared.fault.FollowFault.{FollowFault}

@@ -10,7 +10,7 @@ use Rattle.http_exchange.specs.declared.response.Response.{Response}
 use Rattle.http_exchange.specs.declared.sending.Lost.TheVariants as lost_by
 use Rattle.http_exchange.specs.declared.sending.Sent.TheVariants.{Lost}
 use Rattle.http_exchange.specs.declared.sending.TheConstants.{MAX_TRIES}
-use Rattle.net_io.specs.Events.{NetworkEvent}
+use Rattle.link_io.specs.Events.{NetworkEvent}
 use Rattle.journal_follow.specs.Asks.{IsAnswered, Reads, ask_request}
 use Rattle.journal_follow.specs.Taken.{Answers}
 use Rattle.journal_follow.specs.declared.fault.FollowFault.{FollowFault}

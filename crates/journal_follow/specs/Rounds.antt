@@ -1,7 +1,7 @@
 -- What a round of following comes to.
 use Rattle.std.specs.Prelude.{◌≡◌, ◌≢◌, ◌<◌, ◌+◌, ℕ, true, List, [], length, Option, Result, Ok, Err}
 use Rattle.journal_follow.specs.Taking.{Held, Takes, stored}
-use Rattle.net_io.specs.Events.{NetworkEvent}
+use Rattle.link_io.specs.Events.{NetworkEvent}
 use Rattle.journal_follow.specs.Following.{Ends, IsRound, Last, Round, told_last, told_round}
 use Rattle.journal_follow.specs.declared.fault.FollowFault.{FollowFault}
 use Rattle.journal_follow.specs.declared.fault.FollowFault.TheVariants.{Foreign}

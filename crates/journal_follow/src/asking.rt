@@ -8,7 +8,7 @@ use crate::FollowFault;
 use crate::answer::{Page, page_in};
 use crate::request::ask_request;
 use http_exchange::{Lost, Sent, send};
-use net_io::Network;
+use link_io::Network;
 use std::alloc::Global;
 
 /// Asks for the entries from this one on, over a connection of its own for each try.

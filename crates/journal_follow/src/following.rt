@@ -13,7 +13,7 @@ ghost use Rattle.journal_follow.specs.Taken.{HasCause, HasCauseWithin, IsSoundly
 use crate::asking::ask;
 use crate::{FollowFault, Follower};
 use farm_disk::Disk;
-use net_io::Network;
+use link_io::Network;
 use std::alloc::Global;
 
 /// How far a leader was followed.

@@ -13,3 +13,6 @@ pub mod Standard
 pub mod Streams
 pub mod Telling
 pub mod Took
+pub mod Answers
+pub mod Events
+pub mod MemNetwork

@@ -3,7 +3,7 @@ use Rattle.std.specs.Prelude.{◌≡◌, ℕ, List, Option, Some, None}
 use Rattle.farm_types.specs.CommitId.{id_bytes}
 use Rattle.farm_types.specs.declared.commit_id.CommitId.{CommitId}
 use Rattle.http_exchange.specs.Exchanges.{Exchange, exchange_events, tell_all}
-use Rattle.net_io.specs.Events.{NetworkEvent}
+use Rattle.link_io.specs.Events.{NetworkEvent}
 use Rattle.worker_core.specs.declared.tested.Tested.{Tested}
 use Rattle.worker_io.specs.declared.runner.Ran.{Ran}
 use Rattle.worker_io.specs.declared.runner.Ran.TheVariants as ran

@@ -4,13 +4,12 @@ ghost use Rattle.std.specs.Io.KnownBytes.{append_known};
 ghost use Rattle.http_exchange.specs.Exchanges.{Exchange, Talk, exchange_events, talk_state, talked, tell_all};
 ghost use Rattle.link_io.specs.Links.{fresh_link, link_state};
 ghost use Rattle.link_io.specs.Telling.{add_told};
-ghost use Rattle.net_io.specs.Events.{returned};
+ghost use Rattle.link_io.specs.Events.{returned};
 ghost use Rattle.test_runners.specs.Host.{IsAsked, Says, SaysOver, answer_of, line_of, question_of};
 
 use arrayvec::ArrayVec;
 use farm_types::{CommitId, ID_DIGITS, NAME_MAX_BYTES, Name};
-use link_io::{Link, TakeFailed, put_all, take_piece};
-use net_io::{Connected, Network};
+use link_io::{Connected, Link, Network, TakeFailed, put_all, take_piece};
 use weight_exact::Verdict;
 use worker_core::Tested;
 

@@ -7,7 +7,7 @@ ghost use Rattle.test_runners.specs.Runners.{Asks, by_host, by_nothing, by_table
 use crate::host::ask_host;
 use crate::table::Table;
 use farm_types::{CommitId, Name};
-use net_io::Network;
+use link_io::Network;
 use worker_core::Tested;
 use worker_io::{Ran, Runner};
 

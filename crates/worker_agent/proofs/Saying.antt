@@ -14,7 +14,7 @@ use Rattle.http_exchange.specs.declared.sending.Sent.{Sent}
 use Rattle.http_exchange.specs.declared.sending.Sent.TheVariants as came
 use Rattle.http_words.specs.declared.status_code.StatusCode.TheVariants as status
 use Rattle.link_io.specs.Telling.{add_told}
-use Rattle.net_io.specs.Events.{NetworkEvent}
+use Rattle.link_io.specs.Events.{NetworkEvent}
 use Rattle.worker_core.specs.declared.tested.Tested.{Tested}
 use Rattle.worker_core.specs.declared.action.Action.{Action}
 use Rattle.worker_core.specs.declared.action.Action.TheVariants.{Draw, AskLease, RunTest, SendReport, Stop}

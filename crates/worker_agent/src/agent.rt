@@ -3,7 +3,7 @@ ghost use Rattle.std.specs.Prelude.{◌≡◌, ◌≤◌, true, false, ℕ, List
 ghost use Rattle.farm_types.specs.declared.key.Key.{Key};
 ghost use Rattle.common_types.specs.Counts.{Rose};
 ghost use Rattle.link_io.specs.Telling.{add_told};
-ghost use Rattle.net_io.specs.Events.{NetworkEvent};
+ghost use Rattle.link_io.specs.Events.{NetworkEvent};
 ghost use Rattle.worker_core.specs.Core.{IsCore};
 ghost use Rattle.worker_io.specs.Runs.{Asked, OnRunFailed};
 ghost use Rattle.worker_agent.specs.Agent.{AsksLease, AsksRunner, Finishes, IsActive, IsOther, IsTest, StepSays};
@@ -13,7 +13,7 @@ use crate::reply::{is_network, lease_reply, lost_status, report_event};
 use crate::{WorkFault, Worked};
 use farm_types::{Key, Name};
 use http_exchange::{Sent, send_once};
-use net_io::Network;
+use link_io::Network;
 use std::alloc::Global;
 use std::marker::Model;
 use worker_core::{Action, End, Event, Tested, WorkerCore};

@@ -6,7 +6,7 @@
 //! runner and the source of keys tell (`specs/Steps`, `specs/Work`), so the laws of workers hold of it.
 //!
 //! The crate stands on `worker_core` for what a worker does, on `worker_wire` for what it sends and reads, on
-//! `http_exchange` for a request that is sent and its response, on `http_words` for statuses, and on `net_io` and
+//! `http_exchange` for a request that is sent and its response, on `http_words` for statuses, and on `link_io` and
 //! `worker_io` for the outside. The layers above may use every name below.
 #![tactic(auto)]
 

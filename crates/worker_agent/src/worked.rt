@@ -5,7 +5,7 @@ ghost use Rattle.worker_agent.specs.Work.{Works};
 
 use crate::agent::Agent;
 use farm_types::{Memory, Name};
-use net_io::Network;
+use link_io::Network;
 use std::alloc::Global;
 use worker_core::Action;
 use worker_io::{KeySource, Runner};

@@ -1,6 +1,6 @@
 use Rattle.std.proofs.Common.{List, Option, ap, ◌∙◌}
 use Rattle.link_io.specs.Telling.{add_told}
-use Rattle.net_io.specs.Events.{NetworkEvent, returned}
+use Rattle.link_io.specs.Events.{NetworkEvent, returned}
 use Rattle.http_exchange.specs.Exchanges.{talk_state, talked}
 use Rattle.http_exchange.proofs.Outcomes.{if_answered-weaker}
 use Rattle.http_exchange.proofs.connection.exchange.Goals as goal

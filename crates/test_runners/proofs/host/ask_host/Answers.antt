@@ -1,6 +1,6 @@
 use Rattle.std.proofs.Common.{ℕ, List, Option, ap, subst, ◌∙◌}
 use Rattle.link_io.specs.Telling.{add_told}
-use Rattle.net_io.specs.Events.{NetworkEvent, returned}
+use Rattle.link_io.specs.Events.{NetworkEvent, returned}
 use Rattle.http_exchange.specs.Exchanges.{talk_state, talked}
 use Rattle.test_runners.specs.Host.{SaysOver}
 use Rattle.test_runners.proofs.host.ask_host.Goals as goal

@@ -3,9 +3,9 @@ use Rattle.std.specs.Prelude.{ℕ, List, Some}
 use Rattle.link_io.specs.FaultPlan.{PlannedFaults}
 use Rattle.link_io.specs.Links.{LinkState}
 use Rattle.link_io.specs.MemLink.{LinkInMemory}
-use Rattle.net_io.specs.Events.{NetworkEvent, accepted, accept_ended, accept_failed, connected, connect_failed, returned}
-use Rattle.net_io.specs.declared.memory.Happened.{Happened}
-use Rattle.net_io.specs.declared.memory.Happened.TheVariants as happened
+use Rattle.link_io.specs.Events.{NetworkEvent, accepted, accept_ended, accept_failed, connected, connect_failed, returned}
+use Rattle.link_io.specs.declared.memory.mem_network.Happened.{Happened}
+use Rattle.link_io.specs.declared.memory.mem_network.Happened.TheVariants as happened
 
 -- the links that it will give to accepts and to connects, the calls that are to fail, accepts and connects counted
 -- together, how often it and its links failed, and what it did, the newest first

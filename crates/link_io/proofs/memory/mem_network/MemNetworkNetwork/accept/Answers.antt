@@ -1,7 +1,7 @@
 use Rattle.std.proofs.Common.{refl, subst}
 use Rattle.link_io.specs.FaultPlan.{NextFails}
-use Rattle.net_io.specs.Memory.{NetworkInMemory}
-use Rattle.net_io.proofs.memory.MemNetworkNetwork.accept.Goals as goal
+use Rattle.link_io.specs.MemNetwork.{NetworkInMemory}
+use Rattle.link_io.proofs.memory.mem_network.MemNetworkNetwork.accept.Goals as goal
 
 pub returns-then-next_fails-clause-fails : goal.returns-then-next_fails-clause-fails
 returns-then-next_fails-clause-fails c = (

@@ -2,9 +2,9 @@ use Rattle.std.proofs.Common.{arith, refl, inl, inr, subst, ◌≡◌, []}
 use Rattle.std.proofs.lemmas.Bool.Decides.{nat_tests}
 use Rattle.std.proofs.lemmas.List.{nil_from_length}
 use Rattle.link_io.specs.FaultPlan.{NextFails}
-use Rattle.net_io.specs.Memory.{NetworkInMemory}
-use Rattle.net_io.proofs.memory.MemNetworkNetwork.connect.Goals as goal
-use Rattle.net_io.proofs.memory.MemNetworkNetwork.connect.Goals.{then-fails-via-then-fails, then-fails-via-else-fails+then-is_empty}
+use Rattle.link_io.specs.MemNetwork.{NetworkInMemory}
+use Rattle.link_io.proofs.memory.mem_network.MemNetworkNetwork.connect.Goals as goal
+use Rattle.link_io.proofs.memory.mem_network.MemNetworkNetwork.connect.Goals.{then-fails-via-then-fails, then-fails-via-else-fails+then-is_empty}
 
 pub returns-then-fails-clause-fails : goal.returns-then-fails-clause-fails
 returns-then-fails-clause-fails c = (

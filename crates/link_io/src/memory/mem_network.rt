@@ -3,8 +3,8 @@ ghost use Rattle.std.specs.Prelude.{◌≡◌, ◌≤◌, ◌↔◌, ◌⊎◌, 
 ghost use Rattle.common_types.specs.Counts.{Rose, next_count, count_with};
 ghost use Rattle.link_io.specs.FaultPlan.{fresh_plan, NextFails, plan_after_success, plan_after_fault};
 ghost use Rattle.link_io.specs.MemLink.{LinkInMemory, afresh};
-ghost use Rattle.net_io.specs.Answers.{IfAccepted, OnEnd, OnAcceptFailed, IfConnected, OnConnectFailed};
-ghost use Rattle.net_io.specs.Events.{
+ghost use Rattle.link_io.specs.Answers.{IfAccepted, OnEnd, OnAcceptFailed, IfConnected, OnConnectFailed};
+ghost use Rattle.link_io.specs.Events.{
   accepted,
   accept_ended,
   accept_failed,
@@ -12,11 +12,10 @@ ghost use Rattle.net_io.specs.Events.{
   connect_failed,
   returned,
 };
-ghost use Rattle.net_io.specs.Memory.{mem_link_state};
+ghost use Rattle.link_io.specs.MemNetwork.{mem_link_state};
 
-use crate::{Accepted, Connected, Network};
+use crate::{Accepted, Connected, FaultPlan, MemLink, Network, Source};
 use common_types::{Passed, ToldList};
-use link_io::{FaultPlan, MemLink, Source};
 use std::marker::Model;
 use std::snapshot::Snapshot;
 
@@ -47,7 +46,7 @@ pub struct MemNetwork {
 
 impl Model for MemNetwork {
     ghost use Rattle.std.specs.Prelude.{map};
-    ghost use Rattle.net_io.specs.Memory.{NetworkInMemory, event_of};
+    ghost use Rattle.link_io.specs.MemNetwork.{NetworkInMemory, event_of};
 
     ghost Value = { NetworkInMemory };
 
