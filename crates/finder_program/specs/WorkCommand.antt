@@ -7,7 +7,7 @@ use Rattle.worker_agent.specs.Told.{Told}
 use Rattle.worker_agent.specs.Work.{Works}
 use Rattle.worker_agent.specs.declared.worked.Worked.{Worked}
 use Rattle.worker_agent.specs.declared.worked.WorkFault.{WorkFault}
-use Rattle.worker_io.specs.Runs.{Asked}
+use Rattle.worker_core.specs.Runs.{Asked}
 use Rattle.finder_program.specs.Statuses.{status_of_work}
 use Rattle.farm_serve.specs.Outside.{OutputSeen}
 use Rattle.finder_program.specs.TextPut.{TextPut}

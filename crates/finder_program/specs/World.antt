@@ -5,7 +5,7 @@ use Rattle.farm_types.specs.declared.key.Key.{Key}
 use Rattle.farm_types.specs.declared.moment.Moment.{Moment}
 use Rattle.link_io.specs.Streams.{Streams}
 use Rattle.link_io.specs.declared.source.Source as source
-use Rattle.worker_io.specs.Runs.{Asked}
+use Rattle.worker_core.specs.Runs.{Asked}
 use Rattle.finder_program.specs.WorkCommand.{WorkSeen, work_seen}
 
 -- the bytes that an input has left, where it tells, and how often it failed

@@ -14,7 +14,7 @@ use std::sync::Wait;
 use std::thread::Threads;
 use std::{env, io};
 use tcp_net::{Limits, TcpNetwork};
-use worker_io::RandomKeys;
+use worker_core::RandomKeys;
 
 /// How long what a worker or a follower asks may last in all, with its connect, in milliseconds.
 const EXCHANGE_MS: u64 = 60_000;

@@ -30,7 +30,7 @@ use link_io::{Clock, Network, Sink, Source};
 use std::alloc::Global;
 use std::sync::Wait;
 use std::thread::Threads;
-use worker_io::{KeySource, Runner};
+use worker_core::{KeySource, Runner};
 
 /// Runs the subcommand that the words name, over the objects that it is handed, and gives the disk and the network
 /// back. `rt` starts threads and waits; `words` are the program's words without its own name; `disk` is that of the

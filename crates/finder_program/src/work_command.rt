@@ -11,7 +11,7 @@ use farm_types::Name;
 use link_io::{Network, Sink};
 use std::alloc::Global;
 use worker_agent::{Worked, work};
-use worker_io::{KeySource, Runner};
+use worker_core::{KeySource, Runner};
 
 /// Works under a name for so many leases, and then writes the line of what was done.
 pub fn work_command<K: Sink, N: Network, R: Runner, Q: KeySource>(

@@ -10,8 +10,7 @@ use std::alloc::{AllocError, Global};
 use std::sync::Wait;
 use std::thread::Threads;
 use weight_exact::Verdict;
-use worker_core::Tested;
-use worker_io::{ListKeys, ListRunner};
+use worker_core::{ListKeys, ListRunner, Tested};
 
 /// In how many bytes a link gives what its other end sends.
 const LINK_PIECE: usize = 7;

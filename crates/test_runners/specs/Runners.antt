@@ -5,8 +5,8 @@ use Rattle.farm_types.specs.declared.commit_id.CommitId.{CommitId}
 use Rattle.http_exchange.specs.Exchanges.{Exchange, exchange_events, tell_all}
 use Rattle.link_io.specs.Events.{NetworkEvent}
 use Rattle.worker_core.specs.declared.tested.Tested.{Tested}
-use Rattle.worker_io.specs.declared.runner.Ran.{Ran}
-use Rattle.worker_io.specs.declared.runner.Ran.TheVariants as ran
+use Rattle.worker_core.specs.declared.runner.Ran.{Ran}
+use Rattle.worker_core.specs.declared.runner.Ran.TheVariants as ran
 use Rattle.test_runners.specs.Host.{SaysOver, question_of}
 use Rattle.test_runners.specs.Rows.{TableRow}
 use Rattle.test_runners.specs.Tables.{tested_in}

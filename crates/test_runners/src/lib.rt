@@ -7,9 +7,9 @@
 //! host of the outside holds or says, no contract says: the one who makes the runner reads the file, and the network
 //! is handed in.
 //!
-//! The crate stands on `worker_io` for runners, on `link_io` for connections, on `http_exchange` for what is told of
-//! one connection, on `hex` and `memchr`, and on `farm_types`, `weight_exact` and `worker_core` for names, ids and what
-//! comes of a test. The layers above may use every name below.
+//! The crate stands on `worker_core` for runners and what comes of a test, on `link_io` for connections, on
+//! `http_exchange` for what is told of one connection, on `hex` and `memchr`, and on `farm_types` and `weight_exact`
+//! for names, ids and verdicts. The layers above may use every name below.
 #![tactic(auto)]
 
 mod host;

@@ -1,15 +1,14 @@
 //! The runner that a worker is told to use.
 ghost use Rattle.std.specs.Prelude.{◌≡◌, ◌≤◌, None};
 ghost use Rattle.common_types.specs.Counts.{Rose};
-ghost use Rattle.worker_io.specs.Runs.{OnRunFailed};
+ghost use Rattle.worker_core.specs.Runs.{OnRunFailed};
 ghost use Rattle.test_runners.specs.Runners.{Asks, by_host, by_nothing, by_table, origin_of, ran_by, runner_faults};
 
 use crate::host::ask_host;
 use crate::table::Table;
 use farm_types::{CommitId, Name};
 use link_io::Network;
-use worker_core::Tested;
-use worker_io::{Ran, Runner};
+use worker_core::{Ran, Runner, Tested};
 
 /// Who says what comes of a test.
 #[derive(Drop)]

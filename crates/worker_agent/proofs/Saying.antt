@@ -20,9 +20,9 @@ use Rattle.worker_core.specs.declared.action.Action.{Action}
 use Rattle.worker_core.specs.declared.action.Action.TheVariants.{Draw, AskLease, RunTest, SendReport, Stop}
 use Rattle.worker_core.specs.declared.event.Event.{Event}
 use Rattle.worker_core.specs.declared.event.Event.TheVariants as event
-use Rattle.worker_io.specs.Runs.{Asked, asked}
-use Rattle.worker_io.specs.declared.runner.Ran as runner
-use Rattle.worker_io.specs.declared.runner.Ran.TheVariants as ran_is
+use Rattle.worker_core.specs.Runs.{Asked, asked}
+use Rattle.worker_core.specs.declared.runner.Ran as runner
+use Rattle.worker_core.specs.declared.runner.Ran.TheVariants as ran_is
 use Rattle.worker_wire.specs.Answers.{lease_reading, tells_closed, tells_no_run}
 use Rattle.worker_wire.specs.Requests.{lease_request, report_request}
 use Rattle.worker_wire.specs.declared.answer.AnswerFault.{AnswerFault}

@@ -12,8 +12,8 @@ use Rattle.worker_core.specs.declared.action.Action.{Action}
 use Rattle.worker_core.specs.declared.action.Action.TheVariants.{Draw, AskLease, RunTest, SendReport, Stop}
 use Rattle.worker_core.specs.declared.event.Event.{Event}
 use Rattle.worker_core.specs.declared.event.Event.TheVariants.{Drew, Leased, Nothing, Ran, Noted, Lost}
-use Rattle.worker_io.specs.declared.runner.Ran as runner
-use Rattle.worker_io.specs.declared.runner.Ran.TheVariants as answer
+use Rattle.worker_core.specs.declared.runner.Ran as runner
+use Rattle.worker_core.specs.declared.runner.Ran.TheVariants as answer
 use Rattle.worker_wire.specs.Answers.{tells_closed}
 use Rattle.worker_wire.specs.declared.answer.LeaseAnswer.{LeaseAnswer}
 use Rattle.worker_agent.proofs.Measure.{Suits, less, work_left}

@@ -5,8 +5,8 @@ use Rattle.worker_core.specs.declared.action.Action.{Action}
 use Rattle.worker_core.specs.declared.action.Action.TheVariants.{AskLease, RunTest, Stop}
 use Rattle.worker_core.specs.declared.event.Event.{Event}
 use Rattle.worker_core.specs.declared.event.Event.TheVariants.{Leased}
-use Rattle.worker_io.specs.Runs.{Asked}
-use Rattle.worker_io.specs.declared.runner.Ran.{Ran}
+use Rattle.worker_core.specs.Runs.{Asked}
+use Rattle.worker_core.specs.declared.runner.Ran.{Ran}
 use Rattle.worker_wire.specs.declared.answer.LeaseAnswer.{LeaseAnswer}
 use Rattle.worker_agent.specs.Steps.{AgentState, Does, IsStep, Step, ran}
 use Rattle.worker_agent.specs.Told.{Told, told_step}

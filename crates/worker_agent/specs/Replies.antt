@@ -10,8 +10,8 @@ use Rattle.http_exchange.specs.declared.sending.Sent.TheVariants.{Answered, Lost
 use Rattle.http_words.specs.declared.status_code.StatusCode.TheVariants as status
 use Rattle.worker_core.specs.declared.event.Event.{Event}
 use Rattle.worker_core.specs.declared.event.Event.TheVariants as event
-use Rattle.worker_io.specs.declared.runner.Ran.{Ran}
-use Rattle.worker_io.specs.declared.runner.Ran.TheVariants as ran
+use Rattle.worker_core.specs.declared.runner.Ran.{Ran}
+use Rattle.worker_core.specs.declared.runner.Ran.TheVariants as ran
 use Rattle.worker_wire.specs.Answers.{lease_reading, tells_closed, tells_no_run}
 use Rattle.worker_wire.specs.declared.answer.AnswerFault.{AnswerFault}
 use Rattle.worker_wire.specs.declared.answer.LeaseAnswer.{LeaseAnswer}

@@ -4,7 +4,7 @@ use Rattle.farm_types.specs.declared.key.Key.{Key}
 use Rattle.http_exchange.specs.Exchanges.{Exchange, exchange_events, tell_all}
 use Rattle.link_io.specs.Telling.{add_told}
 use Rattle.link_io.specs.Events.{NetworkEvent}
-use Rattle.worker_io.specs.Runs.{Asked}
+use Rattle.worker_core.specs.Runs.{Asked}
 use Rattle.worker_agent.specs.Steps.{Step, drew, ran, sent}
 
 -- what they have told so far, where they tell

@@ -5,7 +5,7 @@ ghost use Rattle.common_types.specs.Counts.{Rose};
 ghost use Rattle.link_io.specs.Telling.{add_told};
 ghost use Rattle.link_io.specs.Events.{NetworkEvent};
 ghost use Rattle.worker_core.specs.Core.{IsCore};
-ghost use Rattle.worker_io.specs.Runs.{Asked, OnRunFailed};
+ghost use Rattle.worker_core.specs.Runs.{Asked, OnRunFailed};
 ghost use Rattle.worker_agent.specs.Agent.{AsksLease, AsksRunner, Finishes, IsActive, IsOther, IsTest, StepSays};
 ghost use Rattle.worker_agent.specs.Steps.{agent_after, agent_start};
 
@@ -16,8 +16,7 @@ use http_exchange::{Sent, send_once};
 use link_io::Network;
 use std::alloc::Global;
 use std::marker::Model;
-use worker_core::{Action, End, Event, Tested, WorkerCore};
-use worker_io::{KeySource, Ran, Runner};
+use worker_core::{Action, End, Event, KeySource, Ran, Runner, Tested, WorkerCore};
 use worker_wire::{LeaseAnswer, lease_request, report_request};
 
 /// A worker that has begun: its core with the action that is to be done, the lease that it had last, and whether its

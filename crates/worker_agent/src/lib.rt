@@ -7,7 +7,7 @@
 //!
 //! The crate stands on `worker_core` for what a worker does, on `worker_wire` for what it sends and reads, on
 //! `http_exchange` for a request that is sent and its response, on `http_words` for statuses, and on `link_io` and
-//! `worker_io` for the outside. The layers above may use every name below.
+//! `worker_core` for the outside. The layers above may use every name below.
 #![tactic(auto)]
 
 mod agent;

@@ -7,8 +7,7 @@ use crate::agent::Agent;
 use farm_types::{Memory, Name};
 use link_io::Network;
 use std::alloc::Global;
-use worker_core::Action;
-use worker_io::{KeySource, Runner};
+use worker_core::{Action, KeySource, Runner};
 
 /// What a worker did until it stopped.
 #[derive(Clone, Copy)]

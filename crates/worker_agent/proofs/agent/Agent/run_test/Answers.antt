@@ -1,5 +1,5 @@
 use Rattle.std.proofs.Common.{subst}
-use Rattle.worker_io.specs.declared.runner.Ran.{Ran}
+use Rattle.worker_core.specs.declared.runner.Ran.{Ran}
 use Rattle.worker_agent.specs.Agent.{AsksRunner}
 use Rattle.worker_agent.proofs.Saying.{ran-err, ran-ok}
 use Rattle.worker_agent.proofs.agent.Agent.run_test.Goals as goal

@@ -2,8 +2,8 @@
 use Rattle.std.specs.Prelude.{ℕ, List, ⊤}
 use Rattle.farm_types.specs.declared.commit_id.CommitId.{CommitId}
 use Rattle.worker_core.specs.declared.tested.Tested.{Tested}
-use Rattle.worker_io.specs.declared.runner.Ran.{Ran}
-use Rattle.worker_io.specs.declared.runner.Ran.TheVariants as ran
+use Rattle.worker_core.specs.declared.runner.Ran.{Ran}
+use Rattle.worker_core.specs.declared.runner.Ran.TheVariants as ran
 
 -- the test of this name at this commit, and the answer
 pub record Asked : Type 0 where

@@ -1,6 +1,6 @@
 //! A source of keys in memory.
 ghost use Rattle.std.specs.Prelude.{◌≡◌, ◌∷◌, [], Some};
-ghost use Rattle.worker_io.specs.Lists.{next_key, keys_after};
+ghost use Rattle.worker_core.specs.Lists.{next_key, keys_after};
 
 use crate::KeySource;
 use common_types::ToldList;
@@ -19,7 +19,7 @@ pub struct ListKeys {
 }
 
 impl Model for ListKeys {
-    ghost use Rattle.worker_io.specs.Lists.{KeysInMemory};
+    ghost use Rattle.worker_core.specs.Lists.{KeysInMemory};
 
     ghost Value = { KeysInMemory };
 

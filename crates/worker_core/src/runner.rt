@@ -2,10 +2,10 @@
 ghost use Rattle.std.specs.Prelude.{◌≡◌, ◌≤◌, ℕ, List, Option};
 ghost use Rattle.common_types.specs.Counts.{Rose};
 ghost use Rattle.link_io.specs.Telling.{add_told};
-ghost use Rattle.worker_io.specs.Runs.{Asked, asked, OnRunFailed};
+ghost use Rattle.worker_core.specs.Runs.{Asked, asked, OnRunFailed};
 
+use crate::Tested;
 use farm_types::{CommitId, Name};
-use worker_core::Tested;
 
 /// What a run answers.
 #[derive(Clone, Copy)]

@@ -3,8 +3,8 @@ use Rattle.std.specs.Prelude.{ℕ, ◌+◌, ◌%◌, ◌^◌, List, [], ◌∷�
 use Rattle.farm_types.specs.declared.key.Key.{Key}
 use Rattle.link_io.specs.FaultPlan.{PlannedFaults}
 use Rattle.worker_core.specs.declared.tested.Tested.{Tested}
-use Rattle.worker_io.specs.Runs.{Asked, asked}
-use Rattle.worker_io.specs.declared.list_runner.Told.{Told}
+use Rattle.worker_core.specs.Runs.{Asked, asked}
+use Rattle.worker_core.specs.declared.list_runner.Told.{Told}
 
 -- what it will say of tests, the calls that are to fail, how often it failed, and what it answered, the newest
 -- first

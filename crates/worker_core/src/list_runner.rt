@@ -2,15 +2,14 @@
 ghost use Rattle.std.specs.Prelude.{◌≡◌, ◌↔◌, ◌⊎◌, ◌∷◌, [], Some};
 ghost use Rattle.common_types.specs.Counts.{Rose, next_count};
 ghost use Rattle.link_io.specs.FaultPlan.{fresh_plan, NextFails, plan_after_success, plan_after_fault};
-ghost use Rattle.worker_io.specs.Runs.{asked, IfTested, OnRunFailed};
+ghost use Rattle.worker_core.specs.Runs.{asked, IfTested, OnRunFailed};
 
-use crate::{Ran, Runner};
+use crate::{Ran, Runner, Tested};
 use common_types::ToldList;
 use farm_types::{CommitId, Name};
 use link_io::FaultPlan;
 use std::marker::Model;
 use std::snapshot::Snapshot;
-use worker_core::Tested;
 
 /// What was asked and answered.
 #[derive(Drop)]
@@ -21,7 +20,7 @@ struct Told {
 }
 
 impl Told {
-    ghost use Rattle.worker_io.specs.Lists.{asked_of};
+    ghost use Rattle.worker_core.specs.Lists.{asked_of};
 
     fn of(test: &Name, commit: &CommitId, ran: Ran) -> Told
         ensures { asked_of result ≡ asked test.now commit.now ran }
@@ -49,7 +48,7 @@ pub struct ListRunner {
 
 impl Model for ListRunner {
     ghost use Rattle.std.specs.Prelude.{map};
-    ghost use Rattle.worker_io.specs.Lists.{RunnerInMemory, asked_of};
+    ghost use Rattle.worker_core.specs.Lists.{RunnerInMemory, asked_of};
 
     ghost Value = { RunnerInMemory };
 
