@@ -30,7 +30,7 @@ use Rattle.weight_exact.specs.declared.run.Verdict.TheVariants.{Fail, Pass}
 use Rattle.worker_core.specs.declared.tested.Tested.{Tested}
 use Rattle.worker_core.specs.declared.tested.Tested.TheVariants.{Untestable, Verdict}
 use Rattle.farm_entry.specs.declared.command.Command.{Command}
-use Rattle.worker_wire.specs.Requests.{key_text, lease_data, report_data}
+use Rattle.worker_agent.specs.Requests.{key_text, lease_data, report_data}
 use Rattle.seam_laws.proofs.JsonTexts.{IsSent, object_in-compact_text}
 use Rattle.seam_laws.proofs.LeaseReplies.{name-string}
 use Rattle.seam_laws.proofs.Texts.{IsUtf8-name, quoted-short}

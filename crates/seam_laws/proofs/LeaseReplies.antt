@@ -24,8 +24,8 @@ use Rattle.serde_json.specs.Data.{Data, depth, string}
 use Rattle.serde_json.specs.Find.{as_object}
 use Rattle.serde_json.specs.Read.{max_depth}
 use Rattle.serde_json.specs.Written.{compact_text}
-use Rattle.worker_wire.specs.Answers.{and_then, lease_in, lease_reading, member_in}
-use Rattle.worker_wire.specs.declared.answer.AnswerFault.{AnswerFault}
+use Rattle.worker_agent.specs.Answers.{and_then, lease_in, lease_reading, member_in}
+use Rattle.worker_agent.specs.declared.answer.AnswerFault.{AnswerFault}
 use Rattle.seam_laws.proofs.JsonTexts.{IsSent, object_in-compact_text}
 use Rattle.seam_laws.proofs.Refusals.{object_of-written}
 use Rattle.seam_laws.proofs.Texts.{IsUtf8-name, IsUtf8-stage_word}

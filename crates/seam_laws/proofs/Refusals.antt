@@ -11,8 +11,8 @@ use Rattle.farm_wire.specs.Answers.{answer_text}
 use Rattle.farm_wire.specs.Members.{with_member}
 use Rattle.farm_wire.specs.Reading.{object_in}
 use Rattle.farm_wire.specs.Refusals.{refusal_data}
-use Rattle.worker_wire.specs.Answers.{object_of, refuses_closed, refuses_run, tells_closed, tells_closing, tells_no_run, tells_refusal}
-use Rattle.worker_wire.specs.declared.answer.AnswerFault.TheVariants.{Shape}
+use Rattle.worker_agent.specs.Answers.{object_of, refuses_closed, refuses_run, tells_closed, tells_closing, tells_no_run, tells_refusal}
+use Rattle.worker_agent.specs.declared.answer.AnswerFault.TheVariants.{Shape}
 use Rattle.seam_laws.proofs.JsonTexts.{IsSent, object_in-compact_text}
 
 -- a worker reads a written object as itself

@@ -13,8 +13,8 @@ use Rattle.httparse.specs.Grammar.{is_uri_byte}
 use Rattle.json.proofs.Printed.Utf8.{IsUtf8-are_ascii}
 use Rattle.serde_json.specs.Written.{compact_text}
 use Rattle.worker_core.specs.declared.tested.Tested.{Tested}
-use Rattle.worker_wire.specs.Requests.{key_text, lease_data, lease_path, lease_request, report_data, report_end}
-use Rattle.worker_wire.specs.Requests.{report_request, runs_path}
+use Rattle.worker_agent.specs.Requests.{key_text, lease_data, lease_path, lease_request, report_data, report_end}
+use Rattle.worker_agent.specs.Requests.{report_request, runs_path}
 use Rattle.seam_laws.proofs.Decimals.{digits-decimal, pass-each}
 use Rattle.seam_laws.proofs.Framed.{IsPath, post-asks}
 use Rattle.seam_laws.proofs.Paths.{report-asked, report_path, report_path-text, report_path-uri}

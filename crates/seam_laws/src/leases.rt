@@ -6,7 +6,7 @@ ghost use Rattle.farm_entry.specs.declared.refusal.Refusal.TheVariants.{Closed, 
 ghost use Rattle.farm_entry.specs.declared.reply.Reply.TheVariants.{Leased};
 ghost use Rattle.farm_wire.specs.Answers.{answer_text};
 ghost use Rattle.seam_laws.specs.Leases.{IsLease};
-ghost use Rattle.worker_wire.specs.Answers.{lease_reading, tells_closed, tells_no_run};
+ghost use Rattle.worker_agent.specs.Answers.{lease_reading, tells_closed, tells_no_run};
 
 use farm_types::{CommitId, Stage};
 

@@ -8,7 +8,7 @@ ghost use Rattle.http_words.specs.declared.endpoint.Endpoint.TheVariants.{Comman
 ghost use Rattle.http_words.specs.declared.route.Route.TheVariants.{Lease, Report};
 ghost use Rattle.seam_laws.specs.Sent.{IsOneRequest};
 ghost use Rattle.serde_json.specs.Written.{compact_text};
-ghost use Rattle.worker_wire.specs.Requests.{key_text, lease_data, lease_request, report_data, report_request};
+ghost use Rattle.worker_agent.specs.Requests.{key_text, lease_data, lease_request, report_data, report_request};
 
 use farm_types::Key;
 use weight_exact::Verdict;

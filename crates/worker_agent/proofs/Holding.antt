@@ -8,7 +8,7 @@ use Rattle.worker_core.specs.declared.action.End.TheVariants.{Limit, Peer}
 use Rattle.worker_core.specs.declared.event.Event.{Event}
 use Rattle.worker_core.specs.declared.event.Event.TheVariants.{Drew, Leased, Nothing, Ran, Noted, Lost}
 use Rattle.worker_core.specs.declared.worker.TheConstants.{MAX_TRIES}
-use Rattle.worker_wire.specs.declared.answer.LeaseAnswer.{LeaseAnswer}
+use Rattle.worker_agent.specs.declared.answer.LeaseAnswer.{LeaseAnswer}
 use Rattle.worker_agent.specs.Agent.{AsksLease, Holds, IsAgent, IsOther}
 use Rattle.worker_agent.specs.Steps.{AgentState}
 

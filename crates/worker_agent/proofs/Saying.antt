@@ -23,10 +23,10 @@ use Rattle.worker_core.specs.declared.event.Event.TheVariants as event
 use Rattle.worker_core.specs.Runs.{Asked, asked}
 use Rattle.worker_core.specs.declared.runner.Ran as runner
 use Rattle.worker_core.specs.declared.runner.Ran.TheVariants as ran_is
-use Rattle.worker_wire.specs.Answers.{lease_reading, tells_closed, tells_no_run}
-use Rattle.worker_wire.specs.Requests.{lease_request, report_request}
-use Rattle.worker_wire.specs.declared.answer.AnswerFault.{AnswerFault}
-use Rattle.worker_wire.specs.declared.answer.LeaseAnswer.{LeaseAnswer}
+use Rattle.worker_agent.specs.Answers.{lease_reading, tells_closed, tells_no_run}
+use Rattle.worker_agent.specs.Requests.{lease_request, report_request}
+use Rattle.worker_agent.specs.declared.answer.AnswerFault.{AnswerFault}
+use Rattle.worker_agent.specs.declared.answer.LeaseAnswer.{LeaseAnswer}
 use Rattle.worker_agent.specs.Agent.{AsksRunner, Holds, IsAgent, IsTest, StepSays}
 use Rattle.worker_agent.specs.Replies.{is_network, lease_by, lease_event, lease_held, lease_reply, lease_with, leased_event, lost_status, noted_by, refused_by, report_event, run_event}
 use Rattle.worker_agent.specs.Steps.{AgentState, Does, Step, agent_after, drew, event_of, lease_after, ran, sent}

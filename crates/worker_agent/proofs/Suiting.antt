@@ -14,8 +14,8 @@ use Rattle.worker_core.specs.declared.event.Event.{Event}
 use Rattle.worker_core.specs.declared.event.Event.TheVariants.{Drew, Leased, Nothing, Ran, Noted, Lost}
 use Rattle.worker_core.specs.declared.runner.Ran as runner
 use Rattle.worker_core.specs.declared.runner.Ran.TheVariants as answer
-use Rattle.worker_wire.specs.Answers.{tells_closed}
-use Rattle.worker_wire.specs.declared.answer.LeaseAnswer.{LeaseAnswer}
+use Rattle.worker_agent.specs.Answers.{tells_closed}
+use Rattle.worker_agent.specs.declared.answer.LeaseAnswer.{LeaseAnswer}
 use Rattle.worker_agent.proofs.Measure.{Suits, less, work_left}
 use Rattle.worker_agent.specs.Agent.{IsOther}
 use Rattle.worker_agent.specs.Replies.{lease_event, lease_reply, leased_event, lost_status, noted_by, report_event, run_event}

@@ -7,7 +7,7 @@ use Rattle.worker_core.specs.declared.event.Event.{Event}
 use Rattle.worker_core.specs.declared.event.Event.TheVariants.{Leased}
 use Rattle.worker_core.specs.Runs.{Asked}
 use Rattle.worker_core.specs.declared.runner.Ran.{Ran}
-use Rattle.worker_wire.specs.declared.answer.LeaseAnswer.{LeaseAnswer}
+use Rattle.worker_agent.specs.declared.answer.LeaseAnswer.{LeaseAnswer}
 use Rattle.worker_agent.specs.Steps.{AgentState, Does, IsStep, Step, ran}
 use Rattle.worker_agent.specs.Told.{Told, told_step}
 use Rattle.worker_agent.specs.Work.{GivesUp, IsDone, IsEndedBy, Last, told_last}

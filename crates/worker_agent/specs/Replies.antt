@@ -12,9 +12,9 @@ use Rattle.worker_core.specs.declared.event.Event.{Event}
 use Rattle.worker_core.specs.declared.event.Event.TheVariants as event
 use Rattle.worker_core.specs.declared.runner.Ran.{Ran}
 use Rattle.worker_core.specs.declared.runner.Ran.TheVariants as ran
-use Rattle.worker_wire.specs.Answers.{lease_reading, tells_closed, tells_no_run}
-use Rattle.worker_wire.specs.declared.answer.AnswerFault.{AnswerFault}
-use Rattle.worker_wire.specs.declared.answer.LeaseAnswer.{LeaseAnswer}
+use Rattle.worker_agent.specs.Answers.{lease_reading, tells_closed, tells_no_run}
+use Rattle.worker_agent.specs.declared.answer.AnswerFault.{AnswerFault}
+use Rattle.worker_agent.specs.declared.answer.LeaseAnswer.{LeaseAnswer}
 use Rattle.worker_agent.specs.declared.worked.WorkFault.{WorkFault}
 use Rattle.worker_agent.specs.declared.worked.WorkFault.TheVariants.{Peer, RunnerFault}
 

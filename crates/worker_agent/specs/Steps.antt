@@ -9,8 +9,8 @@ use Rattle.worker_core.specs.declared.action.Action.TheVariants.{Draw, AskLease,
 use Rattle.worker_core.specs.declared.event.Event.{Event}
 use Rattle.worker_core.specs.declared.event.Event.TheVariants as event
 use Rattle.worker_core.specs.Runs.{Asked}
-use Rattle.worker_wire.specs.Requests.{lease_request, report_request}
-use Rattle.worker_wire.specs.declared.answer.LeaseAnswer.{LeaseAnswer}
+use Rattle.worker_agent.specs.Requests.{lease_request, report_request}
+use Rattle.worker_agent.specs.declared.answer.LeaseAnswer.{LeaseAnswer}
 use Rattle.worker_agent.specs.Replies.{is_network, lease_event, lease_held, report_event, run_event}
 use Rattle.worker_agent.specs.declared.worked.WorkFault.{WorkFault}
 

@@ -9,7 +9,7 @@ use Rattle.worker_core.specs.declared.action.Action.TheVariants.{AskLease, SendR
 use Rattle.worker_core.specs.declared.action.End.TheVariants as end
 use Rattle.worker_core.specs.declared.event.Event.{Event}
 use Rattle.worker_core.specs.declared.event.Event.TheVariants.{Begin}
-use Rattle.worker_wire.specs.Requests.{lease_request, report_request}
+use Rattle.worker_agent.specs.Requests.{lease_request, report_request}
 use Rattle.worker_agent.specs.Steps.{AgentState, AreSteps, Does, Step, agent_start, event_of}
 use Rattle.worker_agent.specs.Told.{Told, told_exchange, told_step, told_steps}
 use Rattle.worker_agent.specs.declared.worked.Worked.{Worked}

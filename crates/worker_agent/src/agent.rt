@@ -10,14 +10,13 @@ ghost use Rattle.worker_agent.specs.Agent.{AsksLease, AsksRunner, Finishes, IsAc
 ghost use Rattle.worker_agent.specs.Steps.{agent_after, agent_start};
 
 use crate::reply::{is_network, lease_reply, lost_status, report_event};
-use crate::{WorkFault, Worked};
+use crate::{LeaseAnswer, WorkFault, Worked, lease_request, report_request};
 use farm_types::{Key, Name};
 use http_exchange::{Sent, send_once};
 use link_io::Network;
 use std::alloc::Global;
 use std::marker::Model;
 use worker_core::{Action, End, Event, KeySource, Ran, Runner, Tested, WorkerCore};
-use worker_wire::{LeaseAnswer, lease_request, report_request};
 
 /// A worker that has begun: its core with the action that is to be done, the lease that it had last, and whether its
 /// last request met a fault of the network.

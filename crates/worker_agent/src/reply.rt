@@ -2,12 +2,11 @@
 ghost use Rattle.std.specs.Prelude.{◌≡◌, ◌≢◌, Err, IfErr, IfOk, Ok};
 ghost use Rattle.worker_agent.specs.Replies.{is_network, lease_reply, lost_status, report_event};
 
-use crate::WorkFault;
+use crate::{AnswerFault, LeaseAnswer, WorkFault, is_closed, is_no_run, lease_of};
 use http_exchange::{Lost, Response, Sent, status_number};
 use http_words::StatusCode;
 use std::alloc::Global;
 use worker_core::Event;
-use worker_wire::{AnswerFault, LeaseAnswer, is_closed, is_no_run, lease_of};
 
 /// What a response to a request for a run says: a lease, or that there is no run to hand out.
 pub(crate) fn lease_reply(

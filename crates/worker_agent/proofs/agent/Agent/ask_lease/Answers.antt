@@ -1,8 +1,8 @@
 use Rattle.std.proofs.Common.{Bool, List, Option, ℕ, Ok, Err, ap, subst, ◌∙◌}
 use Rattle.std.proofs.lemmas.Result.{err_from_is_err_and}
 use Rattle.http_exchange.specs.Sending.{SendsOnce}
-use Rattle.worker_wire.specs.Requests.{lease_request}
-use Rattle.worker_wire.specs.declared.answer.LeaseAnswer.{LeaseAnswer}
+use Rattle.worker_agent.specs.Requests.{lease_request}
+use Rattle.worker_agent.specs.declared.answer.LeaseAnswer.{LeaseAnswer}
 use Rattle.worker_core.specs.declared.event.Event.TheVariants as event
 use Rattle.worker_agent.specs.Replies.{lease_event, lease_held, lost_status}
 use Rattle.worker_agent.specs.Steps.{agent_after}

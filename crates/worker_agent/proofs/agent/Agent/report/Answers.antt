@@ -1,7 +1,7 @@
 use Rattle.std.proofs.Common.{Bool, List, ℕ, Ok, Err, ap, subst, ◌∙◌}
 use Rattle.std.proofs.lemmas.Result.{err_from_is_err_and}
 use Rattle.http_exchange.specs.Sending.{SendsOnce}
-use Rattle.worker_wire.specs.Requests.{report_request}
+use Rattle.worker_agent.specs.Requests.{report_request}
 use Rattle.worker_agent.specs.Replies.{report_event}
 use Rattle.worker_agent.specs.Steps.{agent_after}
 use Rattle.worker_agent.proofs.Saying.{as_held, asked-err, asked-none, asked-ok, asked-short, asks-report, told_of}

@@ -1,7 +1,7 @@
 use Rattle.std.proofs.Common.{◌≡◌, ℕ, List, IfOk, string_bytes, subst}
 use Rattle.serde_json.specs.Written.{compact_text}
-use Rattle.worker_wire.specs.Requests.{key_text, lease_data}
-use Rattle.worker_wire.proofs.body.lease_body.Goals as goal
+use Rattle.worker_agent.specs.Requests.{key_text, lease_data}
+use Rattle.worker_agent.proofs.body.lease_body.Goals as goal
 
 pub returns : goal.returns
 returns c =

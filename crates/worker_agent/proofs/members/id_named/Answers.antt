@@ -1,6 +1,6 @@
 use Rattle.std.proofs.Common.{◌∙◌}
 use Rattle.farm_wire.proofs.MadeValues.{id_named-result}
-use Rattle.worker_wire.proofs.members.id_named.Goals as goal
+use Rattle.worker_agent.proofs.members.id_named.Goals as goal
 
 pub returns : goal.returns
 returns c =

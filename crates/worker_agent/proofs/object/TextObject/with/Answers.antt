@@ -4,7 +4,7 @@ use Rattle.serde_json.specs.View.{members_view, view}
 use Rattle.serde_json.specs.Written.{has_float, members_have_float}
 use Rattle.farm_wire.proofs.Objects.{members_have_float-put}
 use Rattle.farm_wire.specs.Members.{with_member}
-use Rattle.worker_wire.proofs.object.TextObject.with.Goals as goal
+use Rattle.worker_agent.proofs.object.TextObject.with.Goals as goal
 
 pub invariant_of-result : goal.invariant_of-result
 invariant_of-result c = record {

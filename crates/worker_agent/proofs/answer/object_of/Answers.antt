@@ -4,9 +4,9 @@ use Rattle.std.proofs.lemmas.Bool.{both_ways}
 use Rattle.serde_json.specs.Data.{Data}
 use Rattle.serde_json.specs.View.{view}
 use Rattle.farm_wire.proofs.JsonObjects.{object_in-none, object_in-some}
-use Rattle.worker_wire.specs.Answers.{object_of}
-use Rattle.worker_wire.specs.declared.answer.AnswerFault.TheVariants.{Shape}
-use Rattle.worker_wire.proofs.answer.object_of.Goals as goal
+use Rattle.worker_agent.specs.Answers.{object_of}
+use Rattle.worker_agent.specs.declared.answer.AnswerFault.TheVariants.{Shape}
+use Rattle.worker_agent.proofs.answer.object_of.Goals as goal
 
 pub returns-then-is_object-clause-read : goal.returns-then-is_object-clause-read
 unfolding object_of

@@ -4,7 +4,7 @@ ghost use Rattle.std.specs.Prelude.{◌≡◌, ◌≢◌, Err, IfErr, IfOk, IsEr
 ghost use Rattle.serde_json.specs.View.{view};
 ghost use Rattle.farm_wire.specs.Forms as form;
 ghost use Rattle.farm_wire.specs.Made as made;
-ghost use Rattle.worker_wire.specs.Answers.{member_in};
+ghost use Rattle.worker_agent.specs.Answers.{member_in};
 
 use crate::AnswerFault;
 use farm_types::{CommitId, Memory, Name, NameFault};

@@ -21,7 +21,7 @@ impl TextObject {
     ghost use Rattle.serde_json.specs.Data.{no_members, object, string};
     ghost use Rattle.serde_json.specs.Written.{compact_text};
     ghost use Rattle.farm_wire.specs.Members.{with_member};
-    ghost use Rattle.worker_wire.specs.Object.{members_in};
+    ghost use Rattle.worker_agent.specs.Object.{members_in};
 
     pub(crate) fn new(alloc: Global) -> TextObject
         ensures { members_in result ≡ no_members }

@@ -2,8 +2,8 @@
 
 ghost use Rattle.std.specs.Prelude.{◌≡◌, ◌++◌, IfOk, decimal, string_bytes};
 ghost use Rattle.serde_json.specs.Written.{compact_text};
-ghost use Rattle.worker_wire.specs.Requests.{lease_data, lease_path, lease_request, report_data, report_end};
-ghost use Rattle.worker_wire.specs.Requests.{report_request, runs_path};
+ghost use Rattle.worker_agent.specs.Requests.{lease_data, lease_path, lease_request, report_data, report_end};
+ghost use Rattle.worker_agent.specs.Requests.{report_request, runs_path};
 
 use crate::body::{lease_body, report_body};
 use crate::lines;

@@ -2,7 +2,7 @@
 
 ghost use Rattle.std.specs.Prelude.{◌≡◌, IfOk, string_bytes};
 ghost use Rattle.serde_json.specs.Written.{compact_text};
-ghost use Rattle.worker_wire.specs.Requests.{key_text, lease_data, report_data, tested_word};
+ghost use Rattle.worker_agent.specs.Requests.{key_text, lease_data, report_data, tested_word};
 
 use crate::object::TextObject;
 use farm_types::{Key, Memory, Name};

@@ -1,7 +1,7 @@
 //! The paths of requests.
 
 ghost use Rattle.std.specs.Prelude.{◌≡◌};
-ghost use Rattle.worker_wire.specs.Requests.{lease_path, report_end, runs_path};
+ghost use Rattle.worker_agent.specs.Requests.{lease_path, report_end, runs_path};
 
 pub(crate) fn lease_path<'p>() -> &'p [u8]
     ensures { result.now ≡ lease_path }

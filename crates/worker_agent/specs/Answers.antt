@@ -6,9 +6,9 @@ use Rattle.serde_json.specs.Data.{Data}
 use Rattle.serde_json.specs.Find.{as_str, get}
 use Rattle.farm_wire.specs.Forms as form
 use Rattle.farm_wire.specs.Reading.{object_in}
-use Rattle.worker_wire.specs.declared.answer.AnswerFault.{AnswerFault}
-use Rattle.worker_wire.specs.declared.answer.AnswerFault.TheVariants.{Shape}
-use Rattle.worker_wire.specs.declared.answer.LeaseAnswer.{LeaseAnswer}
+use Rattle.worker_agent.specs.declared.answer.AnswerFault.{AnswerFault}
+use Rattle.worker_agent.specs.declared.answer.AnswerFault.TheVariants.{Shape}
+use Rattle.worker_agent.specs.declared.answer.LeaseAnswer.{LeaseAnswer}
 
 -- what is made of what was read, or the fault in its place
 abbrev pub and_then : {X Y : Type 0} → Result X AnswerFault → (X → Result Y AnswerFault) → Result Y AnswerFault

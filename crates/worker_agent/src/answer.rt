@@ -2,7 +2,7 @@
 
 ghost use Rattle.std.specs.Prelude.{◌≡◌, ◌≢◌, Err, IfErr, IfOk, Ok};
 ghost use Rattle.serde_json.specs.View.{view};
-ghost use Rattle.worker_wire.specs.Answers.{lease_in, lease_reading, object_of, refuses_closed, refuses_run, tells_closed, tells_no_run};
+ghost use Rattle.worker_agent.specs.Answers.{lease_in, lease_reading, object_of, refuses_closed, refuses_run, tells_closed, tells_no_run};
 
 use crate::members::{commit_in, name_in, ordinal_in};
 use farm_types::{CommitId, Memory, Name};

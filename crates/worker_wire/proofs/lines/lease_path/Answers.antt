@@ -1,7 +1,0 @@
-use Rattle.std.proofs.Common.{refl}
-use Rattle.worker_wire.specs.Requests.{lease_path}
-use Rattle.worker_wire.proofs.lines.lease_path.Goals as goal
-
-pub returns : goal.returns
-unfolding lease_path
-returns c = refl

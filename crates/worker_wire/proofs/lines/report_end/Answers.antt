@@ -1,7 +1,0 @@
-use Rattle.std.proofs.Common.{refl}
-use Rattle.worker_wire.specs.Requests.{report_end}
-use Rattle.worker_wire.proofs.lines.report_end.Goals as goal
-
-pub returns : goal.returns
-unfolding report_end
-returns c = refl

@@ -1,7 +1,0 @@
-use Rattle.std.proofs.Common.{refl}
-use Rattle.worker_wire.specs.Requests.{runs_path}
-use Rattle.worker_wire.proofs.lines.runs_path.Goals as goal
-
-pub returns : goal.returns
-unfolding runs_path
-returns c = refl
