@@ -26,8 +26,8 @@ use Rattle.http_requests.specs.Fields.{fields_of}
 use Rattle.http_requests.specs.Framing.{closes_after, has_host, has_origin, is_foreign, is_head_method, is_post, wants_interim}
 use Rattle.http_requests.specs.Items.{Item, IsRequest, body_of, head_size, item_by, item_of, refused}
 use Rattle.http_requests.proofs.Foreign.{item-foreign, item-hostless}
-use Rattle.http_routes.proofs.Rows.{endpoint_of-holds, route_allow}
-use Rattle.http_routes.specs.Routes.{allows, endpoint_of}
+use Rattle.http_requests.proofs.Rows.{endpoint_of-holds, route_allow}
+use Rattle.http_requests.specs.Routes.{allows, endpoint_of}
 use Rattle.http_words.specs.declared.endpoint.Endpoint.{Endpoint}
 use Rattle.http_words.specs.declared.fault.Fault.{Fault}
 use Rattle.http_words.specs.declared.fault.Fault.TheVariants as fault

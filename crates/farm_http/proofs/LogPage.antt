@@ -10,8 +10,8 @@ use Rattle.connection_laws.specs.Moments.{Given}
 use Rattle.http_requests.specs.Items.{Item, IsNext, body_of, head_size, item_by, item_of}
 use Rattle.http_requests.specs.Next.{IsNextFor, item_in}
 use Rattle.http_requests.specs.declared.request.Request.{Request}
-use Rattle.http_routes.proofs.Rows.{endpoint_of-holds}
-use Rattle.http_routes.specs.Routes.{endpoint_of}
+use Rattle.http_requests.proofs.Rows.{endpoint_of-holds}
+use Rattle.http_requests.specs.Routes.{endpoint_of}
 use Rattle.http_words.specs.declared.endpoint.Endpoint.{Endpoint}
 use Rattle.http_words.specs.declared.endpoint.Endpoint.TheVariants as endpoint
 use Rattle.http_words.specs.declared.fault.Fault.{Fault}

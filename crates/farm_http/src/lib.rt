@@ -27,6 +27,6 @@ mod told;
 
 pub use caller::Caller;
 pub use connection_laws::{ServeFault, Served, Why};
-pub use http_routes::Pages;
+pub use http_requests::Pages;
 pub use serve::serve_link;
 pub use service::Service;

@@ -1,7 +1,7 @@
 //! What connections are served with.
 
 use farm_disk::DatedDisk;
-use http_routes::Pages;
+use http_requests::Pages;
 use link_io::Clock;
 use shared_farm::{Beginning, SharedFarm};
 use std::alloc::Global;

@@ -1,8 +1,7 @@
 //! When a connection that waits is given to a handler.
 
 use farm_types::Memory;
-use http_requests::{LastHead, Next, Reading, next_of};
-use http_routes::Pages;
+use http_requests::{LastHead, Next, Pages, Reading, next_of};
 use std::alloc::Global;
 use tcp_net::Enough;
 

@@ -12,7 +12,7 @@ use Rattle.httparse.specs.declared.Status.{Status}
 use Rattle.httparse.specs.declared.Status.TheVariants.{Complete, Partial}
 use Rattle.httparse.specs.declared.spans.HeaderSpan.{HeaderSpan}
 use Rattle.httparse.specs.declared.spans.ResponseSpans.{ResponseSpans}
-use Rattle.http_fields.specs.Lengths.{stated_length}
+use Rattle.http_requests.specs.Lengths.{stated_length}
 use Rattle.http_exchange.specs.Framing.{body_length, length_by}
 use Rattle.http_exchange.specs.Reading.{IsBefore, IsUnfinished, Says, behind_final, progress_of}
 use Rattle.http_exchange.specs.Whole.{HasHead, IsFinal, IsResponse, IsWhole, head_size, is_interim}

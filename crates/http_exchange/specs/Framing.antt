@@ -2,9 +2,9 @@
 use Rattle.std.specs.Prelude.{ℕ, map, Option, Some, None}
 use Rattle.httparse.specs.Grammar.{ResponseHead}
 use Rattle.httparse.specs.Spans.{name_and_value}
-use Rattle.http_fields.specs.Lengths.{stated_length}
-use Rattle.http_fields.specs.declared.lengths.StatedLength.{StatedLength}
-use Rattle.http_fields.specs.declared.lengths.StatedLength.TheVariants.{Absent, Bytes, TooLong, Malformed}
+use Rattle.http_requests.specs.Lengths.{stated_length}
+use Rattle.http_requests.specs.declared.lengths.StatedLength.{StatedLength}
+use Rattle.http_requests.specs.declared.lengths.StatedLength.TheVariants.{Absent, Bytes, TooLong, Malformed}
 
 -- exactly one field has to state a length, which is within the limit
 abbrev pub length_by : StatedLength → Option ℕ

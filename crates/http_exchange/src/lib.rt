@@ -14,7 +14,7 @@
 //! are read with `httparse`, by whose grammar the contracts speak, and hold for every continuation of the bytes
 //! ([`laws`]). So a reader of a connection needs no more than [`ResponseProgress`] says.
 //!
-//! The crate stands on `httparse`, on `http_fields` for what fields say, on `http_words` for statuses and limits, on
+//! The crate stands on `httparse`, on `http_requests` for what fields say, on `http_words` for statuses and limits, on
 //! `link_io` for connections, on `common_types` for the out-of-memory error, counts and a body as a list, and on `itoa`
 //! for numbers. The layers above may use every name below.
 #![tactic(auto)]

@@ -1,7 +1,7 @@
 //! The response at the front of the bytes held.
 ghost use Rattle.std.specs.Prelude.{◌≡◌, ◌≤◌, All, length, map, take};
 ghost use Rattle.httparse.specs.Spans.{IsHeaderWithin, header_bytes};
-ghost use Rattle.http_fields.specs.Lengths.{stated_length};
+ghost use Rattle.http_requests.specs.Lengths.{stated_length};
 ghost use Rattle.http_exchange.specs.Framing.{length_by};
 ghost use Rattle.http_exchange.specs.Reading.{Says, progress_of};
 ghost use Rattle.http_words.specs.declared.limits.TheConstants.{MAX_HEAD_BYTES};
@@ -9,7 +9,7 @@ ghost use Rattle.http_words.specs.declared.limits.TheConstants.{MAX_HEAD_BYTES};
 use crate::fields::body_length;
 use crate::interim::INTERIM_STATUS;
 use crate::progress::{Response, ResponseProgress};
-use http_fields::Fields;
+use http_requests::Fields;
 use http_words::{MAX_FIELDS, MAX_HEAD_BYTES};
 use httparse::Status;
 use httparse::spans::{EMPTY_HEADER_SPAN, HeaderSpan, ResponseSpans, parse_response};

@@ -3,12 +3,12 @@ use Rattle.std.proofs.Common.{ℕ, ◌≡◌, ◌+◌, inl, inr, Bool, true, fal
 use Rattle.std.proofs.lemmas.Bool.{and_parts}
 use Rattle.std.proofs.lemmas.Slice.Eq.{bytes_eq-Decides}
 use Rattle.httparse.specs.Grammar.{RequestHead}
-use Rattle.http_fields.specs.Fields.{FieldText}
-use Rattle.http_fields.specs.Lengths.{stated_length}
-use Rattle.http_fields.specs.declared.lengths.StatedLength.{StatedLength}
-use Rattle.http_fields.specs.declared.lengths.StatedLength.TheVariants.{Absent, Bytes, TooLong, Malformed}
-use Rattle.http_routes.proofs.Rows.{endpoint_of-holds}
-use Rattle.http_routes.specs.Routes.{endpoint_of}
+use Rattle.http_requests.specs.FieldTexts.{FieldText}
+use Rattle.http_requests.specs.Lengths.{stated_length}
+use Rattle.http_requests.specs.declared.lengths.StatedLength.{StatedLength}
+use Rattle.http_requests.specs.declared.lengths.StatedLength.TheVariants.{Absent, Bytes, TooLong, Malformed}
+use Rattle.http_requests.proofs.Rows.{endpoint_of-holds}
+use Rattle.http_requests.specs.Routes.{endpoint_of}
 use Rattle.http_words.specs.declared.endpoint.Endpoint.{Endpoint}
 use Rattle.http_words.specs.declared.fault.Fault.{Fault}
 use Rattle.http_words.specs.declared.fault.Fault.TheVariants as fault

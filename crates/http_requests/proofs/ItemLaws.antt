@@ -5,7 +5,7 @@ use Rattle.std.proofs.lemmas.List.{take-append-le, drop-append-le}
 use Rattle.httparse.specs.Grammar.{RequestHead}
 use Rattle.http_requests.specs.Framing.{is_head_method, wants_interim, closes_after}
 use Rattle.http_requests.specs.Fields.{fields_of}
-use Rattle.http_routes.specs.Routes.{endpoint_of}
+use Rattle.http_requests.specs.Routes.{endpoint_of}
 use Rattle.http_requests.specs.Items.{Item, IsIdle, HasHead, IsRequest, IsNext, Items, End, closed, head_size, body_of, item_by, item_of, refused}
 use Rattle.http_requests.specs.Laws.{IsSettled}
 use Rattle.http_words.specs.declared.fault.Fault.{Fault}

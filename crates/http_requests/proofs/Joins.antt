@@ -10,11 +10,11 @@ use Rattle.std.proofs.lemmas.Slice.Eq.{bytes_eq-Decides}
 use Rattle.std.proofs.lemmas.List.Elements.{All-tail}
 use Rattle.std.proofs.lemmas.List.Folds.{list_any-append}
 use Rattle.http_words.specs.declared.limits.TheConstants.{MAX_BODY_BYTES}
-use Rattle.http_fields.specs.Fields.{FieldText, is_named, named_values, lists_close, has_close, expects_continue}
-use Rattle.http_fields.specs.Lengths.{StatesWithin, length_by, length_in, stated_length}
-use Rattle.http_fields.specs.Texts.{same_text}
-use Rattle.http_fields.specs.declared.lengths.StatedLength.{StatedLength}
-use Rattle.http_fields.specs.declared.lengths.StatedLength.TheVariants.{Absent, Bytes, TooLong, Malformed}
+use Rattle.http_requests.specs.FieldTexts.{FieldText, is_named, named_values, lists_close, has_close, expects_continue}
+use Rattle.http_requests.specs.Lengths.{StatesWithin, length_by, length_in, stated_length}
+use Rattle.http_requests.specs.Texts.{same_text}
+use Rattle.http_requests.specs.declared.lengths.StatedLength.{StatedLength}
+use Rattle.http_requests.specs.declared.lengths.StatedLength.TheVariants.{Absent, Bytes, TooLong, Malformed}
 use Rattle.httparse.specs.Spans.{IsHeaderWithin, header_bytes}
 use Rattle.httparse.specs.declared.spans.HeaderSpan.{HeaderSpan}
 use Rattle.http_requests.specs.Facts.{IsAsked, facts_of, joined, seen_both, seen_of, stated_again, stated_both, with_field}

@@ -11,3 +11,13 @@ pub mod Places
 pub mod Read
 pub mod Says
 pub mod Strides
+pub mod Cuts
+pub mod Options
+pub mod SameTexts
+pub mod PathNumbers
+pub mod Rows
+pub mod TextCuts
+pub mod Seeks
+pub mod RowsApart
+pub mod Table
+pub mod TextBytes

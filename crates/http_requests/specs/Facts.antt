@@ -1,10 +1,10 @@
 -- What the rules ask of the fields of a head, and how it is gathered of some fields and of those behind them.
 use Rattle.std.specs.Prelude.{ℕ, zero, suc, ◌≡◌, Bool, true, false, ◌||◌, List, [], ◌∷◌, length, codes}
-use Rattle.http_fields.specs.Fields.{FieldText, named_values, has_close, expects_continue, lists_close}
-use Rattle.http_fields.specs.Lengths.{length_in, stated_length}
-use Rattle.http_fields.specs.Texts.{same_text}
-use Rattle.http_fields.specs.declared.lengths.StatedLength.{StatedLength}
-use Rattle.http_fields.specs.declared.lengths.StatedLength.TheVariants.{Absent, Bytes, TooLong, Malformed}
+use Rattle.http_requests.specs.FieldTexts.{FieldText, named_values, has_close, expects_continue, lists_close}
+use Rattle.http_requests.specs.Lengths.{length_in, stated_length}
+use Rattle.http_requests.specs.Texts.{same_text}
+use Rattle.http_requests.specs.declared.lengths.StatedLength.{StatedLength}
+use Rattle.http_requests.specs.declared.lengths.StatedLength.TheVariants.{Absent, Bytes, TooLong, Malformed}
 use Rattle.http_requests.specs.Framing.{has_coding, has_origin}
 use Rattle.http_requests.specs.declared.facts.Asked.{Asked}
 use Rattle.http_requests.specs.declared.facts.Asked.TheVariants as asked

@@ -2,7 +2,7 @@
 use Rattle.std.specs.Prelude.{List, map}
 use Rattle.httparse.specs.Grammar.{RequestHead}
 use Rattle.httparse.specs.Spans.{name_and_value}
-use Rattle.http_fields.specs.Fields.{FieldText}
+use Rattle.http_requests.specs.FieldTexts.{FieldText}
 
 -- their names and values
 abbrev pub fields_of : RequestHead → List FieldText

@@ -1,10 +1,10 @@
 -- How long the body of a request is, and what the connection does (RFC 9112, sections 3.2, 6 and 9, and RFC 9110,
 -- section 10.1.1), where what this service doesn't do is refused, and so is what pages in browsers send.
 use Rattle.std.specs.Prelude.{ℕ, Bool, not, ◌&&◌, ◌||◌, ◌==◌, List, length, nat_lt, Result, Ok, Err, codes, bytes_eq, if◌then◌else◌}
-use Rattle.http_fields.specs.Fields.{FieldText, named_values, has_close, expects_continue}
-use Rattle.http_fields.specs.Lengths.{stated_length}
-use Rattle.http_fields.specs.declared.lengths.StatedLength.{StatedLength}
-use Rattle.http_fields.specs.declared.lengths.StatedLength.TheVariants.{Absent, Bytes, TooLong, Malformed}
+use Rattle.http_requests.specs.FieldTexts.{FieldText, named_values, has_close, expects_continue}
+use Rattle.http_requests.specs.Lengths.{stated_length}
+use Rattle.http_requests.specs.declared.lengths.StatedLength.{StatedLength}
+use Rattle.http_requests.specs.declared.lengths.StatedLength.TheVariants.{Absent, Bytes, TooLong, Malformed}
 use Rattle.http_words.specs.declared.fault.Fault.{Fault}
 use Rattle.http_words.specs.declared.fault.Fault.TheVariants as fault
 

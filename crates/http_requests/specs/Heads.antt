@@ -2,7 +2,7 @@
 use Rattle.std.specs.Prelude.{ℕ, ◌≡◌, ◌≤◌, List, length}
 use Rattle.httparse.specs.Grammar.{RequestHead, ReadsRequest, HasNoRequest, MayBecomeRequest}
 use Rattle.httparse.specs.Spans.{RequestOverflows}
-use Rattle.http_fields.specs.Lengths.{StatesWithin}
+use Rattle.http_requests.specs.Lengths.{StatesWithin}
 use Rattle.http_words.specs.declared.limits.TheConstants.{MAX_FIELDS}
 use Rattle.http_requests.specs.Facts.{facts_of}
 use Rattle.http_requests.specs.Fields.{fields_of}

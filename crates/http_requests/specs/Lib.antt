@@ -11,3 +11,12 @@ pub mod Looks
 pub mod Next
 pub mod Places
 pub mod Readings
+pub mod Texts
+pub mod FieldTexts
+pub mod Lengths
+pub mod Paths
+pub mod Routes
+pub mod Segments
+pub mod Walk
+pub mod Apart
+pub mod Filled

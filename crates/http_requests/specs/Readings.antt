@@ -11,7 +11,7 @@ use Rattle.http_requests.specs.declared.reading.Reading.{Reading}
 use Rattle.http_requests.specs.declared.reading.Stage.{Stage}
 use Rattle.http_requests.specs.declared.reading.Stage.TheVariants as stage
 use Rattle.http_requests.specs.declared.request.Request.{Request}
-use Rattle.http_routes.specs.Routes.{endpoint_of}
+use Rattle.http_requests.specs.Routes.{endpoint_of}
 use Rattle.http_words.specs.declared.fault.Fault.{Fault}
 use Rattle.http_words.specs.declared.limits.TheConstants.{MAX_HEAD_BYTES, MAX_BODY_BYTES}
 

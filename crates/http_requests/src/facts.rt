@@ -1,12 +1,12 @@
 //! What the fields of a head say, gathered in one pass.
 ghost use Rattle.std.specs.Prelude.{◌≡◌, ◌∷◌, codes, cond, length, []};
-ghost use Rattle.http_fields.specs.Fields.{field_texts};
-ghost use Rattle.http_fields.specs.Lengths.{StatesWithin};
-ghost use Rattle.http_fields.specs.Texts.{same_text};
+ghost use Rattle.http_requests.specs.FieldTexts.{field_texts};
+ghost use Rattle.http_requests.specs.Lengths.{StatesWithin};
+ghost use Rattle.http_requests.specs.Texts.{same_text};
 ghost use Rattle.http_requests.specs.Facts.{IsAsked, facts_of, is_once, joined, seen_both, stated_both, with_field};
 ghost use Rattle.httparse.specs.Spans.{IsHeaderWithin, header_bytes};
 
-use http_fields::{Fields, StatedLength, is_same, length_in, lists_close};
+use crate::{Fields, StatedLength, is_same, length_in, lists_close};
 use httparse::spans::HeaderSpan;
 
 /// How many fields have a name.

@@ -1,12 +1,12 @@
 //! How long the body of a request is.
 ghost use Rattle.std.specs.Prelude.{◌≡◌, ◌≤◌, IfOk, List};
-ghost use Rattle.http_fields.specs.Fields.{FieldText};
-ghost use Rattle.http_fields.specs.Lengths.{StatesWithin};
+ghost use Rattle.http_requests.specs.FieldTexts.{FieldText};
+ghost use Rattle.http_requests.specs.Lengths.{StatesWithin};
 ghost use Rattle.http_requests.specs.Facts.{facts_of};
 ghost use Rattle.http_requests.specs.Framing.{body_length, has_host, is_foreign, is_post, length_by};
 
+use crate::StatedLength;
 use crate::facts::Facts;
-use http_fields::StatedLength;
 use http_words::{Fault, MAX_BODY_BYTES};
 
 /// Whether exactly one `Host` field stands where one has to.

@@ -8,13 +8,13 @@ ghost use Rattle.http_requests.specs.Next.{AwaitsHead, HasNoHeadFor, IsFound, Is
 ghost use Rattle.http_requests.specs.Places.{is_blank, is_end, place_of};
 ghost use Rattle.http_requests.specs.Readings.{IsBegun, IsBodyAwaited, IsReading};
 
+use crate::Pages;
 use crate::front::{Front, front_of};
 use crate::last_head::LastHead;
 use crate::look::Look;
 use crate::looked::Looked;
 use crate::reading::{Begun, Reading, Stage};
 use crate::request::Request;
-use http_routes::Pages;
 use http_words::{Fault, MAX_HEAD_BYTES};
 use std::marker::Brand;
 use std::sync::ledger::{Blank, Ledger};

@@ -2,10 +2,10 @@
 ghost use Rattle.std.specs.Prelude.{List};
 ghost use Rattle.http_requests.specs.Items.{Item, Items, End};
 
+use crate::Pages;
 use crate::last_head::LastHead;
 use crate::next::{Next, next_of};
 use crate::reading::Reading;
-use http_routes::Pages;
 
 /// A law that a call shows: every input has a list of items. The input is read to its end, and nothing is kept of it.
 pub fn every_input_has_items(pages: &Pages, bytes: &[u8])

@@ -2,8 +2,8 @@
 //! of answers, and how much of a message is taken.
 //!
 //! The crate stands on the standard library alone, and nothing in it runs. The layers above may use every name below.
-//! So the readers of commands (`farm_wire`), the table of paths (`http_routes`), the readers of messages and the writer
-//! of answers speak of the same routes, faults and limits, and none of them stands on another for it.
+//! So the readers of commands (`farm_wire`), the table of paths (`http_requests`), the readers of messages and the
+//! writer of answers speak of the same routes, faults and limits, and none of them stands on another for it.
 #![tactic(auto)]
 
 mod endpoint;

@@ -10,13 +10,13 @@ use Rattle.std.proofs.lemmas.Fmt.{length-decimal-le}
 use Rattle.std.proofs.lemmas.List.Elements.{All-cons, All-nil}
 use Rattle.common_types.specs.Decimals.{are_digits}
 use Rattle.http_exchange.specs.Requests.{get_request, post_request}
-use Rattle.http_fields.specs.Fields.{FieldText, expects_continue, has_close}
-use Rattle.http_fields.specs.Lengths.{length_in, stated_length}
-use Rattle.http_fields.specs.Texts.{same_text}
-use Rattle.http_fields.specs.declared.lengths.StatedLength.TheVariants.{Bytes}
+use Rattle.http_requests.specs.FieldTexts.{FieldText, expects_continue, has_close}
+use Rattle.http_requests.specs.Lengths.{length_in, stated_length}
+use Rattle.http_requests.specs.Texts.{same_text}
+use Rattle.http_requests.specs.declared.lengths.StatedLength.TheVariants.{Bytes}
 use Rattle.http_requests.specs.Fields.{fields_of}
 use Rattle.http_requests.specs.Framing.{body_length, closes_after, is_head_method, length_by, wants_interim}
-use Rattle.http_routes.specs.Routes.{endpoint_of}
+use Rattle.http_requests.specs.Routes.{endpoint_of}
 use Rattle.http_words.specs.declared.endpoint.Endpoint.{Endpoint}
 use Rattle.http_words.specs.declared.limits.TheConstants.{MAX_BODY_BYTES}
 use Rattle.httparse.specs.Grammar.{AllPass, IsField, IsRequestHead, IsToken, is_token_byte, is_uri_byte, is_value_byte}

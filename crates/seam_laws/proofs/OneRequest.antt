@@ -8,7 +8,7 @@ use Rattle.http_requests.specs.Fields.{fields_of}
 use Rattle.http_requests.specs.Framing.{closes_after, is_head_method, wants_interim}
 use Rattle.http_requests.specs.Items.{HasHead, body_of, head_size, item_of}
 use Rattle.http_requests.proofs.ItemLaws.{item_of-whole, whole_item}
-use Rattle.http_routes.specs.Routes.{endpoint_of}
+use Rattle.http_requests.specs.Routes.{endpoint_of}
 use Rattle.http_words.specs.declared.endpoint.Endpoint.{Endpoint}
 use Rattle.http_words.specs.declared.limits.TheConstants.{MAX_FIELDS, MAX_HEAD_BYTES}
 use Rattle.seam_laws.specs.Sent.{IsOneRequest, sent_item}

@@ -9,19 +9,19 @@ use Rattle.std.proofs.lemmas.Fmt.{IsAscii-decimal}
 use Rattle.std.proofs.lemmas.List.Elements.{All-append}
 use Rattle.std.proofs.lemmas.List.Splits.{slice_split_at, slice_split_none}
 use Rattle.std.proofs.lemmas.Str.{IsUtf8-append, IsUtf8-from_ascii}
-use Rattle.http_fields.specs.Texts.{same_text}
-use Rattle.http_routes.proofs.PathNumbers.{path_number-some}
-use Rattle.http_routes.specs.Paths.{path_of, question_mark, scheme_bytes}
-use Rattle.http_routes.specs.Routes.{endpoint_by, endpoint_of, number_at, numbered, page_of, path_number, path_table}
-use Rattle.http_routes.specs.Routes.{text_at}
-use Rattle.http_routes.specs.declared.page.Page.{Page}
-use Rattle.http_routes.specs.declared.page.Page.TheVariants as page
+use Rattle.http_requests.specs.Texts.{same_text}
+use Rattle.http_requests.proofs.PathNumbers.{path_number-some}
+use Rattle.http_requests.specs.Paths.{path_of, question_mark, scheme_bytes}
+use Rattle.http_requests.specs.Routes.{endpoint_by, endpoint_of, number_at, numbered, page_of, path_number, path_table}
+use Rattle.http_requests.specs.Routes.{text_at}
+use Rattle.http_requests.specs.declared.page.Page.{Page}
+use Rattle.http_requests.specs.declared.page.Page.TheVariants as page
 use Rattle.http_words.specs.declared.endpoint.Endpoint.TheVariants as endpoint
 use Rattle.http_words.specs.declared.fault.PathField.TheVariants as field
 use Rattle.http_words.specs.declared.route.Route.TheVariants as route
 use Rattle.httparse.specs.Grammar.{AllPass, is_uri_byte}
 use Rattle.json.proofs.Printed.Utf8.{IsUtf8-are_ascii}
-use Rattle.http_routes.specs.Segments.{parts, row_in, slash}
+use Rattle.http_requests.specs.Segments.{parts, row_in, slash}
 use Rattle.seam_laws.proofs.Decimals.{digits-decimal, number-decimal, pass-each, question-digit, slash-digit}
 use Rattle.seam_laws.proofs.Decimals.{some-digit, uri-digit}
 

@@ -4,9 +4,9 @@ use Rattle.std.proofs.lemmas.Fmt.{length-decimal-le}
 use Rattle.farm_types.specs.Limits.{IsName}
 use Rattle.farm_types.specs.declared.key.Key.{Key}
 use Rattle.http_exchange.specs.Requests.{post_request}
-use Rattle.http_fields.specs.Texts.{same_text}
-use Rattle.http_routes.specs.Paths.{path_of}
-use Rattle.http_routes.specs.Routes.{endpoint_of, page_of}
+use Rattle.http_requests.specs.Texts.{same_text}
+use Rattle.http_requests.specs.Paths.{path_of}
+use Rattle.http_requests.specs.Routes.{endpoint_of, page_of}
 use Rattle.http_words.specs.declared.endpoint.Endpoint.TheVariants as endpoint
 use Rattle.http_words.specs.declared.route.Route.TheVariants as route
 use Rattle.httparse.specs.Grammar.{is_uri_byte}

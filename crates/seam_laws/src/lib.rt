@@ -4,7 +4,7 @@
 //! for a run, `requests` those of a worker's requests, `pages` those of a follower's ask and of a page of the log. The
 //! crate stands on the definitions of both sides: `farm_wire` and `entry_codec` for what a farm writes and reads,
 //! `worker_agent`, `http_exchange` and `journal_follow` for a worker and a follower, and `http_requests` with
-//! `http_routes` for what stands on a connection. `specs/Sent` says what one request alone on a connection is,
+//! `http_requests` for what stands on a connection. `specs/Sent` says what one request alone on a connection is,
 //! `specs/Leases` which numbers a lease has.
 #![tactic(auto)]
 

@@ -2,7 +2,7 @@ use Rattle.std.proofs.Common.{◌≡◌, ◌-◌, length, take, drop, sym, ap, s
 use Rattle.std.proofs.lemmas.List.{take_all}
 use Rattle.std.specs.List.{All}
 use Rattle.httparse.specs.Spans.{IsHeaderWithin}
-use Rattle.http_fields.specs.Fields.{field_texts}
+use Rattle.http_requests.specs.FieldTexts.{field_texts}
 use Rattle.http_requests.specs.Facts.{facts_of, joined}
 use Rattle.http_requests.specs.declared.facts.Facts.{Facts}
 use Rattle.http_requests.proofs.Joins.{all-gathered, facts-within, none-joined, on-first, rest-within}
