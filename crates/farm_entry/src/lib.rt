@@ -13,9 +13,9 @@
 //! (from an opening to its weights), `History` (what a list of entries holds), `Standing`, `Due`, `Orders`, `RunPages`,
 //! `SearchLines`, `Pages`, `Reply`, `Decision`, `Answer`, `Closing` (when a farm may be closed, and what it may carry
 //! over), `Legal` and `Playing` (what becomes of a history as commands are decided). They compute. Their laws stand in
-//! a crate above this one, `farm_laws`, and farms that are played by evaluating them in `farm_worked`. The layers above
-//! may cite the lemmas of `proofs/Growing` (what a history holds after appending an entry, and its last moment),
-//! `proofs/Asked` (what is made of the numbers of an ask) and `proofs/SameSettings`.
+//! crates above this one, `farm_laws` and `leaf_laws`, which has farms that are played by evaluating them too. The
+//! layers above may cite the lemmas of `proofs/Growing` (what a history holds after appending an entry, and its last
+//! moment), `proofs/Asked` (what is made of the numbers of an ask) and `proofs/SameSettings`.
 #![tactic(auto)]
 
 mod answer;

@@ -41,3 +41,17 @@ pub mod Progresses
 pub mod WordLines
 pub mod Chains
 pub mod Last
+pub mod Bodies
+pub mod Decimals
+pub mod Framed
+pub mod Heads
+pub mod JsonTexts
+pub mod LeaseReplies
+pub mod LogPages
+pub mod OneRequest
+pub mod Paths
+pub mod SentRefusals
+pub mod Requested
+pub mod Texts
+pub mod LargeFarm
+pub mod Thousand

@@ -10,3 +10,9 @@ pub mod Given
 pub mod Judgements
 pub mod Unseen
 pub mod Chain
+pub mod LeaseNumbers
+pub mod Sent
+pub mod WorkedFarms
+pub mod Untestable
+pub mod Following
+pub mod Serving

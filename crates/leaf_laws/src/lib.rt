@@ -1,5 +1,6 @@
 //! Laws on which no code stands: of the inference, of values, of every legal history, of workers that serve a farm, of
-//! evidence, and of farms that follow one another. A function here does nothing: its contract is the law.
+//! evidence, of farms that follow one another, and of what a farm, a worker and a follower send each other; and farms
+//! that are played by evaluating the definitions. A function here does nothing: its contract is the law.
 //!
 //! Of the inference they say what holds of likelihoods, weights, shares, budgets and plans, over every list of runs.
 //! `specs/Plain` has the table that is not in lowest terms, `specs/Example` a small search. Of values: the digits of
@@ -23,8 +24,15 @@
 //! ordered once, for good, and no day has more orders than its limit. `specs/Chain` says what a chain of farms is. That
 //! the lines which a closed farm writes are those that the next one carries over is a law of `farm_handover`.
 //!
-//! The crate stands on the crates whose definitions the laws speak of, and on the lemmas of `farm_laws`, which has the
-//! laws that its lemmas alone give. Nothing stands on it but `farm_worked` and readers.
+//! What one side writes, the other reads as it was meant: [`sent_leases`] has the laws of the farm's answers to a
+//! request for a run, [`sent_requests`] those of a worker's requests, [`sent_pages`] those of a follower's ask and of a
+//! page of the log. `specs/Sent` says what one request alone on a connection is, `specs/LeaseNumbers` which numbers a
+//! lease has.
+//!
+//! [`worked`] has farms that are played: numbers that were worked out by hand, and that the definitions compute.
+//!
+//! The crate stands on the crates whose definitions the laws speak of, those of both sides of a connection among them,
+//! and on the lemmas of `farm_laws`, which has the laws that its lemmas alone give. Nothing stands on it but readers.
 #![tactic(auto)]
 
 mod dates;
@@ -38,10 +46,14 @@ mod playing;
 mod refusals;
 mod repeats;
 mod reruns;
+pub mod sent_leases;
+pub mod sent_pages;
+pub mod sent_requests;
 mod standings;
 pub mod succession;
 mod totals;
 mod weights;
+pub mod worked;
 pub mod workers;
 
 pub use dates::days_and_their_texts_go_together;

@@ -1,2 +1,0 @@
-pub mod LargeFarm
-pub mod Thousand

@@ -1,4 +1,0 @@
-pub mod Example
-pub mod Untestable
-pub mod Following
-pub mod Serving

@@ -1,5 +1,0 @@
-use Rattle.seam_laws.proofs.LeaseReplies.{lease-read}
-use Rattle.seam_laws.proofs.leases.leases_are_read_as_leases.Goals as goal
-
-pub returns : goal.returns
-returns c = lease-read
