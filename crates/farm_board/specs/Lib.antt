@@ -3,3 +3,7 @@ pub mod Reader
 pub mod Views
 pub mod Rule
 pub mod Steps
+pub mod Jobs
+pub mod JobViews
+pub mod JobRules
+pub mod JobSteps

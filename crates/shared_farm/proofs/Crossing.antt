@@ -12,7 +12,7 @@ use Rattle.common_types.proofs.Crossing.{told_list-send}
 use Rattle.farm_store.proofs.Crossing.{store-send}
 use Rattle.turn_lock.proofs.lock.TurnLock.TheSendSync as TurnLock
 use Rattle.turn_lock.proofs.pass.Pass.TheSendSync as Pass
-use Rattle.job_table.proofs.jobs.JobTable.TheSendSync as JobTable
+use Rattle.farm_board.proofs.jobs.JobTable.TheSendSync as JobTable
 use Rattle.shared_farm.proofs.errand.Errand.TheSendSync as Errand
 use Rattle.shared_farm.proofs.errand.ErrandOutcome.TheSendSync as ErrandOutcome
 use Rattle.farm_board.proofs.board.Board.TheSendSync as Board

@@ -10,7 +10,7 @@ use Rattle.farm_store.specs.State.{StoreState}
 use Rattle.farm_store.specs.Together.{all_asks}
 use Rattle.farm_store.specs.Answering.{history_after}
 use Rattle.farm_store.specs.declared.asking.Part.{Part}
-use Rattle.job_table.specs.Jobs.{Jobs}
+use Rattle.farm_board.specs.Jobs.{Jobs}
 use Rattle.shared_farm.specs.Errands.{IsErrand, errands_asks}
 use Rattle.shared_farm.specs.Rounds.{AreHelped, IsHelped, IsShared, first_asks}
 use Rattle.shared_farm.specs.declared.errand.Errand.{Errand}

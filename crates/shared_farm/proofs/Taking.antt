@@ -8,7 +8,7 @@ use Rattle.farm_store.specs.declared.asking.Part.{Part}
 use Rattle.farm_store.specs.Sizes.{command_size, asks_size}
 use Rattle.farm_store.specs.declared.asking.TheConstants.{MAX_BATCH_BYTES, MAX_RECORD_BYTES}
 use Rattle.farm_store.proofs.Together.{all_asks-push}
-use Rattle.job_table.specs.Jobs.{Jobs}
+use Rattle.farm_board.specs.Jobs.{Jobs}
 use Rattle.shared_farm.specs.Rounds.{AreHelped, IsHelped}
 use Rattle.shared_farm.specs.declared.errand.Helped.{Helped}
 

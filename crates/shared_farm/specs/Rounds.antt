@@ -8,7 +8,7 @@ use Rattle.farm_store.specs.State.{StoreState}
 use Rattle.farm_store.specs.Together.{all_asks}
 use Rattle.farm_store.specs.declared.asking.Ask.{Ask}
 use Rattle.farm_store.specs.declared.asking.Part.{Part}
-use Rattle.job_table.specs.Jobs.{Jobs}
+use Rattle.farm_board.specs.Jobs.{Jobs}
 use Rattle.common_types.specs.Prefix.{IsPrefix}
 use Rattle.turn_lock.specs.Known.{Before, IsSettled}
 use Rattle.turn_lock.specs.Places.{ArePlaces}

@@ -5,9 +5,9 @@ ghost use Rattle.shared_farm.specs.Outcomes.{IsDone};
 use crate::beginning::Beginning;
 use crate::locked::Locked;
 use common_types::Past;
+use farm_board::{JobRule, JobTable, Taken};
 use farm_disk::DatedDisk;
 use farm_store::{Answers, Ask, CallFault};
-use job_table::{JobRule, JobTable, Taken};
 use std::marker::PhantomData;
 use turn_lock::{Pass, TurnLock};
 

@@ -23,10 +23,10 @@
 //! is shared. Where the pass that closes has all parts of the farm, each entry behind the first history is at one of
 //! its places, or was pending as a turn failed (`IsOwned` of `turn_lock`).
 //!
-//! The crate stands on `farm_store` for the farm, on `turn_lock` for turns and passes, on `job_table` for errands, on
-//! `farm_board` for the totals, and on `entry_codec` for log pages. Contracts see a shared farm as the name of its
-//! lock, and a reader as the history that it has seen; what a turn came to is `IsCall` and `IsTurn` of `specs/Turns`,
-//! and what it keeps of its pass is `KeepsPass`. The layers above may use every name below.
+//! The crate stands on `farm_store` for the farm, on `turn_lock` for turns and passes, on `farm_board` for errands and
+//! for the totals, and on `entry_codec` for log pages. Contracts see a shared farm as the name of its lock, and a
+//! reader as the history that it has seen; what a turn came to is `IsCall` and `IsTurn` of `specs/Turns`, and what it
+//! keeps of its pass is `KeepsPass`. The layers above may use every name below.
 #![tactic(auto)]
 
 mod beginning;

@@ -1,7 +1,7 @@
 use Rattle.std.proofs.Common.{◌≡◌, ◌≤◌, ◌+◌, length, arith, ap, sym, ◌∙◌, subst}
 use Rattle.farm_store.specs.Sizes.{asks_size}
 use Rattle.farm_store.specs.declared.asking.TheConstants.{MAX_RECORD_BYTES}
-use Rattle.job_table.specs.Jobs.{JobOf}
+use Rattle.farm_board.specs.Jobs.{JobOf}
 use Rattle.shared_farm.specs.Errands.{IsErrand}
 use Rattle.shared_farm.specs.Rounds.{IsHelped}
 use Rattle.shared_farm.specs.declared.errand.Helped.{Helped}

@@ -1,7 +1,7 @@
 //! The rule of the table, and what each kind of step tells.
-ghost use Rattle.job_table.specs.Rule.{IsKept};
-ghost use Rattle.job_table.specs.Steps.{Begins, Reserves, Posts, Takes, Ends, Fetches, Retracts};
-ghost use Rattle.job_table.specs.Views.{idle};
+ghost use Rattle.farm_board.specs.JobRules.{IsKept};
+ghost use Rattle.farm_board.specs.JobSteps.{Begins, Reserves, Posts, Takes, Ends, Fetches, Retracts};
+ghost use Rattle.farm_board.specs.JobViews.{idle};
 
 use crate::rule::JobRule;
 use crate::view::{Slot, View};

@@ -15,9 +15,9 @@ pub struct Taken<K, Q, A> {
 
 impl<K, Q, A> Model for Taken<K, Q, A> {
     ghost use Rattle.std.specs.Prelude.{◌≡◌, ◌<◌, [], ◌∷◌, None};
-    ghost use Rattle.job_table.specs.Jobs.{JobOf};
-    ghost use Rattle.job_table.specs.Views.{helping};
-    ghost use Rattle.job_table.specs.declared.jobs.TheConstants.{SLOTS};
+    ghost use Rattle.farm_board.specs.Jobs.{JobOf};
+    ghost use Rattle.farm_board.specs.JobViews.{helping};
+    ghost use Rattle.farm_board.specs.declared.jobs.TheConstants.{SLOTS};
 
     ghost Value = { JobOf K Q };
 

@@ -1,7 +1,7 @@
 use Rattle.std.proofs.Common.{arith, sym, ap, ◌∙◌, []}
-use Rattle.job_table.specs.Views.{idle}
-use Rattle.job_table.proofs.Keeps.{claims}
-use Rattle.job_table.proofs.jobs.JobTable.claim_at.Goals as goal
+use Rattle.farm_board.specs.JobViews.{idle}
+use Rattle.farm_board.proofs.KeepsJobs.{claims}
+use Rattle.farm_board.proofs.jobs.JobTable.claim_at.Goals as goal
 
 pub compare_exchange-requires : goal.compare_exchange-requires
 compare_exchange-requires g c =

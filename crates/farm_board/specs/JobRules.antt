@@ -5,14 +5,14 @@ use Rattle.std.specs.Prelude.{Option, Some, None}
 use mathlib.Core.Option.{some, none}
 use lib.ListN.{get_elem?}
 use Rattle.atomic_table.specs.Table.{State}
-use Rattle.job_table.specs.Views.{idle}
-use Rattle.job_table.specs.declared.jobs.TheConstants.{SLOTS}
-use Rattle.job_table.specs.declared.steps.TheConstants.{FREE, CLAIMED, POSTED, TAKEN, ANSWERED}
-use Rattle.job_table.specs.declared.view.SeatPart.{SeatPart}
-use Rattle.job_table.specs.declared.view.SeatPart.TheVariants.{Idle, Claims, Asks, Helps}
-use Rattle.job_table.specs.declared.view.Slot.{Slot}
-use Rattle.job_table.specs.declared.view.Slot.TheVariants.{Job, Answer}
-use Rattle.job_table.specs.declared.view.View.{View}
+use Rattle.farm_board.specs.JobViews.{idle}
+use Rattle.farm_board.specs.declared.jobs.TheConstants.{SLOTS}
+use Rattle.farm_board.specs.declared.steps.TheConstants.{FREE, CLAIMED, POSTED, TAKEN, ANSWERED}
+use Rattle.farm_board.specs.declared.view.SeatPart.{SeatPart}
+use Rattle.farm_board.specs.declared.view.SeatPart.TheVariants.{Idle, Claims, Asks, Helps}
+use Rattle.farm_board.specs.declared.view.Slot.{Slot}
+use Rattle.farm_board.specs.declared.view.Slot.TheVariants.{Job, Answer}
+use Rattle.farm_board.specs.declared.view.View.{View}
 
 -- How far a slot is: nobody uses it; a seat has it for itself; a seat posted a job there; another seat took that job;
 -- the answer is there.

@@ -1,9 +1,9 @@
 use Rattle.std.proofs.Common.{arith, ◌∙◌, Some}
-use Rattle.job_table.specs.Views.{helping}
-use Rattle.job_table.specs.declared.view.Slot.TheVariants.{Job}
-use Rattle.job_table.proofs.Hands.{in_hands}
-use Rattle.job_table.proofs.Keeps.{begins, takes_job}
-use Rattle.job_table.proofs.jobs.JobTable.take_at.Goals as goal
+use Rattle.farm_board.specs.JobViews.{helping}
+use Rattle.farm_board.specs.declared.view.Slot.TheVariants.{Job}
+use Rattle.farm_board.proofs.Hands.{in_hands}
+use Rattle.farm_board.proofs.KeepsJobs.{begins, takes_job}
+use Rattle.farm_board.proofs.jobs.JobTable.take_at.Goals as goal
 
 pub load_new_seat-seat-requires : goal.load_new_seat-seat-requires
 load_new_seat-seat-requires g c =

@@ -15,9 +15,9 @@ pub struct Posted<K, Q, A> {
 
 impl<K, Q, A> Model for Posted<K, Q, A> {
     ghost use Rattle.std.specs.Prelude.{◌≡◌, ◌<◌, []};
-    ghost use Rattle.job_table.specs.Jobs.{JobOf};
-    ghost use Rattle.job_table.specs.Views.{asking};
-    ghost use Rattle.job_table.specs.declared.jobs.TheConstants.{SLOTS};
+    ghost use Rattle.farm_board.specs.Jobs.{JobOf};
+    ghost use Rattle.farm_board.specs.JobViews.{asking};
+    ghost use Rattle.farm_board.specs.declared.jobs.TheConstants.{SLOTS};
 
     ghost Value = { JobOf K Q };
 

@@ -1,9 +1,9 @@
 use Rattle.std.proofs.Common.{arith, sym, subst, ap, ◌∙◌, ◌∷◌, [], None, Some}
-use Rattle.job_table.specs.Views.{claiming}
-use Rattle.job_table.specs.declared.view.Slot.TheVariants.{Job}
-use Rattle.job_table.proofs.Hands.{put_there}
-use Rattle.job_table.proofs.Keeps.{begins, posts}
-use Rattle.job_table.proofs.jobs.JobTable.post.Goals as goal
+use Rattle.farm_board.specs.JobViews.{claiming}
+use Rattle.farm_board.specs.declared.view.Slot.TheVariants.{Job}
+use Rattle.farm_board.proofs.Hands.{put_there}
+use Rattle.farm_board.proofs.KeepsJobs.{begins, posts}
+use Rattle.farm_board.proofs.jobs.JobTable.post.Goals as goal
 
 pub load_new_seat-seat-requires : goal.load_new_seat-seat-requires
 load_new_seat-seat-requires g c =

@@ -1,5 +1,5 @@
 use Rattle.std.proofs.Common.{◌≡◌}
-use Rattle.job_table.proofs.jobs.JobTable.claim.Given as goal
+use Rattle.farm_board.proofs.jobs.JobTable.claim.Given as goal
 
 abbrev pub invariant-loop-slot : goal.invariant-loop-slot
 invariant-loop-slot g l = record {

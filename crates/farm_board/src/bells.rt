@@ -1,6 +1,6 @@
 //! Where callers wait for the answers to their jobs.
 ghost use Rattle.std.specs.Prelude.{◌<◌};
-ghost use Rattle.job_table.specs.declared.jobs.TheConstants.{SLOTS};
+ghost use Rattle.farm_board.specs.declared.jobs.TheConstants.{SLOTS};
 
 use crate::jobs::SLOTS;
 use crossbeam_utils::sync::EventCount;

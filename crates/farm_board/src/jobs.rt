@@ -1,6 +1,6 @@
 //! The table.
 ghost use Rattle.std.specs.Prelude.{◌≡◌, ◌<◌, ◌∷◌, [], None, Some, IfOk, IfErr, IfSome, MatchBool};
-ghost use Rattle.job_table.specs.Views.{idle, claiming};
+ghost use Rattle.farm_board.specs.JobViews.{idle, claiming};
 
 use crate::bells::Bells;
 use crate::posted::Posted;
@@ -34,8 +34,8 @@ pub struct JobTable<K, Q, A, P: JobRule<K, Q, A>> {
 
 impl<K, Q, A, P: JobRule<K, Q, A>> Model for JobTable<K, Q, A, P> {
     ghost use Rattle.std.specs.Prelude.{◌≡◌};
-    ghost use Rattle.job_table.specs.Jobs.{Jobs};
-    ghost use Rattle.job_table.specs.declared.jobs.TheConstants.{SLOTS};
+    ghost use Rattle.farm_board.specs.Jobs.{Jobs};
+    ghost use Rattle.farm_board.specs.declared.jobs.TheConstants.{SLOTS};
 
     ghost Value = { Jobs K };
 

@@ -2,11 +2,11 @@
 use Rattle.std.proofs.Common.{◌≡◌, ◌≢◌, ◌==◌, if◌then◌else◌, ℕ, arith, sym, refl, ap, ◌∙◌}
 use mathlib.Core.Logic.{dite}
 use native.Mathlib.Decide.{ℕ_discrete}
-use Rattle.job_table.specs.Rule.{Stage, free, claimed, posted, taken, answered, word_at, part_at, part_with}
-use Rattle.job_table.specs.declared.steps.TheConstants.{FREE, POSTED, ANSWERED}
-use Rattle.job_table.specs.declared.view.SeatPart.{SeatPart}
-use Rattle.job_table.specs.declared.view.SeatPart.TheVariants.{Idle, Claims, Asks, Helps}
-use Rattle.job_table.proofs.Rows.{cond-same, cond-other}
+use Rattle.farm_board.specs.JobRules.{Stage, free, claimed, posted, taken, answered, word_at, part_at, part_with}
+use Rattle.farm_board.specs.declared.steps.TheConstants.{FREE, POSTED, ANSWERED}
+use Rattle.farm_board.specs.declared.view.SeatPart.{SeatPart}
+use Rattle.farm_board.specs.declared.view.SeatPart.TheVariants.{Idle, Claims, Asks, Helps}
+use Rattle.farm_board.proofs.JobRows.{cond-same, cond-other}
 
 module _ {Q : Type 0} where
   -- which kind of part it is

@@ -1,9 +1,9 @@
 use Rattle.std.proofs.Common.{arith, sym, subst, ap, ◌∙◌, ◌∷◌, [], None, Some}
-use Rattle.job_table.specs.Views.{helping}
-use Rattle.job_table.specs.declared.view.Slot.TheVariants.{Answer}
-use Rattle.job_table.proofs.Hands.{put_there}
-use Rattle.job_table.proofs.Keeps.{answers}
-use Rattle.job_table.proofs.jobs.JobTable.answer.Goals as goal
+use Rattle.farm_board.specs.JobViews.{helping}
+use Rattle.farm_board.specs.declared.view.Slot.TheVariants.{Answer}
+use Rattle.farm_board.proofs.Hands.{put_there}
+use Rattle.farm_board.proofs.KeepsJobs.{answers}
+use Rattle.farm_board.proofs.jobs.JobTable.answer.Goals as goal
 
 pub store-requires : goal.store-requires
 store-requires g c =

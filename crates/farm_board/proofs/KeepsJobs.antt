@@ -9,18 +9,18 @@ use lib.ListN.{get_elem?}
 use lib.Seq.{set-get_or}
 use Rattle.atomic_table.specs.Table.{State, Me, Act, keeps, takes, gives, Valid, stepped, step, carried_after, Allows, Enters, opening}
 use Rattle.atomic_table.proofs.Lists.{set_here, set_else, set_again, exchanged}
-use Rattle.job_table.specs.Rule.{Stage, free, claimed, posted, taken, answered, word_at, home_at, part_at, part_with, view_of, IsRight, IsSlot, IsKept}
-use Rattle.job_table.specs.Steps.{Begins, Reserves, Posts, Takes, Ends, Fetches, Retracts}
-use Rattle.job_table.specs.Views.{idle, claiming, asking, helping}
-use Rattle.job_table.specs.declared.jobs.TheConstants.{SLOTS}
-use Rattle.job_table.specs.declared.steps.TheConstants.{FREE, CLAIMED, POSTED, TAKEN, ANSWERED}
-use Rattle.job_table.specs.declared.view.SeatPart.{SeatPart}
-use Rattle.job_table.specs.declared.view.SeatPart.TheVariants.{Idle, Claims, Asks, Helps}
-use Rattle.job_table.specs.declared.view.Slot.{Slot}
-use Rattle.job_table.specs.declared.view.Slot.TheVariants.{Job, Answer}
-use Rattle.job_table.specs.declared.view.View.{View}
-use Rattle.job_table.proofs.Rows.{cond-same, cond-other, at-lt-length, at-get_or, get_or-push, get_or-replicate, at-replicate}
-use Rattle.job_table.proofs.Stages.{claims-elsewhere, asks-elsewhere, helps-elsewhere, claims-here, asks-here, helps-here, is-free, is-posted, is-claimed-by, is-posted-by, is-answered-by, is-taken-by, idle-not-by}
+use Rattle.farm_board.specs.JobRules.{Stage, free, claimed, posted, taken, answered, word_at, home_at, part_at, part_with, view_of, IsRight, IsSlot, IsKept}
+use Rattle.farm_board.specs.JobSteps.{Begins, Reserves, Posts, Takes, Ends, Fetches, Retracts}
+use Rattle.farm_board.specs.JobViews.{idle, claiming, asking, helping}
+use Rattle.farm_board.specs.declared.jobs.TheConstants.{SLOTS}
+use Rattle.farm_board.specs.declared.steps.TheConstants.{FREE, CLAIMED, POSTED, TAKEN, ANSWERED}
+use Rattle.farm_board.specs.declared.view.SeatPart.{SeatPart}
+use Rattle.farm_board.specs.declared.view.SeatPart.TheVariants.{Idle, Claims, Asks, Helps}
+use Rattle.farm_board.specs.declared.view.Slot.{Slot}
+use Rattle.farm_board.specs.declared.view.Slot.TheVariants.{Job, Answer}
+use Rattle.farm_board.specs.declared.view.View.{View}
+use Rattle.farm_board.proofs.JobRows.{cond-same, cond-other, at-lt-length, at-get_or, get_or-push, get_or-replicate, at-replicate}
+use Rattle.farm_board.proofs.Stages.{claims-elsewhere, asks-elsewhere, helps-elsewhere, claims-here, asks-here, helps-here, is-free, is-posted, is-claimed-by, is-posted-by, is-answered-by, is-taken-by, idle-not-by}
 
 module _ {K Q A : Type 0} (may : K → Q → Type 0) (says : K → Q → A → Type 0) (key : K) where
   abbrev Contents : Type 0

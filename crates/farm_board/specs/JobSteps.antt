@@ -1,11 +1,11 @@
 -- What each kind of step tells the caller that makes it, of its seat before and after.
 use Rattle.std.specs.Prelude.{◌≡◌, ◌∷◌, [], ℕ, Option, Some, None}
 use Rattle.atomic_table.specs.Table.{Step, Me}
-use Rattle.job_table.specs.Views.{idle, claiming, asking, helping}
-use Rattle.job_table.specs.declared.steps.TheConstants.{FREE, POSTED, ANSWERED}
-use Rattle.job_table.specs.declared.view.Slot.{Slot}
-use Rattle.job_table.specs.declared.view.Slot.TheVariants.{Job, Answer}
-use Rattle.job_table.specs.declared.view.View.{View}
+use Rattle.farm_board.specs.JobViews.{idle, claiming, asking, helping}
+use Rattle.farm_board.specs.declared.steps.TheConstants.{FREE, POSTED, ANSWERED}
+use Rattle.farm_board.specs.declared.view.Slot.{Slot}
+use Rattle.farm_board.specs.declared.view.Slot.TheVariants.{Job, Answer}
+use Rattle.farm_board.specs.declared.view.View.{View}
 
 -- what a kind of step tells: of the step, the seat before, the number found and the seat after
 abbrev pub Tells : Type 0 → Type 0 → Type 0 → Type 1

@@ -1,4 +1,0 @@
-pub mod Rows
-pub mod Hands
-pub mod Stages
-pub mod Keeps

@@ -1,4 +1,0 @@
-pub mod Jobs
-pub mod Views
-pub mod Rule
-pub mod Steps
