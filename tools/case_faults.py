@@ -49,7 +49,7 @@ from case_farm import PATIENCE
 
 # The requests and options of ptrace, the flags of wait, and the places of registers among those of a thread.
 TRACEME, CONT_TO_CALL, GETREGS, SETREGS, SETOPTIONS = 0, 24, 12, 13, 0x4200
-OPTIONS = 0x1 | 0x8 | 0x10 | 0x100000  # calls are told from signals; threads are traced, and exec; no tracer, no program
+OPTIONS = 0x1 | 0x8 | 0x10 | 0x100000  # calls told from signals; threads and exec traced; killed without a tracer
 WAIT = 0x40000000 | 0x20000000  # all threads of the program, and no children of other threads of this process
 RAX, RDX, RSI, RDI, R10, CALL = 10, 12, 13, 14, 7, 15
 AT_A_CALL = signal.SIGTRAP | 0x80
