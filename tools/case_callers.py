@@ -1,5 +1,5 @@
-"""What the tests of callers that share a farm have in common: connections with commands of their own, and a reader of the
-journal's bytes that knows docs/FORMATS.md alone."""
+"""What tests of callers that share a farm share: connections with commands of their own, and a reader of the journal's
+bytes that knows docs/FORMATS.md alone."""
 from __future__ import annotations
 
 import json
@@ -28,10 +28,14 @@ class Caller:
     """A connection, and the entries that its commands are answered with. Its keys begin with its number."""
 
     def __init__(self, service: Service, number: int) -> None:
-        self.socket = socket.create_connection(("127.0.0.1", service.port), PATIENCE)
-        self.answers = self.socket.makefile("rb")
         self.number, self.commands = number, 0
         self.made: list[Entry] = []
+        self.connect(service)
+
+    def connect(self, service: Service) -> None:
+        """Begins a connection."""
+        self.socket = socket.create_connection(("127.0.0.1", service.port), PATIENCE)
+        self.answers = self.socket.makefile("rb")
 
     def key(self) -> str:
         """A new key."""
