@@ -7,8 +7,7 @@ should be, so many are told of a fault, and the journal has each entry once.
 A caller's batch is three requests that are sent in one piece: two searches that are opened, and the first again. That
 records come to be shared is arranged by events: a call on the file is held until all other handlers are asleep, each
 with a batch that waits for its turn. By docs/FORMATS.md a record is written behind the closed gate and synced, and then
-the byte that opens its gate is written and synced: two writes and two syncs. A repair, which finds out whether a record
-was kept, begins with a sync.
+the byte that opens its gate is written and synced: two writes and two syncs.
 """
 from __future__ import annotations
 
@@ -88,15 +87,15 @@ class Batches(Caller):
 class Followed(Service):
     """The program serving a journal by so many handlers, traced."""
 
-    def __init__(self, journal: str, handlers: int, *plan: Fault) -> None:
-        self.handlers, self.plan = handlers, plan
+    def __init__(self, journal: str, handlers: int) -> None:
+        self.handlers = handlers
         super().__init__(journal)
 
     def _start(self, port: int) -> None:
         self.port = port or own_port()
         self.url = f"http://127.0.0.1:{self.port}"
         words = [PROGRAM, "serve", self.journal, f"127.0.0.1:{self.port}", str(self.handlers), "1000000"]
-        self.process = Traced(words, self.journal, self.plan)
+        self.process = Traced(words, self.journal)
 
     def plan_next(self, *faults: Fault) -> None:
         """More of a plan, its numbers counted from now on."""
@@ -137,12 +136,16 @@ class Traces(Case):
         self.assertEqual(ran.returncode, status, ran.stderr)
         return ran.stdout
 
-    def begin(self, count: int, *plan: Fault) -> None:
-        """Founds a farm, serves it by a plan, and connects so many callers, one a handler."""
+    def clear(self) -> None:
+        """There is no journal."""
         if os.path.exists(self.journal):
             os.remove(self.journal)
+
+    def begin(self, count: int) -> None:
+        """Founds a farm, serves it, and connects so many callers, one a handler."""
+        self.clear()
         self.assertEqual(self.say(0, "found", self.journal, "60000", "10", "east:0"), "founded\n")
-        self.service = Followed(self.journal, count, *plan)
+        self.service = Followed(self.journal, count)
         self.addCleanup(self.service.close)
         self.callers = [Batches(self.service, number) for number in range(1, count + 1)]
         for caller in self.callers:
@@ -353,11 +356,12 @@ class Records(Waiting):
 
     def test_as_many_callers_of_a_record_are_told_as_there_are_faults(self) -> None:
         """A fault of a repair is told to the caller whose batch was to be asked behind it: where all of a record are
-        told, a caller that came later is still told nothing."""
+        told, a caller that came later is still told nothing. A repair is a sync and a read."""
         for first, kept in ((1, False), (2, True)):
-            for faults in (2, 3):
-                with self.subTest(first=first, faults=faults):
-                    self.play(3, [Fault("sync", first + i, drops=True) for i in range(faults)], kept)
+            syncs = [Fault("sync", first + i, drops=True) for i in range(3)]
+            for plan in (syncs[:2], syncs, [syncs[0], Fault("read", 1)], [*syncs[:2], Fault("read", 1)]):
+                with self.subTest(plan=plan):
+                    self.play(3, plan, kept)
 
     def test_as_many_callers_as_there_may_be(self) -> None:
         """Of sixteen callers fifteen share a record: one is told that its sync failed, or all, where that of its gate
@@ -429,6 +433,7 @@ class Founding(Traces):
                                     (Fault("sync", 3), True, {False, True}),
                                     (Fault("sync", 3, forgets=True), False, {False})]:
             with self.subTest(fault=fault):
+                self.clear()
                 ran = Traced([PROGRAM, *words], self.journal, [fault])
                 self.assertEqual((ran.wait(), ran.out, ran.said), (5, "", "the journal could not be used\n"))
                 images = set(ran.disk.images())
@@ -437,7 +442,6 @@ class Founding(Traces):
                 self.assertEqual([self.read(it) for it in founded], [[]] * len(founded))
                 self.say(8 if born else 0, *words)
                 self.assertIn('"entries":1,', self.say(0, "show", self.journal))
-                os.remove(self.journal)
 
 
 if __name__ == "__main__":
