@@ -165,7 +165,7 @@ class Play:
         if self.program is None:
             words = [PROGRAM, "serve", self.test.journal, f"127.0.0.1:{self.port}", "2", "1000"]
             self.program = Traced(words, self.test.journal, self.plan, stored=self.stored)
-            self.ends.callback(self.program.kill)
+            self.ends.callback(self.program.close)
         return self.program
 
     def disk(self) -> Disk:
@@ -181,8 +181,7 @@ class Play:
 
     def do_again(self, _: str) -> None:
         self.stored = self.disk().stored
-        self.begun().kill()
-        self.begun().wait()
+        self.begun().close()
         self.program, self.caller, self.plan = None, None, []
 
     def do_ask(self, rest: str) -> None:
@@ -262,9 +261,9 @@ def class_of(file: pathlib.Path) -> type:
 
 
 @unittest.skipIf(case_faults.refused(), str(case_faults.refused()))
-class Moments(Case):
-    """A command is killed before each of its calls on the file, and has each of them fail in turn. Each image of a crash
-    then has what was answered and no more, or that and the entries of the line that is due next."""
+class Commands(Case):
+    """A command is killed before each of its calls that change the file, and has each of all its calls fail in turn.
+    Each image of a crash then has what was answered and no more, or that and the entries of the line that is next."""
 
     def play(self, command: str, before: Optional[bytes], given: str, replies: list[str], entries: list[int]) -> None:
         """Plays a command over a journal, or none. Of its replies all lines are wanted, and `entries` is how many there
@@ -286,6 +285,8 @@ class Moments(Case):
                                            check=False)
                     self.assertEqual((again.returncode, again.stdout.decode()), (8, "") if kept else (0, said))
                     self.assertEqual(self.entries_now(), entries[-1])
+            if call.kind not in ("write", "sync", "cut"):
+                continue
             with self.subTest(killed_before=(call.kind, call.number)):
                 killed = self.begin_anew(Fault(call.kind, call.number, error=0, holds=True))
                 killed.wait_until(lambda: killed.held)
@@ -325,6 +326,10 @@ class Moments(Case):
         self.assertEqual(program.out, "".join(f"{it}\n" for it in replies[:count]))
         self.assertLessEqual(self.found_in(program), set(entries[count:count + 2]))
 
+
+class Moments(Commands):
+    """Scripts over a journal."""
+
     REPORTS = "".join(f'{{"at":{AT},"do":"report","run":{run},"verdict":"fail"}}\n' for run in (1, 2, 3))
     REPLIES = [f'{{"fate":"counted","reply":"report","run":{run},"search":1,"standing":"searching","verdict":"fail"}}'
                for run in (1, 2, 3)]
@@ -334,6 +339,10 @@ class Moments(Case):
 
     def test_run_over_version_1(self) -> None:
         self.play("run", JOURNALS["five of version 1"], self.REPORTS, self.REPLIES, [5, 6, 7, 8])
+
+
+class Foundings(Commands):
+    """Commands that make a journal, or close it."""
 
     def test_found(self) -> None:
         self.play("found 60000 10 east:0", None, "", ["founded"], [0, 1])
