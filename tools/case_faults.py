@@ -203,6 +203,12 @@ class Traced:
             self._let_go.update(self.held)
             self._changed.notify_all()
 
+    def sleeps(self, thread: int) -> bool:
+        """Whether a thread sleeps: it is in a call of the system, and not about to leave it."""
+        with contextlib.suppress(OSError), open(f"/proc/{self.pid}/task/{thread}/stat", "rb") as file:
+            return file.read().rpartition(b")")[2].split()[0] == b"S"
+        return False
+
     def poll(self) -> Optional[int]:
         """The status, or the signal below 0, with which it has ended."""
         return self.returncode
