@@ -22,9 +22,10 @@ line of one is `#` and what it shows. Each other line begins with a word:
     again                   the service is started again, without a fault
 
 Calls have ` and ` between them, and a plan ` or ` before another one that the case is played with as well. `behind N`
-stands behind a call that fails once N bytes are written, `of N` behind one that takes N bytes, and number 0 is each
-call. What is dropped is read back in one play of the case, and lost at once in another. A journal is one of JOURNALS,
-and what stands behind a comma a record more: a report, whose gate is open or `closed`.
+stands behind a call that fails once N bytes are written, or, if it writes none, once it is done; `of N` behind one that
+takes N bytes; and number 0 is each call. What is dropped is read back in one play of the case, and lost at once in
+another. A journal is one of JOURNALS, and what stands behind a comma a record more: a report, whose gate is open or
+`closed`.
 
 What is wanted was worked out by hand from docs/FORMATS.md: the record with a closed gate behind it, a sync, the byte
 that opens its gate, a sync; and at the opening of a journal to append to it both of its ends, as they read, and a sync.
@@ -357,6 +358,27 @@ class Foundings(Commands):
 
     def test_close(self) -> None:
         self.play("close", FIVE[:38] + b"\0", "", ["closed 0"], [1, 2])
+
+
+class Readers(Commands):
+    """Commands that only read a journal."""
+
+    def test_they_write_nothing_and_fail_with_each_of_their_calls(self) -> None:
+        """Where a file system has no sync, as one that nobody can write to, they do without."""
+        self.before, self.given = FIVE, b""
+        for words in (["show"], ["rates"], ["evidence", "1"]):
+            self.words = [PROGRAM, words[0], self.journal, *words[1:]]
+            clean = self.whole()
+            self.assertEqual((clean.returncode, clean.said), (0, ""))
+            self.assertEqual((clean.disk.since, self.entries_now(), clean.counts.get("write", 0)), ([], 5, 0))
+            for call in clean.calls:
+                with self.subTest(words=words, kind=call.kind, number=call.number):
+                    failed = self.whole(Fault(call.kind, call.number))
+                    self.assertEqual((failed.returncode, failed.out, failed.said), (5, "", SAID[5]))
+            for error in (errno.EROFS, errno.EINVAL):
+                with self.subTest(words=words, error=error):
+                    passed = self.whole(*[Fault("sync", number, error) for number in (1, 2, 3)])
+                    self.assertEqual((passed.returncode, passed.out, passed.said), (0, clean.out, ""))
 
 
 @unittest.skipIf(case_faults.refused(), str(case_faults.refused()))
