@@ -79,8 +79,8 @@ def ptrace(request: int, thread: int, data: Any = 0) -> bool:
 
 @dataclasses.dataclass(frozen=True)
 class Fault:
-    """What is done to the call of a kind with a number; where that is 0, to each for which nothing else is planned. With
-    an error it fails before anything of it is done, or where `keeps` is a number, once so many bytes were written, or
+    """What is done to the call of a kind with a number; where that is 0, to each that has no plan of its own. With an
+    error it fails before anything of it is done, or where `keeps` is a number, once so many bytes were written, or
     where it writes none, once it is done. Without an error, `keeps` is how many bytes a write or a read takes."""
     kind: str
     number: int

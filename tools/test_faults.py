@@ -42,7 +42,7 @@ import re
 import subprocess
 import time
 import unittest
-from typing import Callable, Iterator, Optional
+from typing import Callable, Optional
 
 import case_faults
 from case_callers import Answer, Ask, Caller
