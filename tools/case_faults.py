@@ -353,17 +353,17 @@ class Traced:
             return False
 
     def _bytes_at(self, place: int, size: int) -> bytes:
-        memory = os.open(f"/proc/{self.pid}/mem", os.O_RDONLY | os.O_CLOEXEC)
-        try:
-            return os.pread(memory, size, place)
-        finally:
-            os.close(memory)
+        """Bytes of the program's memory; none where it was killed meanwhile, and makes no call any more."""
+        with contextlib.suppress(OSError), open(f"/proc/{self.pid}/mem", "rb", buffering=0) as memory:
+            return os.pread(memory.fileno(), size, place)
+        return b""
 
     def _name_at(self, place: int) -> str:
         """The text that ends with a byte of 0. A page that can't be read may begin behind it."""
-        found = b""
-        while place and b"\0" not in found:
-            found += self._bytes_at(place + len(found), 4096 - (place + len(found)) % 4096)
+        found, piece = b"", b" " if place else b""
+        while piece and b"\0" not in found:
+            piece = self._bytes_at(place + len(found), 4096 - (place + len(found)) % 4096)
+            found += piece
         return os.fsdecode(found.split(b"\0")[0])
 
     def _begin(self, thread: int, call: Call, fault: Optional[Fault]) -> None:
