@@ -59,7 +59,7 @@ OF_A_FILE = {17: "read", 18: "write", 74: "sync", 75: "sync", 77: "cut", 73: "lo
 OF_A_NAME = {2: "open", 257: "open", 4: "look", 262: "look", 332: "look"}
 NOT_FOLLOWED = {0: "read", 1: "write", 19: "readv", 20: "writev", 40: "sendfile", 285: "fallocate", 295: "preadv",
                 296: "pwritev", 326: "copy_file_range", 327: "preadv2", 328: "pwritev2"}
-RECEIVE = 45
+NOT_PERMITTED = (errno.EPERM, errno.EACCES, errno.ENOSYS)
 MAX_SHOWN = 4  # of so many writes since the last sync each choice is an image of its own
 
 Regs = ctypes.c_ulonglong * 27
@@ -79,10 +79,9 @@ def ptrace(request: int, thread: int, data: Any = 0) -> bool:
 
 @dataclasses.dataclass(frozen=True)
 class Fault:
-    """What is done to the call of a kind with a number, or to each for which nothing else is planned where that is 0.
-    With an error it fails, before anything of it is done; where
-    `keeps` says so, so many bytes of a write are written first, and another call is done, for any number. Without an
-    error, `keeps` is how many bytes a write or a read takes."""
+    """What is done to the call of a kind with a number; where that is 0, to each that has no plan of its own. With an
+    error it fails before anything of it is done, or where `keeps` is a number, once so many bytes were written, or
+    where it writes none, once it is done. Without an error, `keeps` is how many bytes a write or a read takes."""
     kind: str
     number: int
     error: int = errno.EIO
@@ -167,7 +166,6 @@ class Traced:
         self.calls: list[Call] = []
         self.counts: dict[str, int] = {}
         self.inside: dict[int, int] = {}  # the threads that are in a call of the system, and which
-        self.received = 0  # how many times a request's bytes were taken from a connection
         self.held: dict[int, tuple[Call, Fault]] = {}
         self.returncode: Optional[int] = None
         self.pid = 0
@@ -202,6 +200,12 @@ class Traced:
         with self._changed:
             self._let_go.update(self.held)
             self._changed.notify_all()
+
+    def sleeps(self, thread: int) -> bool:
+        """Whether a thread sleeps: it is in a call of the system, and not about to leave it."""
+        with contextlib.suppress(OSError), open(f"/proc/{self.pid}/task/{thread}/stat", "rb") as file:
+            return file.read().rpartition(b")")[2].split()[0] == b"S"
+        return False
 
     def poll(self) -> Optional[int]:
         """The status, or the signal below 0, with which it has ended."""
@@ -308,8 +312,7 @@ class Traced:
                 return False
             self._begin(thread, call, fault)
             return True
-        if self.inside.pop(thread) == RECEIVE and regs[R10] == 0 and 0 < regs[RAX] < 1 << 63:
-            self.received += 1
+        del self.inside[thread]
         if thread in self._working:
             self._end(thread, regs, *self._working.pop(thread))
         return True
@@ -350,17 +353,17 @@ class Traced:
             return False
 
     def _bytes_at(self, place: int, size: int) -> bytes:
-        memory = os.open(f"/proc/{self.pid}/mem", os.O_RDONLY | os.O_CLOEXEC)
-        try:
-            return os.pread(memory, size, place)
-        finally:
-            os.close(memory)
+        """Bytes of the program's memory; none where it was killed meanwhile, and makes no call any more."""
+        with contextlib.suppress(OSError), open(f"/proc/{self.pid}/mem", "rb", buffering=0) as memory:
+            return os.pread(memory.fileno(), size, place)
+        return b""
 
     def _name_at(self, place: int) -> str:
         """The text that ends with a byte of 0. A page that can't be read may begin behind it."""
-        found = b""
-        while place and b"\0" not in found:
-            found += self._bytes_at(place + len(found), 4096 - (place + len(found)) % 4096)
+        found, piece = b"", b" " if place else b""
+        while piece and b"\0" not in found:
+            piece = self._bytes_at(place + len(found), 4096 - (place + len(found)) % 4096)
+            found += piece
         return os.fsdecode(found.split(b"\0")[0])
 
     def _begin(self, thread: int, call: Call, fault: Optional[Fault]) -> None:
@@ -416,6 +419,9 @@ def refused() -> Optional[str]:
         return f"no tracing: {platform.system()} on {platform.machine()}, and not Linux on x86_64"
     try:
         Traced([shutil.which("true") or "true"], os.devnull).wait()
-    except (RuntimeError, OSError) as fault:
-        return f"no tracing: {fault.__cause__ or fault}"
+    except RuntimeError as fault:
+        cause = fault.__cause__
+        if isinstance(cause, subprocess.SubprocessError) or getattr(cause, "errno", 0) in NOT_PERMITTED:
+            return f"no tracing: it isn't permitted here ({cause})"
+        raise
     return None
