@@ -26,7 +26,7 @@ A call on the journal's file has a kind, and a number within its kind, from 1:
 and so has a call on something else, which is no call on the file, and stands in `others`:
 
     take    standard input is read            put     standard output is written to
-    get     a connection is received from     send    a connection is sent to
+    get     a connection's bytes are taken    send    a connection is sent to
     grow    the program asks for memory: brk, mmap, mremap, mprotect, from its first own allocation on
 
 What a crash may leave is what docs/TRUST.md says of `file_disk`: what was synced stays, a byte over which the same one
@@ -68,7 +68,7 @@ NOT_FOLLOWED = {0: "read", 1: "write", 19: "readv", 20: "writev", 40: "sendfile"
 OF_A_STREAM = {(0, 0): "take", (1, 1): "put"}  # of a call's number and a descriptor
 OF_A_LINK = {45: "get", 44: "send"}
 BRK, MMAP, MREMAP, MPROTECT = 12, 9, 25, 10
-ANONYMOUS, WRITABLE = 0x20, 0x2
+ANONYMOUS, WRITABLE, PEEK = 0x20, 0x2, 0x2
 RECEIVE = 45
 SIZED = ("read", "write", "take", "put", "get", "send")  # the kinds of calls on so many bytes
 MAX_SHOWN = 4  # of so many writes since the last sync each choice is an image of its own
@@ -371,6 +371,8 @@ class Traced:
         number, first = regs[CALL], regs[RDI]
         self._grows |= number == BRK and 0 < self._data_end < first
         kind, call = OF_A_STREAM.get((number, first)) or OF_A_LINK.get(number), Call("grow", 0)
+        if kind == "get" and regs[R10] & PEEK:
+            return None
         if kind:
             call.kind, call.size = kind, regs[RDX]
             call.data = self._bytes_at(regs[RSI], call.size) if kind in ("put", "send") else b""

@@ -8,23 +8,18 @@ synced, by which an entry whose reply was put is in whatever a crash leaves.
 """
 from __future__ import annotations
 
+import contextlib
 import errno
-import functools
 import itertools
 import json
 import os
-import re
-import resource
-import signal
 import socket
 import subprocess
-import threading
 import unittest
-import urllib.error
 from typing import Any, Iterator, NamedTuple, Optional, Sequence
 
 import case_farm
-from case_farm import PATIENCE, PROGRAM, Reply, commit, own_port
+from case_farm import PATIENCE, PROGRAM, commit, own_port
 from case_faults import Call, Fault, Traced, refused
 from case_network import Answer, Peer, http, journal_of, program
 
@@ -35,7 +30,6 @@ SAID = {0: "", READ: "the input could not be read\n", WRITTEN: "the output could
         DISK: "the journal could not be used\n", 7: "the journal has not been founded\n",
         8: "the journal is already founded\n", 9: "the network failed\n", MEMORY: "out of memory\n"}
 AT = 100_000_000
-EACH = 10 ** 9  # a number that no call has
 can_trace = unittest.skipIf(refused(), str(refused()))
 
 
@@ -267,7 +261,7 @@ BLANK = text(confirmed=0, counted=0, ended=0, entries=1, orders=0, reply="farm",
 NO_ORDERS = text(orders=[], reply="orders")
 PAGES = '{"at":86400000,"do":"farm"}\n{"at":86400000,"do":"orders"}\n{}'  # 28, 30 and 2 bytes
 ASKED = "search 1 10 9 10 1 1\nrun 1 1 fail\n"
-JUDGED = "budget 34\nrun 1 counted\nshares 909 9090\nstanding named 1\n"
+JUDGED = "budget 34\nrun 1 counted\nshares 9090 909\nstanding named 1\n"
 
 
 @can_trace
@@ -374,9 +368,11 @@ class Outputs(Case):
                 stderr=subprocess.PIPE) as process:
             assert process.stderr
             self.addCleanup(process.kill)
-            asked = b"GET /v1/farm HTTP/1.1\r\nHost: farm\r\nConnection: close\r\n\r\n"
-            self.assertTrue(said_at(port, asked).endswith(BLANK.strip().encode()))
+            self.assertTrue(said_at(port, GET_FARM).endswith(BLANK.strip().encode()))
             self.assertEqual((process.wait(PATIENCE), process.stderr.read().decode()), (WRITTEN, SAID[WRITTEN]))
+
+
+GET_FARM = b"GET /v1/farm HTTP/1.1\r\nHost: farm\r\nConnection: close\r\n\r\n"
 
 
 def said_at(port: int, asked: bytes) -> bytes:
@@ -387,9 +383,220 @@ def said_at(port: int, asked: bytes) -> bytes:
             break
         except ConnectionRefusedError:
             pass
-    with link:
+    said = b""
+    with link, contextlib.suppress(ConnectionError):
         link.sendall(asked)
-        return b"".join(iter(lambda: link.recv(65_536), b""))
+        while more := link.recv(65_536):
+            said += more
+    return said
+
+
+TIGHT = {**os.environ, "GLIBC_TUNABLES": "glibc.malloc.top_pad=0"}  # the system is asked for each 4 KiB
+SINGLE = {**TIGHT, "GLIBC_TUNABLES": "glibc.malloc.mmap_threshold=64:glibc.malloc.top_pad=0"}  # and for most pieces
+GOING = "".join(opening(key, 1 + 100 * key, 90) for key in range(1, 21))  # each leaves some 4 KiB in memory
+OPENED = "".join(text(budget=32, reply="open", search=it, standing="searching") for it in range(1, 21))
+
+
+@can_trace
+class Memory(Case):
+    """From one time on that the program asks the system for memory it gets none, whichever time this is: the program
+    says so, and what it acknowledged stands."""
+
+    def wants(self, words: Sequence[object], given: str, before: Optional[bytes], out: str,
+              env: "dict[str, str]") -> Iterator[Traced]:
+        """The call with each time from which on there is no memory. One that ends well has done all its work."""
+        self.put(before)
+        calm = self.traced(words, given=given, env=env)
+        self.assert_ended(calm, 0, out)
+        self.assertGreater(calm.counts["grow"], 5)
+        for number in range(1, calm.counts["grow"] + 1):
+            with self.subTest(f"{words[0]} {number}"):
+                self.put(before)
+                ran = self.traced(words, [Fault("grow", number, errno.ENOMEM, lasts=True)], given, env=env)
+                if ran.returncode:
+                    self.assertIn((ran.returncode, ran.said), [(it, SAID[it]) for it in (MEMORY, DISK)])
+                    self.assertTrue(out.startswith(ran.out))
+                else:
+                    self.assertEqual((ran.out, ran.said), (out, ""))
+                yield ran
+
+    def test_a_script_over_a_journal(self) -> None:
+        """What was replied to is in the journal, with one entry more at most, and the script goes on from there."""
+        for env, script, replies, entries in ((TIGHT, GOING, OPENED, 21), (SINGLE, SCRIPT, "".join(REPLIES), 13)):
+            counts = set()
+            for ran in self.wants(["run", self.journal], script, FOUNDED, replies, env):
+                self.assertNotEqual(ran.returncode, 0)
+                count = ran.out.count("\n")
+                self.assertEqual(ran.out, "".join(replies.splitlines(True)[:count]))
+                self.assertIn(self.entries(), (1 + count, 2 + count))
+                self.assert_came(0, replies, "run", self.journal, given=script)
+                self.assertEqual(self.entries(), entries)
+                counts.add(count)
+            self.assertGreater(len(counts), 2)  # it ran out before, within and behind lines
+
+    def test_what_is_stored_at_once_stands_whole_or_not_at_all(self) -> None:
+        """Foundings and closings: where they are made again, they are made, or said to be made."""
+        handed = "".join(f"{commit(it)} 1\n" for it in range(1, 301)) + "closed 300\n"
+        self.put(FOUNDED)
+        self.assert_came(0, "".join(REPLIES[:-1]), "run", self.journal, given="".join(LINES[:-1]))
+        ordered = self.data()
+        for words, given, before, held, out, again in (
+                (["found", self.journal, 60_000, 10, "east:0"], "", None, (0, 1), "founded\n", (8, "")),
+                (["inherit", self.journal, 60_000, 10, "east:0"], handed, None, (0, 301), "founded\n", (8, "")),
+                (["close", self.journal], "", ordered, (13, 14), f"{commit(2)} 1\nclosed 1\n",
+                 (0, f"{commit(2)} 1\nclosed 1\n"))):
+            for ran in self.wants(words, given, before, out, TIGHT):
+                entries = self.entries()
+                self.assertIn(entries, held)
+                if not ran.returncode:
+                    self.assertEqual(entries, held[1])
+                status, told = again if entries == held[1] else (0, out)
+                self.assert_came(status, told, *words, given=given)
+                self.assertEqual(self.entries(), held[1])
+
+    def test_what_is_read_alone_stays_as_it_is(self) -> None:
+        """Pages, rates, evidence, an audit, and what needs no journal."""
+        self.put(FOUNDED)
+        self.assert_came(0, "".join(REPLIES), "run", self.journal, given=SCRIPT)
+        whole = self.data()
+        page = text(budget=33, commit=commit(2), counted=3, culprit=2, leases=5, reply="search", search=1,
+                    shares=[0, 9708, 97, 97, 97], standing="confirmed", test="t", verified=2)
+        evidence = "search 1 10 9 10 1 1 1 1 1\nrun 1 2 fail\nrun 2 1 pass\nrun 3 2 fail\n"
+        for words, given, out in ((["show", self.journal], "", FARM + page),
+                                  (["rates", self.journal], "", text(fails=0, rate=[1, 4], runs=2, test="t")),
+                                  (["evidence", self.journal, 1], "", evidence),
+                                  (["judge"], ASKED, JUDGED), (["audit"], "", "unborn\n"),
+                                  (["run"], PAGES, BLANK + NO_ORDERS + text(field="at", refused="BadField")),
+                                  (["drill", 2, 1], "", "searches 2 confirmed 2 no-culprit 0 other 0 orders 2\n")):
+            for ran in self.wants(words, given, whole, out, TIGHT):
+                self.assertIn(ran.returncode, (0, MEMORY))
+                self.assertEqual(self.data(), whole)
+
+    def test_a_service_answers_that_it_wants_memory_and_goes_on_once_there_is_some(self) -> None:
+        """What it refused is done once, when it is asked for again."""
+        served = Serving(self, env=TIGHT)
+        key = 0
+        for number in range(1, 6):
+            served.traced.add(Fault("grow", number, errno.ENOMEM, lasts=True))
+            while (came := served.opens(key + 1)) == (200, key + 1):
+                key += 1
+            self.assertEqual(came, (507, '{"refused":"Memory"}'))
+            served.traced.mend("grow")
+            for _ in range(2):
+                self.assertEqual(served.opens(key + 1), (200, key + 1))
+            key += 1
+        served.end()
+        self.assertEqual(self.entries(), 1 + key)
+
+
+class Serving:
+    """A service that is traced."""
+
+    def __init__(self, test: Case, **more: Any) -> None:
+        test.put(FOUNDED)
+        self.port = own_port()
+        self.traced = Traced([PROGRAM, "serve", test.journal, f"127.0.0.1:{self.port}", "2", "1000000"], test.journal,
+                             **more)
+        test.addCleanup(self.end)
+        test.assertTrue(said_at(self.port, GET_FARM).endswith(BLANK.strip().encode()))
+
+    def end(self) -> None:
+        """Kills it."""
+        self.traced.kill()
+        self.traced.wait()
+
+    def opens(self, key: int) -> tuple[int, object]:
+        """The status of an answer, and the number of the search that was opened, or the refusal; 0 and nothing where
+        the connection ends without an answer."""
+        asked = json.loads(opening(key, 1 + 100 * key, 90))
+        body = text(**{name: it for name, it in asked.items() if name not in ("at", "do")})
+        said = said_at(self.port, f"POST /v1/searches HTTP/1.1\r\nHost: farm\r\nConnection: close\r\n"
+                                  f"Content-Length: {len(body)}\r\n\r\n{body}".encode()).decode()
+        if not said:
+            return 0, ""
+        status, told = int(said.split(" ")[1]), said.partition("\r\n\r\n")[2]
+        return status, json.loads(told)["search"] if status == 200 else told
+
+
+class Leader(Peer):
+    """A farm that has one run to lease, and answers what it is asked again as before."""
+
+    LEASE = {"commit": commit(1), "deadline": 86_460_000, "position": 1, "reply": "lease", "run": 1, "search": 1,
+             "stage": "search", "test": "t"}
+    TOLD = {"fate": "counted", "reply": "report", "run": 1, "search": 1, "standing": "searching", "verdict": "pass"}
+    PAGE = {"entries": FOUNDING.hex(), "from": 1, "reply": "log"}
+
+    def __init__(self, test: unittest.TestCase) -> None:
+        self.reported: set[bytes] = set()
+        super().__init__(test)
+
+    def answer(self, number: int, asked: bytes) -> Answer:
+        if not asked.endswith(b"}" if asked.startswith(b"POST") else b"\r\n\r\n"):
+            return Answer()  # what was asked was cut off
+        if b"/v1/log/1 " in asked:
+            return Answer(http(200, self.PAGE))
+        if b"/report " in asked:
+            self.reported.add(asked)
+            return Answer(http(200, self.TOLD))
+        return Answer(http(409, {"refused": "NoRun"}) if self.reported else http(200, self.LEASE))
+
+
+@can_trace
+class Links(Case):
+    """Connections that give and take little at a time, or fail."""
+
+    def work(self, plan: Sequence[Fault], status: int, out: str, row: int = 1) -> None:
+        """Holds a worker, whose table has the row of one commit, to what it comes to."""
+        table = os.path.join(self.folder, "table")
+        self.put(f"{commit(row)} pass t\n".encode(), table)
+        leader = Leader(self)
+        ran = self.traced(["work", leader.address, "w", 2, f"table:{table}"], plan)
+        leader.end()
+        self.assertEqual((ran.returncode, ran.out), (status, out), ran.said)
+        self.assertLessEqual(len(leader.reported), 1)
+
+    def follow(self, plan: Sequence[Fault]) -> None:
+        """A follower founds its journal by the first page."""
+        self.put(None)
+        leader = Leader(self)
+        self.assert_ended(self.traced(["follow", self.journal, leader.address, 1], plan), 0, "followed 1 entries more\n")
+        leader.end()
+        self.assertEqual(self.data(), FOUNDED)
+
+    def test_a_few_bytes_at_a_time(self) -> None:
+        """A worker makes a run and reports it, and then nothing is due; one whose runner has no answer ends with 10."""
+        for get, send in ((7, 1_000), (1, 1_000), (1_000, 1), (1, 1)):
+            with self.subTest(f"{get} {send}"):
+                plan = [Fault("get", 1, 0, get, lasts=True), Fault("send", 1, 0, send, lasts=True)]
+                self.work(plan, 0, "leased 1 reported 1 idle\n")
+                self.work(plan, 10, "", row=2)
+                self.follow(plan)
+
+    def test_one_that_fails_is_made_again(self) -> None:
+        """Whichever receive or send it is: the same is asked again, and done once."""
+        for kind, number in itertools.product(("get", "send"), (*range(1, 8), *range(10, 60, 7))):
+            with self.subTest(f"{kind} {number}"):
+                plan = [Fault("get", 1, 0, 7, lasts=True), Fault("send", 1, 0, 40, lasts=True),
+                        Fault(kind, number, errno.ECONNRESET)]
+                self.work(plan, 0, "leased 1 reported 1 idle\n")
+                self.follow(plan)
+
+    def test_a_service_over_bad_links(self) -> None:
+        """A byte at a time is as well as all at once. A connection that fails ends alone, and what it asked for may be
+        done, and is done once."""
+        served = Serving(self)
+        for key, (get, send) in enumerate(((1, 1), (7, 1_000), (1_000, 7)), 1):
+            served.traced.add(Fault("get", 1, 0, get, lasts=True), Fault("send", 1, 0, send, lasts=True))
+            self.assertEqual([served.opens(key), served.opens(key)], [(200, key)] * 2)
+        for key, kind in ((4, "get"), (5, "send")):
+            served.traced.mend("get")
+            served.traced.mend("send")
+            served.traced.add(Fault(kind, 1, errno.ECONNRESET, lasts=True))
+            self.assertEqual(served.opens(key), (0, ""))
+            served.traced.mend(kind)
+            self.assertEqual(served.opens(key), (200, key))
+        served.end()
+        self.assertEqual(self.entries(), 6)
 
 
 if __name__ == "__main__":
