@@ -393,12 +393,11 @@ def said_at(port: int, asked: bytes) -> bytes:
 
 TIGHT = {**os.environ, "GLIBC_TUNABLES": "glibc.malloc.top_pad=0"}  # the system is asked for each 4 KiB
 SINGLE = {**TIGHT, "GLIBC_TUNABLES": "glibc.malloc.mmap_threshold=64:glibc.malloc.top_pad=0"}  # and for most pieces
-GOING = "".join(opening(key, 1 + 100 * key, 90) for key in range(1, 21))  # each leaves some 4 KiB in memory
-OPENED = "".join(text(budget=32, reply="open", search=it, standing="searching") for it in range(1, 21))
+GOING = "".join(opening(key, 1 + 100 * key, 90) for key in range(1, 13))  # each leaves some 4 KiB in memory
+OPENED = "".join(text(budget=32, reply="open", search=it, standing="searching") for it in range(1, 13))
 
 
-@can_trace
-class Memory(Case):
+class Want(Case):
     """From one time on that the program asks the system for memory it gets none, whichever time this is: the program
     says so, and what it acknowledged stands."""
 
@@ -420,9 +419,14 @@ class Memory(Case):
                     self.assertEqual((ran.out, ran.said), (out, ""))
                 yield ran
 
+
+@can_trace
+class Stores(Want):
+    """Calls that store something."""
+
     def test_a_script_over_a_journal(self) -> None:
         """What was replied to is in the journal, with one entry more at most, and the script goes on from there."""
-        for env, script, replies, entries in ((TIGHT, GOING, OPENED, 21), (SINGLE, SCRIPT, "".join(REPLIES), 13)):
+        for env, script, replies, entries in ((TIGHT, GOING, OPENED, 13), (SINGLE, SCRIPT, "".join(REPLIES), 13)):
             counts = set()
             for ran in self.wants(["run", self.journal], script, FOUNDED, replies, env):
                 self.assertNotEqual(ran.returncode, 0)
@@ -454,6 +458,27 @@ class Memory(Case):
                 self.assert_came(status, told, *words, given=given)
                 self.assertEqual(self.entries(), held[1])
 
+    def test_a_service_answers_that_it_wants_memory_and_goes_on_once_there_is_some(self) -> None:
+        """What it refused is done once, when it is asked for again."""
+        served = Serving(self, env=TIGHT)
+        key = 0
+        for number in range(1, 6):
+            served.traced.add(Fault("grow", number, errno.ENOMEM, lasts=True))
+            while (came := served.opens(key + 1)) == (200, key + 1):
+                key += 1
+            self.assertEqual(came, (507, '{"refused":"Memory"}'))
+            served.traced.mend("grow")
+            for _ in range(2):
+                self.assertEqual(served.opens(key + 1), (200, key + 1))
+            key += 1
+        served.end()
+        self.assertEqual(self.entries(), 1 + key)
+
+
+@can_trace
+class Reads(Want):
+    """Calls that store nothing, or only what another farm says."""
+
     def test_what_is_read_alone_stays_as_it_is(self) -> None:
         """Pages, rates, evidence, an audit, and what needs no journal."""
         self.put(FOUNDED)
@@ -472,21 +497,20 @@ class Memory(Case):
                 self.assertIn(ran.returncode, (0, MEMORY))
                 self.assertEqual(self.data(), whole)
 
-    def test_a_service_answers_that_it_wants_memory_and_goes_on_once_there_is_some(self) -> None:
-        """What it refused is done once, when it is asked for again."""
-        served = Serving(self, env=TIGHT)
-        key = 0
-        for number in range(1, 6):
-            served.traced.add(Fault("grow", number, errno.ENOMEM, lasts=True))
-            while (came := served.opens(key + 1)) == (200, key + 1):
-                key += 1
-            self.assertEqual(came, (507, '{"refused":"Memory"}'))
-            served.traced.mend("grow")
-            for _ in range(2):
-                self.assertEqual(served.opens(key + 1), (200, key + 1))
-            key += 1
-        served.end()
-        self.assertEqual(self.entries(), 1 + key)
+    def test_a_worker_and_a_follower(self) -> None:
+        """A page of 300 orders is held whole or not at all, and is then taken."""
+        table = os.path.join(self.folder, "table")
+        self.put(f"{commit(1)} pass t\n".encode(), table)
+        leader = Leader(self, always=True)
+        worker = ["work", leader.address, "w", 1, f"table:{table}"]
+        for ran in self.wants(worker, "", None, "leased 1 reported 1 limit\n", TIGHT):
+            self.assertIn(ran.returncode, (0, MEMORY))
+        follower = ["follow", self.journal, leader.address, 1]
+        leader.entries += [FOUNDING[:8] + b"\x0a" + bytes.fromhex(commit(it)) + bytes(4) for it in range(300)]
+        for _ in self.wants(follower, "", None, "followed 301 entries more\n", TIGHT):
+            self.assertIn(self.entries(), (0, 301))
+            self.assert_came(0, "followed 301 entries more\n", *follower)
+            self.assertEqual(self.data(), journal_of(leader.entries))
 
 
 class Serving:
@@ -524,9 +548,10 @@ class Leader(Peer):
     LEASE = {"commit": commit(1), "deadline": 86_460_000, "position": 1, "reply": "lease", "run": 1, "search": 1,
              "stage": "search", "test": "t"}
     TOLD = {"fate": "counted", "reply": "report", "run": 1, "search": 1, "standing": "searching", "verdict": "pass"}
-    PAGE = {"entries": FOUNDING.hex(), "from": 1, "reply": "log"}
 
-    def __init__(self, test: unittest.TestCase) -> None:
+    def __init__(self, test: unittest.TestCase, always: bool = False) -> None:
+        self.always = always  # it has its run to lease again and again
+        self.entries = [FOUNDING]
         self.reported: set[bytes] = set()
         super().__init__(test)
 
@@ -534,11 +559,12 @@ class Leader(Peer):
         if not asked.endswith(b"}" if asked.startswith(b"POST") else b"\r\n\r\n"):
             return Answer()  # what was asked was cut off
         if b"/v1/log/1 " in asked:
-            return Answer(http(200, self.PAGE))
+            return Answer(http(200, {"entries": b"".join(self.entries).hex(), "from": 1, "reply": "log"}))
         if b"/report " in asked:
             self.reported.add(asked)
             return Answer(http(200, self.TOLD))
-        return Answer(http(409, {"refused": "NoRun"}) if self.reported else http(200, self.LEASE))
+        ended = self.reported and not self.always
+        return Answer(http(409, {"refused": "NoRun"}) if ended else http(200, self.LEASE))
 
 
 @can_trace
@@ -559,7 +585,8 @@ class Links(Case):
         """A follower founds its journal by the first page."""
         self.put(None)
         leader = Leader(self)
-        self.assert_ended(self.traced(["follow", self.journal, leader.address, 1], plan), 0, "followed 1 entries more\n")
+        ran = self.traced(["follow", self.journal, leader.address, 1], plan)
+        self.assert_ended(ran, 0, "followed 1 entries more\n")
         leader.end()
         self.assertEqual(self.data(), FOUNDED)
 
@@ -588,12 +615,13 @@ class Links(Case):
         for key, (get, send) in enumerate(((1, 1), (7, 1_000), (1_000, 7)), 1):
             served.traced.add(Fault("get", 1, 0, get, lasts=True), Fault("send", 1, 0, send, lasts=True))
             self.assertEqual([served.opens(key), served.opens(key)], [(200, key)] * 2)
-        for key, kind in ((4, "get"), (5, "send")):
+        for key, kind, entries in ((4, "get", 4), (5, "send", 6)):
             served.traced.mend("get")
             served.traced.mend("send")
             served.traced.add(Fault(kind, 1, errno.ECONNRESET, lasts=True))
             self.assertEqual(served.opens(key), (0, ""))
             served.traced.mend(kind)
+            self.assertIn(b'"entries":%d,' % entries, said_at(served.port, GET_FARM))
             self.assertEqual(served.opens(key), (200, key))
         served.end()
         self.assertEqual(self.entries(), 6)
