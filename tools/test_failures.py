@@ -394,6 +394,7 @@ def said_at(port: int, asked: bytes) -> bytes:
 TIGHT = {**os.environ, "GLIBC_TUNABLES": "glibc.malloc.top_pad=0"}  # the system is asked for each 4 KiB
 SINGLE = {**TIGHT, "GLIBC_TUNABLES": "glibc.malloc.mmap_threshold=64:glibc.malloc.top_pad=0"}  # and for most pieces
 GOING = "".join(opening(key, 1 + 100 * key, 90) for key in range(1, 13))  # each leaves some 4 KiB in memory
+# 91 * 10^32 * 10^4 is below 2^128, and ten times that is not
 OPENED = "".join(text(budget=32, reply="open", search=it, standing="searching") for it in range(1, 13))
 
 
