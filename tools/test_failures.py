@@ -206,7 +206,9 @@ class Disk(Case):
         spans = []
         for gate in gates:
             first = max(place for place, it in enumerate(calls) if (it.kind, it.at, it.data) == ("write", gate, b"\1"))
-            spans.append((first, next(place for place, it in enumerate(calls) if place > first and it.kind == "sync")))
+            syncs = [place for place, it in enumerate(calls) if place > first and it.kind == "sync"]
+            self.assertTrue(syncs, f"the gate at {gate} isn't made sure")
+            spans.append((first, syncs[0]))
         return spans
 
 
