@@ -90,7 +90,8 @@ def ptrace(request: int, thread: int, data: Any = 0) -> bool:
 
 @dataclasses.dataclass(frozen=True)
 class Fault:
-    """What is done to the call of a kind with a number. With an error it fails, before anything of it is done; where
+    """What is done to the call of a kind with a number, or to each for which nothing else is planned where that is 0.
+    With an error it fails, before anything of it is done; where
     `keeps` says so, so many bytes of a write are written first, and another call is done, for any number. Without an
     error, `keeps` is how many bytes a write or a read takes."""
     kind: str
@@ -319,7 +320,8 @@ class Traced:
             call = self._call_of(regs) or self._other_of(regs)
             if call is None:
                 return True
-            fault = self._plan.pop((call.kind, call.number), None) or self._lasting.get(call.kind)
+            fault = (self._plan.pop((call.kind, call.number), None) or self._lasting.get(call.kind)
+                     or self._plan.get((call.kind, 0)))
             if fault and fault.lasts:
                 self._lasting[call.kind] = fault
             if fault and fault.holds:
