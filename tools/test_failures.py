@@ -29,7 +29,7 @@ FOUNDED = journal_of([FOUNDING])
 READ, WRITTEN, DISK, MEMORY = 3, 4, 5, 11
 SAID = {0: "", READ: "the input could not be read\n", WRITTEN: "the output could not be written\n",
         DISK: "the journal could not be used\n", 7: "the journal has not been founded\n",
-        8: "the journal is already founded\n", 9: "the network failed\n", MEMORY: "out of memory\n"}
+        8: "the journal is already founded\n", MEMORY: "out of memory\n"}
 AT = 100_000_000
 can_trace = unittest.skipIf(refused(), str(refused()))
 
