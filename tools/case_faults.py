@@ -8,7 +8,7 @@
     served.add(Fault("sync", 1, error=0, holds=True))   # the next sync, counted from now on, waits for `go`
     served.wait_until(lambda: served.held)              # by events: the tracer tells of each call
     served.go()                                         # all calls that are held go on
-    served.kill()
+    served.close()
 
 It can stand where a `Popen` does: `pid`, `poll`, `wait`, `kill` and `returncode` are alike. (A `Popen` itself must not
 be waited for: that would take the tracer's events.) All threads of the program are traced, by one thread of this
@@ -226,6 +226,12 @@ class Traced:
             self._let_go.update(self.held)
             self._changed.notify_all()
 
+    def sleeps(self, thread: int) -> bool:
+        """Whether a thread sleeps: it is in a call of the system, and not about to leave it."""
+        with contextlib.suppress(OSError), open(f"/proc/{self.pid}/task/{thread}/stat", "rb") as file:
+            return file.read().rpartition(b")")[2].split()[0] == b"S"
+        return False
+
     def poll(self) -> Optional[int]:
         """The status, or the signal below 0, with which it has ended."""
         return self.returncode
@@ -242,6 +248,11 @@ class Traced:
         with self._changed, contextlib.suppress(ProcessLookupError):
             if not self._is_over():
                 signal.pidfd_send_signal(self._pidfd, signal.SIGKILL)
+
+    def close(self) -> None:
+        """Kills it, and waits until it is gone: from then on it holds no lock and no port."""
+        self.kill()
+        self.wait()
 
     def _is_over(self) -> bool:
         return self.returncode is not None or self._fault is not None

@@ -1,5 +1,5 @@
 #!/usr/bin/env python3
-"""Tests of a disk that fails by a plan: what is answered then and afterwards, and what a crash may leave of the journal.
+"""Tests of a disk that fails by a plan: what is answered then and afterwards, and what a crash may leave.
 
     CULPRIT_FINDER=PROGRAM python3 tools/test_faults.py [CLASS[.TEST]]
 
@@ -50,6 +50,7 @@ from case_faults import Disk, Fault, Traced
 
 TOOLS = pathlib.Path(__file__).resolve().parent
 EPOLL_WAIT = 232  # a thread is in this call of the system once the service listens
+FUTEX = 202  # and in this one while it sleeps until another one wakes it
 AT = 100_000_000  # the moment of the journals' entries, and of a script's lines
 ERRORS = {"fails": errno.EIO, "drops": errno.EIO, "full": errno.ENOSPC, "interrupts": errno.EINTR, "shortens": 0}
 SAID = {5: "the journal could not be used\n", 6: "the journal is damaged at byte 1\n",
@@ -165,7 +166,7 @@ class Play:
         if self.program is None:
             words = [PROGRAM, "serve", self.test.journal, f"127.0.0.1:{self.port}", "2", "1000"]
             self.program = Traced(words, self.test.journal, self.plan, stored=self.stored)
-            self.ends.callback(self.program.kill)
+            self.ends.callback(self.program.close)
         return self.program
 
     def disk(self) -> Disk:
@@ -181,8 +182,7 @@ class Play:
 
     def do_again(self, _: str) -> None:
         self.stored = self.disk().stored
-        self.begun().kill()
-        self.begun().wait()
+        self.begun().close()
         self.program, self.caller, self.plan = None, None, []
 
     def do_ask(self, rest: str) -> None:
@@ -262,9 +262,9 @@ def class_of(file: pathlib.Path) -> type:
 
 
 @unittest.skipIf(case_faults.refused(), str(case_faults.refused()))
-class Moments(Case):
-    """A command is killed before each of its calls on the file, and has each of them fail in turn. Each image of a crash
-    then has what was answered and no more, or that and the entries of the line that is due next."""
+class Commands(Case):
+    """A command is killed before each of its calls that change the file, and has each of all its calls fail in turn.
+    Each image of a crash then has what was answered and no more, or that and the entries of the line that is next."""
 
     def play(self, command: str, before: Optional[bytes], given: str, replies: list[str], entries: list[int]) -> None:
         """Plays a command over a journal, or none. Of its replies all lines are wanted, and `entries` is how many there
@@ -286,6 +286,8 @@ class Moments(Case):
                                            check=False)
                     self.assertEqual((again.returncode, again.stdout.decode()), (8, "") if kept else (0, said))
                     self.assertEqual(self.entries_now(), entries[-1])
+            if call.kind not in ("write", "sync", "cut"):
+                continue
             with self.subTest(killed_before=(call.kind, call.number)):
                 killed = self.begin_anew(Fault(call.kind, call.number, error=0, holds=True))
                 killed.wait_until(lambda: killed.held)
@@ -325,6 +327,10 @@ class Moments(Case):
         self.assertEqual(program.out, "".join(f"{it}\n" for it in replies[:count]))
         self.assertLessEqual(self.found_in(program), set(entries[count:count + 2]))
 
+
+class Moments(Commands):
+    """Scripts over a journal."""
+
     REPORTS = "".join(f'{{"at":{AT},"do":"report","run":{run},"verdict":"fail"}}\n' for run in (1, 2, 3))
     REPLIES = [f'{{"fate":"counted","reply":"report","run":{run},"search":1,"standing":"searching","verdict":"fail"}}'
                for run in (1, 2, 3)]
@@ -334,6 +340,10 @@ class Moments(Case):
 
     def test_run_over_version_1(self) -> None:
         self.play("run", JOURNALS["five of version 1"], self.REPORTS, self.REPLIES, [5, 6, 7, 8])
+
+
+class Foundings(Commands):
+    """Commands that make a journal, or close it."""
 
     def test_found(self) -> None:
         self.play("found 60000 10 east:0", None, "", ["founded"], [0, 1])
@@ -347,6 +357,106 @@ class Moments(Case):
 
     def test_close(self) -> None:
         self.play("close", FIVE[:38] + b"\0", "", ["closed 0"], [1, 2])
+
+
+@unittest.skipIf(case_faults.refused(), str(case_faults.refused()))
+class Together(Case):
+    """Three reports of two callers that share a record: one of run 1, and two sent ahead of runs 2 and 3. Meanwhile a
+    third one's record is stored, the opening of a search. All of the shared record is kept, or none."""
+
+    CALLS = [("look", 1), ("write", 1), ("sync", 1), ("write", 2), ("sync", 2)]  # what the shared record costs
+    GATE = 3  # the place among them of the write of its gate
+
+    program: Optional[Traced] = None
+
+    def opening(self) -> Ask:
+        """The opening of a search of its own."""
+        self.keys += 1
+        return "/v1/searches", {"key": f"{100 + self.keys:032x}", "test": "t", "base": f"{0:040x}", "calm": 1,
+                                "suspects": [[f"{1:040x}", 1]], "rate": [1, 10], "bar": [9, 10], "width": 1,
+                                "reruns": 1}
+
+    def wait_together(self, *asks: list[str]) -> None:
+        """Has two callers wait for their turns while the gate of a third one's record is synced: until they sleep."""
+        self.program.add(Fault("sync", 2, error=0, holds=True))
+        self.first.send(self.opening())
+        self.program.wait_until(lambda: self.program.held)
+        for caller, words in zip(self.others, asks):
+            caller.send(*map(ask_of, words))
+        self.program.wait_until(self.others_sleep)
+
+    def others_sleep(self) -> bool:
+        """Whether each of the three handlers but the one whose call is held sleeps until another one wakes it, as none
+        does that has nothing to do: one of these would wait for connections."""
+        others = self.program.inside.keys() - self.program.held.keys()
+        return len(others) == 2 and all(self.program.inside[it] == FUTEX and self.program.sleeps(it) for it in others)
+
+    def begin_together(self, plan: Optional[Fault] = None) -> None:
+        """The shared record is due, and is to be stored by a plan. The journal has seven entries then."""
+        if self.program:
+            self.program.close()
+        with open(self.journal, "wb") as file:
+            file.write(FIVE)
+        self.keys, self.port = 0, own_port()
+        self.program = Traced([PROGRAM, "serve", self.journal, f"127.0.0.1:{self.port}", "3", "1000"], self.journal)
+        self.addCleanup(self.program.close)
+        self.program.wait_until(lambda: EPOLL_WAIT in self.program.inside.values())
+        self.first, *self.others = [Caller(self, number) for number in (1, 2, 3)]
+        for caller in (self.first, *self.others):
+            self.addCleanup(caller.close)
+        self.wait_together(["farm"], ["farm"])  # from now on turns are long
+        self.program.go()
+        self.assertEqual(self.first.read()[0], 200)
+        self.assertEqual([told(it.read()) for it in self.others], ["6 entries, 0 counted"] * 2)
+        self.wait_together(["report 1 fail"], ["report 2 fail", "report 3 fail"])
+        if plan:
+            self.program.add(plan)
+        self.writes = self.program.counts["write"]
+        self.program.go()
+        self.assertEqual(self.first.read()[0], 200)
+
+    def images(self) -> set[int]:
+        """How many entries the images of a crash have."""
+        return {entries_of(it, self.folder) for it in self.program.disk.images()}
+
+    def test_two_callers_share_a_record_and_then_two_record_nothing(self) -> None:
+        self.begin_together()
+        self.assertEqual([told(self.others[0].read()), *(told(self.others[1].read()) for _ in range(2))],
+                         ["1 fail counted", "2 fail counted", "3 fail counted"])
+        self.assertEqual((self.program.counts["write"] - self.writes, self.images()), (2, {10}))
+        self.wait_together(["farm", "report 9 fail"], ["farm"])
+        self.writes = self.program.counts["write"]
+        self.program.go()
+        self.assertEqual(self.first.read()[0], 200)
+        self.assertEqual([told(it.read()) for it in (self.others[0], *self.others)],
+                         ["11 entries, 3 counted", "UnknownRun 9", "11 entries, 3 counted"])
+        self.assertEqual((self.program.counts["write"] - self.writes, self.images()), (0, {11}))
+
+    def test_a_crash_before_each_call_leaves_all_of_the_record_or_none(self) -> None:
+        for place, (kind, number) in enumerate(self.CALLS):
+            with self.subTest(kind=kind, number=number):
+                self.begin_together(Fault(kind, number, error=0, holds=True))
+                self.program.wait_until(lambda: self.program.held)
+                self.program.close()
+                self.assertEqual(self.images(), {7, 10} if place > self.GATE else {7})
+                self.assertEqual(self.program.counts["write"] - self.writes, {0: 0, 1: 1, 2: 1}.get(place, 2))
+
+    def test_one_caller_is_told_of_a_fault_and_what_is_asked_again_is_done_once(self) -> None:
+        for place, (kind, number) in enumerate(self.CALLS):
+            with self.subTest(kind=kind, number=number):
+                self.begin_together(Fault(kind, number))
+                answers = [[told(self.others[0].read())], [told(self.others[1].read()) for _ in range(2)]]
+                wanted = [["1 fail counted"], ["2 fail counted", "3 fail counted"]]
+                lost = [it for it, (got, want) in enumerate(zip(answers, wanted)) if got != want]
+                self.assertEqual([answers[it] for it in lost], [["503"] * len(wanted[it]) for it in lost])
+                self.assertEqual(len(lost), 1)
+                kept = "fail" if place > self.GATE else "pass"
+                for it in lost:
+                    again = [f"report {want.split()[0]} pass" for want in wanted[it]]
+                    self.assertEqual([told(got) for got in self.others[it].ask(*map(ask_of, again))],
+                                     [f"{want.split()[0]} {kept} counted" for want in wanted[it]])
+                self.assertEqual(told(self.first.ask(ask_of("farm"))[0]), "10 entries, 3 counted")
+                self.assertEqual(self.images(), {10})
 
 
 globals().update({it.__name__: it for it in map(class_of, sorted((TOOLS / "cases_faults").glob("*.txt")))})
