@@ -531,8 +531,7 @@ class Serving:
 
     def end(self) -> None:
         """Kills it."""
-        self.traced.kill()
-        self.traced.wait()
+        self.traced.close()
 
     def opens(self, key: int) -> tuple[int, object]:
         """The status of an answer, and the number of the search that was opened, or the refusal; 0 and nothing where
