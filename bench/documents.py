@@ -24,7 +24,7 @@ CRATES = ROOT / "crates"
 EDITS = ROOT / "bench" / "edits"
 NAMED = ("DEFINITIONS", "PROMISES", "DECISIONS", "ARCHITECTURE", "CHANGES")
 # Names of other things: what a form is filled in with, files beside crates, types of the system and of libraries.
-OTHERS = {"NAME", "curl", "bench", "stdin", "stdout", "serde_json", "main", "old", "BAD", "EDIT"}
+OTHERS = {"NAME", "curl", "bench", "tools", "stdin", "stdout", "serde_json", "main", "old", "BAD", "EDIT"}
 found = []
 
 

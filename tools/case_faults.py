@@ -23,6 +23,12 @@ A call on the journal's file has a kind, and a number within its kind, from 1:
     write   bytes are written at an offset    sync    fsync, fdatasync
     cut     it is given a size
 
+and so has a call on something else, which is no call on the file, and stands in `others`:
+
+    take    standard input is read            put     standard output is written to
+    get     a connection's bytes are taken    send    a connection is sent to
+    grow    the program asks for memory: brk, mmap, mremap, mprotect, from its first own allocation on
+
 What a crash may leave is what docs/TRUST.md says of `file_disk`: what was synced stays, a byte over which the same one
 is written stays, any other that was written or cut since may have any value, and the size is anywhere between.
 
@@ -43,7 +49,7 @@ import signal
 import subprocess
 import tempfile
 import threading
-from typing import Any, Callable, Iterator, Optional, Sequence, Union
+from typing import Any, Callable, Iterator, Mapping, Optional, Sequence, Union
 
 from case_farm import PATIENCE
 
@@ -60,6 +66,11 @@ OF_A_NAME = {2: "open", 257: "open", 4: "look", 262: "look", 332: "look"}
 NOT_FOLLOWED = {0: "read", 1: "write", 19: "readv", 20: "writev", 40: "sendfile", 285: "fallocate", 295: "preadv",
                 296: "pwritev", 326: "copy_file_range", 327: "preadv2", 328: "pwritev2"}
 NOT_PERMITTED = (errno.EPERM, errno.EACCES, errno.ENOSYS)
+OF_A_STREAM = {(0, 0): "take", (1, 1): "put"}  # of a call's number and a descriptor
+OF_A_LINK = {45: "get", 44: "send"}
+BRK, MMAP, MREMAP, MPROTECT = 12, 9, 25, 10
+ANONYMOUS, WRITABLE, PEEK = 0x20, 0x2, 0x2
+SIZED = ("read", "write", "take", "put", "get", "send")  # the kinds of calls on so many bytes
 MAX_SHOWN = 4  # of so many writes since the last sync each choice is an image of its own
 
 Regs = ctypes.c_ulonglong * 27
@@ -89,12 +100,14 @@ class Fault:
     drops: bool = False  # of a sync: what it was to store never is, though a read still gives it
     forgets: bool = False  # the same, and from then on a read gives what was stored before
     holds: bool = False  # it waits for `go` first
+    lasts: bool = False  # so does each later call of the kind fare, until `mend`
 
 
 @dataclasses.dataclass
 class Call:
     """A call on the file: its offset or size, the bytes that were to be written or how many were to be read, and what
-    was answered to the program: a number of bytes, 0, or an error below 0; none while it isn't over."""
+    was answered to the program: a number of bytes, 0, or an error below 0; none while it isn't over. Of a call that
+    asks for memory the offset is the new end of the program's data, or 0 where pages are mapped."""
     kind: str
     number: int
     at: int = 0
@@ -156,7 +169,8 @@ class Traced:
     """A program that is traced from its start."""
 
     def __init__(self, words: Sequence[str], journal: Union[str, os.PathLike[str]], plan: Sequence[Fault] = (),
-                 given: bytes = b"", stored: Optional[bytes] = None) -> None:
+                 given: bytes = b"", stored: Optional[bytes] = None,
+                 env: Optional[Mapping[str, str]] = None) -> None:
         self.words, self.path = [os.fspath(it) for it in words], os.path.realpath(journal)
         read = b""
         if os.path.isfile(self.path):
@@ -164,6 +178,7 @@ class Traced:
                 read = file.read()
         self.disk = Disk(read if stored is None else stored)
         self.calls: list[Call] = []
+        self.others: list[Call] = []
         self.counts: dict[str, int] = {}
         self.inside: dict[int, int] = {}  # the threads that are in a call of the system, and which
         self.held: dict[int, tuple[Call, Fault]] = {}
@@ -175,7 +190,9 @@ class Traced:
         self._fault: Optional[BaseException] = None
         self._changed = threading.Condition()
         self.out = self.said = ""  # once it has ended, what it wrote to standard output, and to standard error
-        self._given = given
+        self._given, self._env = given, env
+        self._lasting: dict[str, Fault] = {}
+        self._data_end, self._grows = 0, False
         self._thread = threading.Thread(target=self._trace_all, daemon=True)
         self._thread.start()
         self.wait_until(lambda: self.pid)
@@ -194,6 +211,12 @@ class Traced:
         with self._changed:
             for fault in faults:
                 self._plan[fault.kind, self.counts.get(fault.kind, 0) + fault.number] = fault
+
+    def mend(self, kind: str) -> None:
+        """From now on no call of this kind fails by the plan."""
+        with self._changed:
+            self._lasting.pop(kind, None)
+            self._plan = {key: it for key, it in self._plan.items() if it.kind != kind}
 
     def go(self) -> None:
         """Lets the calls go on that are held."""
@@ -244,7 +267,7 @@ class Traced:
             given.write(self._given)
             given.seek(0)
             try:
-                process = subprocess.Popen(self.words, stdin=given, stdout=out, stderr=said,
+                process = subprocess.Popen(self.words, stdin=given, stdout=out, stderr=said, env=self._env,
                                            preexec_fn=lambda: ptrace(TRACEME, 0) and None)
                 os.waitpid(process.pid, WAIT)  # it has come to its exec
                 status = process.returncode = self._trace(process.pid)
@@ -303,18 +326,23 @@ class Traced:
             return True
         if thread not in self.inside:
             self.inside[thread] = regs[CALL]
-            call = self._call_of(regs)
+            call = self._call_of(regs) or self._other_of(regs)
             if call is None:
                 return True
-            fault = self._plan.pop((call.kind, call.number), None) or self._plan.get((call.kind, 0))
+            fault = (self._plan.pop((call.kind, call.number), None) or self._lasting.get(call.kind)
+                     or self._plan.get((call.kind, 0)))
+            if fault and fault.lasts:
+                self._lasting[call.kind] = fault
             if fault and fault.holds:
                 self.held[thread] = call, fault
                 return False
             self._begin(thread, call, fault)
             return True
-        del self.inside[thread]
+        number = self.inside.pop(thread)
         if thread in self._working:
             self._end(thread, regs, *self._working.pop(thread))
+        if number == BRK:
+            self._data_end = regs[RAX]
         return True
 
     def _call_of(self, regs: Any) -> Optional[Call]:
@@ -344,6 +372,26 @@ class Traced:
         elif kind == "cut":
             call.at = regs[RSI]
         self.calls.append(call)
+        return call
+
+    def _other_of(self, regs: Any) -> Optional[Call]:
+        """The call on a stream or a link, or for memory, that begins, if it is one. The loader's own aren't taken: what
+        it asks for comes before the program's data grow first."""
+        number, first = regs[CALL], regs[RDI]
+        self._grows |= number == BRK and 0 < self._data_end < first
+        kind, call = OF_A_STREAM.get((number, first)) or OF_A_LINK.get(number), Call("grow", 0)
+        if kind == "get" and regs[R10] & PEEK:
+            return None
+        if kind:
+            call.kind, call.size = kind, regs[RDX]
+            call.data = self._bytes_at(regs[RSI], call.size) if kind in ("put", "send") else b""
+        elif self._grows and number == BRK and self._data_end < first:
+            call.at = first
+        elif not (self._grows and (number == MMAP and regs[R10] & ANONYMOUS or number == MREMAP
+                                   or number == MPROTECT and regs[RDX] & WRITABLE)):
+            return None
+        self.counts[call.kind] = call.number = self.counts.get(call.kind, 0) + 1
+        self.others.append(call)
         return call
 
     def _is_journal(self, descriptor: int) -> bool:
@@ -376,7 +424,7 @@ class Traced:
             self.disk.since.append(call)
         if fault is None:
             return
-        if fault.keeps is not None and call.kind in ("read", "write"):
+        if fault.keeps is not None and call.kind in SIZED:
             regs[RDX] = min(fault.keeps, regs[RDX])
         elif fault.error and not fault.keeps:
             regs[CALL] = (1 << 64) - 1  # no call of the system: nothing is done
@@ -385,12 +433,12 @@ class Traced:
     def _end(self, thread: int, regs: Any, call: Call, fault: Optional[Fault], third: int, before: list[Call]) -> None:
         """Takes the end of a call, and changes its answer, as the plan says."""
         given = ctypes.c_longlong(regs[RAX]).value
-        skipped = fault is not None and fault.error and (not fault.keeps if call.kind not in ("read", "write")
+        skipped = fault is not None and fault.error and (not fault.keeps if call.kind not in SIZED
                                                         else fault.keeps is None)
-        call.done = 0 if skipped or given < 0 else given if call.kind in ("read", "write") else 1
+        call.done = 0 if skipped or given < 0 else given if call.kind in SIZED else 1
         if fault:
             if fault.error:
-                given = -fault.error
+                given = self._data_end if call.kind == "grow" and call.at else -fault.error
             regs[RAX], regs[RDX] = given % (1 << 64), third
             ptrace(SETREGS, thread, ctypes.byref(regs))
         call.answer = given
