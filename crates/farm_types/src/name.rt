@@ -24,9 +24,15 @@ pub const NAME_LAST_BYTE: u8 = 0x7E;
 
 /// The name of a test, a worker or an agent: 1 to 200 printable ASCII characters, spaces, quotes and backslashes among
 /// them. A contract sees it as the list of its bytes, by which names are equal and ordered.
-#[derive(Drop)]
 pub struct Name {
     text: String,
+}
+
+// Written out, so that the crates above cite its proof, and prove none of its fields' drops again.
+impl Drop for Name {
+    fn drop(self) {
+        let Name { text: _ } = self;
+    }
 }
 
 impl Model for Name {

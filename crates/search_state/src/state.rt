@@ -26,7 +26,6 @@ use threshold_pick::{Skips, open_pick_uncounted};
 use weight_exact::{Factors, MAX_WIDTH, Run};
 
 /// A search of a farm, kept from report to report.
-#[derive(Drop)]
 pub struct SearchState {
     opening: Snapshot<Opening>,
     belief: Belief,
@@ -47,6 +46,32 @@ pub struct SearchState {
     reruns: ToldList<Run>,
     counted: u32,
     verified: u32,
+}
+
+// Written out, so that the crates above cite its proof, and prove none of its fields' drops again.
+impl Drop for SearchState {
+    fn drop(self) {
+        let SearchState {
+            opening: _,
+            belief: _,
+            search: _,
+            width: _,
+            asked: _,
+            suspects: _,
+            bar: _,
+            may_miss: _,
+            standing: _,
+            first: _,
+            verification: _,
+            skips: _,
+            is_over: _,
+            is_cancelled: _,
+            runs: _,
+            reruns: _,
+            counted: _,
+            verified: _,
+        } = self;
+    }
 }
 
 impl Model for SearchState {
