@@ -2,7 +2,7 @@
 use Rattle.std.proofs.Common.{◌≡◌, ◌∷◌, [], List, Option, None, ℕ, sym, ap, ◌∙◌}
 use Rattle.atomic_table.specs.Table.{Me, rest}
 use Rattle.farm_board.specs.JobViews.{claiming, asking}
-use Rattle.farm_board.specs.declared.view.View.{View}
+use Rattle.farm_board.specs.declared.job_view.View.{View}
 
 module _ {S V : Type 0} where
   -- what lies in a slot in a seat's hands

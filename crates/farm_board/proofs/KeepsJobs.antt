@@ -13,12 +13,12 @@ use Rattle.farm_board.specs.JobRules.{Stage, free, claimed, posted, taken, answe
 use Rattle.farm_board.specs.JobSteps.{Begins, Reserves, Posts, Takes, Ends, Fetches, Retracts}
 use Rattle.farm_board.specs.JobViews.{idle, claiming, asking, helping}
 use Rattle.farm_board.specs.declared.jobs.TheConstants.{SLOTS}
-use Rattle.farm_board.specs.declared.steps.TheConstants.{FREE, CLAIMED, POSTED, TAKEN, ANSWERED}
-use Rattle.farm_board.specs.declared.view.SeatPart.{SeatPart}
-use Rattle.farm_board.specs.declared.view.SeatPart.TheVariants.{Idle, Claims, Asks, Helps}
-use Rattle.farm_board.specs.declared.view.Slot.{Slot}
-use Rattle.farm_board.specs.declared.view.Slot.TheVariants.{Job, Answer}
-use Rattle.farm_board.specs.declared.view.View.{View}
+use Rattle.farm_board.specs.declared.job_steps.TheConstants.{FREE, CLAIMED, POSTED, TAKEN, ANSWERED}
+use Rattle.farm_board.specs.declared.job_view.SeatPart.{SeatPart}
+use Rattle.farm_board.specs.declared.job_view.SeatPart.TheVariants.{Idle, Claims, Asks, Helps}
+use Rattle.farm_board.specs.declared.job_view.Slot.{Slot}
+use Rattle.farm_board.specs.declared.job_view.Slot.TheVariants.{Job, Answer}
+use Rattle.farm_board.specs.declared.job_view.View.{View}
 use Rattle.farm_board.proofs.JobRows.{cond-same, cond-other, at-lt-length, at-get_or, get_or-push, get_or-replicate, at-replicate}
 use Rattle.farm_board.proofs.Stages.{claims-elsewhere, asks-elsewhere, helps-elsewhere, claims-here, asks-here, helps-here, is-free, is-posted, is-claimed-by, is-posted-by, is-answered-by, is-taken-by, idle-not-by}
 

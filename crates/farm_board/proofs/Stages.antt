@@ -3,9 +3,9 @@ use Rattle.std.proofs.Common.{◌≡◌, ◌≢◌, ◌==◌, if◌then◌else�
 use mathlib.Core.Logic.{dite}
 use native.Mathlib.Decide.{ℕ_discrete}
 use Rattle.farm_board.specs.JobRules.{Stage, free, claimed, posted, taken, answered, word_at, part_at, part_with}
-use Rattle.farm_board.specs.declared.steps.TheConstants.{FREE, POSTED, ANSWERED}
-use Rattle.farm_board.specs.declared.view.SeatPart.{SeatPart}
-use Rattle.farm_board.specs.declared.view.SeatPart.TheVariants.{Idle, Claims, Asks, Helps}
+use Rattle.farm_board.specs.declared.job_steps.TheConstants.{FREE, POSTED, ANSWERED}
+use Rattle.farm_board.specs.declared.job_view.SeatPart.{SeatPart}
+use Rattle.farm_board.specs.declared.job_view.SeatPart.TheVariants.{Idle, Claims, Asks, Helps}
 use Rattle.farm_board.proofs.JobRows.{cond-same, cond-other}
 
 module _ {Q : Type 0} where

@@ -7,12 +7,12 @@ use lib.ListN.{get_elem?}
 use Rattle.atomic_table.specs.Table.{State}
 use Rattle.farm_board.specs.JobViews.{idle}
 use Rattle.farm_board.specs.declared.jobs.TheConstants.{SLOTS}
-use Rattle.farm_board.specs.declared.steps.TheConstants.{FREE, CLAIMED, POSTED, TAKEN, ANSWERED}
-use Rattle.farm_board.specs.declared.view.SeatPart.{SeatPart}
-use Rattle.farm_board.specs.declared.view.SeatPart.TheVariants.{Idle, Claims, Asks, Helps}
-use Rattle.farm_board.specs.declared.view.Slot.{Slot}
-use Rattle.farm_board.specs.declared.view.Slot.TheVariants.{Job, Answer}
-use Rattle.farm_board.specs.declared.view.View.{View}
+use Rattle.farm_board.specs.declared.job_steps.TheConstants.{FREE, CLAIMED, POSTED, TAKEN, ANSWERED}
+use Rattle.farm_board.specs.declared.job_view.SeatPart.{SeatPart}
+use Rattle.farm_board.specs.declared.job_view.SeatPart.TheVariants.{Idle, Claims, Asks, Helps}
+use Rattle.farm_board.specs.declared.job_view.Slot.{Slot}
+use Rattle.farm_board.specs.declared.job_view.Slot.TheVariants.{Job, Answer}
+use Rattle.farm_board.specs.declared.job_view.View.{View}
 
 -- How far a slot is: nobody uses it; a seat has it for itself; a seat posted a job there; another seat took that job;
 -- the answer is there.

@@ -2,10 +2,10 @@
 use Rattle.std.specs.Prelude.{◌≡◌, ◌∷◌, [], ℕ, Option, Some, None}
 use Rattle.atomic_table.specs.Table.{Step, Me}
 use Rattle.farm_board.specs.JobViews.{idle, claiming, asking, helping}
-use Rattle.farm_board.specs.declared.steps.TheConstants.{FREE, POSTED, ANSWERED}
-use Rattle.farm_board.specs.declared.view.Slot.{Slot}
-use Rattle.farm_board.specs.declared.view.Slot.TheVariants.{Job, Answer}
-use Rattle.farm_board.specs.declared.view.View.{View}
+use Rattle.farm_board.specs.declared.job_steps.TheConstants.{FREE, POSTED, ANSWERED}
+use Rattle.farm_board.specs.declared.job_view.Slot.{Slot}
+use Rattle.farm_board.specs.declared.job_view.Slot.TheVariants.{Job, Answer}
+use Rattle.farm_board.specs.declared.job_view.View.{View}
 
 -- what a kind of step tells: of the step, the seat before, the number found and the seat after
 abbrev pub Tells : Type 0 → Type 0 → Type 0 → Type 1

@@ -1,7 +1,7 @@
 -- The shapes of a seat's view.
 use Rattle.std.specs.Prelude.{ℕ}
-use Rattle.farm_board.specs.declared.view.View.{View}
-use Rattle.farm_board.specs.declared.view.SeatPart.TheVariants.{Idle, Claims, Asks, Helps}
+use Rattle.farm_board.specs.declared.job_view.View.{View}
+use Rattle.farm_board.specs.declared.job_view.SeatPart.TheVariants.{Idle, Claims, Asks, Helps}
 
 module _ {K Q : Type 0} where
   -- a seat that does nothing

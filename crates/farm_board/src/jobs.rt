@@ -3,13 +3,13 @@ ghost use Rattle.std.specs.Prelude.{◌≡◌, ◌<◌, ◌∷◌, [], None, Som
 ghost use Rattle.farm_board.specs.JobViews.{idle, claiming};
 
 use crate::bells::Bells;
-use crate::posted::Posted;
-use crate::rule::JobRule;
-use crate::steps::{
+use crate::job_rule::JobRule;
+use crate::job_steps::{
     ANSWERED, Begin, CLAIMED, Claim, End, FREE, Fetch, Keeping, POSTED, Post, Retract, TAKEN, Take,
 };
+use crate::job_view::{Slot, View};
+use crate::posted::Posted;
 use crate::taken::Taken;
-use crate::view::{Slot, View};
 use atomic_table::{Seat, Table};
 use crossbeam_utils::sync::EventCount;
 use std::alloc::{AllocError, Global};

@@ -28,18 +28,18 @@
 
 mod bells;
 mod board;
+mod job_rule;
+mod job_steps;
+mod job_view;
 mod jobs;
 mod pass;
 mod posted;
 mod row;
-mod rule;
-mod steps;
 mod taken;
-mod view;
 
 pub use board::Board;
+pub use job_rule::JobRule;
 pub use jobs::{JobTable, SLOTS};
 pub use pass::BoardPass;
 pub use posted::Posted;
-pub use rule::JobRule;
 pub use taken::Taken;

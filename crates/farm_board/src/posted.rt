@@ -1,6 +1,6 @@
 //! A job that was posted.
 
-use crate::view::{Slot, View};
+use crate::job_view::{Slot, View};
 use atomic_table::Seat;
 use std::marker::Model;
 use std::snapshot::Snapshot;

@@ -1,6 +1,6 @@
 use Rattle.std.proofs.Common.{arith, sym, subst, ap, ◌∙◌, ◌∷◌, [], None, Some}
 use Rattle.farm_board.specs.JobViews.{claiming}
-use Rattle.farm_board.specs.declared.view.Slot.TheVariants.{Job}
+use Rattle.farm_board.specs.declared.job_view.Slot.TheVariants.{Job}
 use Rattle.farm_board.proofs.Hands.{put_there}
 use Rattle.farm_board.proofs.KeepsJobs.{begins, posts}
 use Rattle.farm_board.proofs.jobs.JobTable.post.Goals as goal

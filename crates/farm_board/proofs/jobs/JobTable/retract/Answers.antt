@@ -1,6 +1,6 @@
 use Rattle.std.proofs.Common.{arith, sym, ap, ◌∙◌, [], Some}
 use Rattle.farm_board.specs.JobViews.{asking, claiming}
-use Rattle.farm_board.specs.declared.view.Slot.TheVariants.{Job}
+use Rattle.farm_board.specs.declared.job_view.Slot.TheVariants.{Job}
 use Rattle.farm_board.proofs.Hands.{in_hands, emptied}
 use Rattle.farm_board.proofs.KeepsJobs.{retracts, frees}
 use Rattle.farm_board.proofs.jobs.JobTable.retract.Goals as goal

@@ -1,6 +1,6 @@
 use Rattle.std.proofs.Common.{arith, ◌∙◌, Some}
 use Rattle.farm_board.specs.JobViews.{helping}
-use Rattle.farm_board.specs.declared.view.Slot.TheVariants.{Job}
+use Rattle.farm_board.specs.declared.job_view.Slot.TheVariants.{Job}
 use Rattle.farm_board.proofs.Hands.{in_hands}
 use Rattle.farm_board.proofs.KeepsJobs.{begins, takes_job}
 use Rattle.farm_board.proofs.jobs.JobTable.take_at.Goals as goal

@@ -3,8 +3,8 @@ ghost use Rattle.farm_board.specs.JobRules.{IsKept};
 ghost use Rattle.farm_board.specs.JobSteps.{Begins, Reserves, Posts, Takes, Ends, Fetches, Retracts};
 ghost use Rattle.farm_board.specs.JobViews.{idle};
 
-use crate::rule::JobRule;
-use crate::view::{Slot, View};
+use crate::job_rule::JobRule;
+use crate::job_view::{Slot, View};
 use atomic_table::{Play, TableRule};
 use std::marker::PhantomData;
 
