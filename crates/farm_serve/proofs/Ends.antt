@@ -24,13 +24,13 @@ use Rattle.farm_serve.proofs.Counts.{IfSome-map, Rose-from}
 use Rattle.farm_serve.proofs.Crashes.{IsReached, mark_of_rest, turns-kept, turns-reached, within-first, within-from}
 use Rattle.farm_serve.proofs.Steps.{AreHeldBack-longer}
 use Rattle.farm_serve.proofs.Marks.{Follows-refl, IsSaidBy-refl}
-use Rattle.farm_serve.proofs.Openings.{WasOpened, any_moment-opened, since_sync-opened}
+use Rattle.outside_seen.proofs.Openings.{WasOpened, any_moment-opened, since_sync-opened}
 use Rattle.farm_serve.specs.Acknowledged.{acknowledged_by}
 use Rattle.farm_serve.specs.Crashes.{StandsWithin, WentByTurns}
 use Rattle.farm_serve.specs.Ending.{is_memory, ending_by_line, ending_of, TellsFailure, HasNetCause}
 use Rattle.farm_serve.specs.Gained.{has_failed}
 use Rattle.farm_serve.specs.LastLine.{EndSays, IsPartPut, LinePut, LineSays, farm_line}
-use Rattle.farm_serve.specs.Outside.{DiskSeen, NetworkSeen, Outside, OutputSeen, disk_seen, outside}
+use Rattle.outside_seen.specs.Outside.{DiskSeen, NetworkSeen, Outside, OutputSeen, disk_seen, outside}
 use Rattle.farm_serve.specs.ServeEnds.{FarmServed, LinksServed, ServeCompletes, ServeEnds, mark_at}
 use Rattle.farm_serve.specs.Serving.{AreServed, ComesTo, store_mark}
 use Rattle.farm_serve.specs.declared.ending.Ending.{Ending}

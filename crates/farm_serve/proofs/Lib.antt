@@ -5,6 +5,5 @@ pub mod Ends
 pub mod Links
 pub mod Marks
 pub mod Owners
-pub mod Openings
 pub mod Served
 pub mod Steps

@@ -14,7 +14,7 @@ use Rattle.farm_serve.proofs.Marks.{Follows-trans, IsSaidBy}
 use Rattle.farm_serve.proofs.Steps.{AreHeldBack-all, AreHeldBack-longer, stands}
 use Rattle.farm_serve.specs.Entries.{AtEntry, start_of}
 use Rattle.farm_serve.specs.Gained.{accepts_of, last_ended}
-use Rattle.farm_serve.specs.Outside.{network_seen}
+use Rattle.outside_seen.specs.Outside.{network_seen}
 use Rattle.farm_serve.specs.Serving.{IsGained, AreServed, ComesTo}
 use Rattle.farm_serve.specs.Standings.{IsClosed}
 use Rattle.farm_serve.specs.declared.standing.ServeState.{ServeState}

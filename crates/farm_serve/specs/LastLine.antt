@@ -11,7 +11,7 @@ use Rattle.common_types.specs.Counts.{Rose}
 use Rattle.link_io.specs.declared.sink.PutFault.{PutFault}
 use Rattle.link_io.specs.declared.sink.PutFault.TheVariants as put
 use Rattle.farm_serve.specs.Ending.{ending_of}
-use Rattle.farm_serve.specs.Outside.{OutputSeen}
+use Rattle.outside_seen.specs.Outside.{OutputSeen}
 use Rattle.farm_serve.specs.declared.ending.Ending.{Ending}
 use Rattle.farm_serve.specs.declared.standing.ServeState.{ServeState}
 use Rattle.farm_serve.specs.declared.ending.Ending.TheVariants.{Done, NetFault, WriteFault, Memory, NotOpened}

@@ -6,7 +6,6 @@ pub mod Gained
 pub mod LastLine
 pub mod Links
 pub mod Nexts
-pub mod Outside
 pub mod ServeEnds
 pub mod Serving
 pub mod Standings

@@ -23,7 +23,7 @@ use Rattle.farm_serve.specs.Crashes.{StandsWithin, WentByTurns}
 use Rattle.farm_serve.specs.Ending.{HasNetCause, TellsFailure, is_memory}
 use Rattle.farm_serve.specs.Gained.{AreAccepts, AreHeldBack, accepts_of, has_failed, last_ended, links_of, returns_of}
 use Rattle.farm_serve.specs.LastLine.{LinePut, farm_line}
-use Rattle.farm_serve.specs.Outside.{DiskSeen, Outside}
+use Rattle.outside_seen.specs.Outside.{DiskSeen, Outside}
 use Rattle.farm_serve.specs.declared.ending.Ending.{Ending}
 use Rattle.farm_serve.specs.declared.ending.Ending.TheVariants as end
 

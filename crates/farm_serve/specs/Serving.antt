@@ -17,7 +17,7 @@ use Rattle.turn_lock.specs.declared.view.Lending.{Lending}
 use Rattle.turn_lock.specs.declared.view.Loan.{Loan}
 use Rattle.farm_serve.specs.Entries.{AtEntry, start_of}
 use Rattle.farm_serve.specs.Gained.{accepts_of, links_of, returns_of, last_ended, has_failed, AreAccepts, AreHeldBack}
-use Rattle.farm_serve.specs.Outside.{NetworkSeen}
+use Rattle.outside_seen.specs.Outside.{NetworkSeen}
 use Rattle.farm_serve.specs.declared.standing.ServeState.{ServeState}
 
 -- what is seen of a farm by its store

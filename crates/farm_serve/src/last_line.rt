@@ -1,7 +1,7 @@
 //! The line that the service puts last.
 ghost use Rattle.std.specs.Prelude.{◌≡◌, IfOk, string_bytes};
 ghost use Rattle.farm_serve.specs.LastLine.{LineSays, farm_line, page_line};
-ghost use Rattle.farm_serve.specs.Outside.{output_seen};
+ghost use Rattle.outside_seen.specs.Outside.{output_seen};
 
 use farm_disk::Disk;
 use farm_entry::{Reply, Totals};

@@ -9,7 +9,7 @@ ghost use Rattle.turn_lock.specs.Known.{IsReady, first_stake};
 ghost use Rattle.farm_serve.specs.Acknowledged.{acknowledged_by};
 ghost use Rattle.farm_serve.specs.LastLine.{EndSays, farm_line};
 ghost use Rattle.farm_serve.specs.Links.{GiveAlike};
-ghost use Rattle.farm_serve.specs.Outside.{outside, network_seen, output_seen, disk_seen};
+ghost use Rattle.outside_seen.specs.Outside.{outside, network_seen, output_seen, disk_seen};
 ghost use Rattle.farm_serve.specs.ServeEnds.{ServeCompletes, ServeEnds};
 ghost use Rattle.farm_serve.specs.Serving.{ComesTo, store_mark};
 

@@ -1,16 +1,2 @@
-pub mod Auditing
-pub mod Causes
-pub mod Closings
-pub mod Completing
-pub mod Drilling
-pub mod Following
-pub mod Foundings
-pub mod Inheritings
-pub mod JournalRuns
-pub mod Judging
-pub mod Putting
 pub mod Saying
 pub mod Serving
-pub mod Taken
-pub mod Unread
-pub mod Working

@@ -6,12 +6,13 @@ use Rattle.finder_words.specs.Words.{Asked, asked_by, audit, close, drill, evide
 use Rattle.finder_words.specs.Words.{run, run_journal, serve, show, work}
 use Rattle.finder_words.specs.declared.subcommand.Subcommand.{Subcommand}
 use Rattle.link_io.proofs.Told.{append_known-nil}
-use Rattle.finder_program.proofs.Following.{unread-follow}
-use Rattle.finder_program.proofs.Unread.{unread-not_opened, unread-served}
-use Rattle.finder_program.proofs.Working.{unread-work}
+use Rattle.finder_commands.proofs.Following.{unread-follow}
+use Rattle.finder_commands.proofs.Unread.{unread-not_opened}
+use Rattle.finder_commands.proofs.Working.{unread-work}
+use Rattle.finder_program.proofs.Serving.{unread-served}
 use Rattle.finder_program.specs.FinderSays.{FinderSays}
 use Rattle.finder_program.specs.World.{World, journal_outside, streams_of, work_outside}
-use Rattle.finder_program.specs.declared.status.Status.TheVariants.{Memory}
+use Rattle.finder_commands.specs.declared.status.Status.TheVariants.{Memory}
 
 -- what the words ask for that were read as a subcommand
 pub asked-named : {read : Option Subcommand} {some named : Subcommand} {words : Option Asked}

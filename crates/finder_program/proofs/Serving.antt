@@ -1,16 +1,17 @@
--- How a call of `serve` ends, by how its service did.
-use Rattle.std.proofs.Common.{◌≡◌, ◌∙◌, ◌⊎◌, inl, inr, ℕ, sym, ap, subst}
+-- How a call of `serve` ends, by how its service did, or where memory ran out to read the words.
+use Rattle.std.proofs.Common.{◌≡◌, ◌∙◌, ◌⊎◌, inl, inr, ℕ, refl, sym, ap, subst}
+use Rattle.farm_journal.proofs.OpeningSteps.{reads-none}
 use Rattle.farm_journal.specs.declared.fault.OpeningFault.TheVariants as opening
-use Rattle.farm_serve.specs.Outside.{Outside}
+use Rattle.outside_seen.specs.Outside.{Outside}
 use Rattle.farm_serve.specs.ServeEnds.{ServeCompletes, ServeEnds}
 use Rattle.farm_serve.specs.declared.ending.Ending.{Ending}
 use Rattle.farm_serve.specs.declared.ending.Ending.TheVariants as end
 use Rattle.farm_types.specs.declared.moment.Moment.{Moment}
-use Rattle.finder_program.proofs.Causes.{opening-cause}
-use Rattle.finder_program.specs.Disks.{HasStoreCause}
-use Rattle.finder_program.specs.ServeCommand.{JournalServeCompletes, status_of_ending}
-use Rattle.finder_program.specs.declared.status.Status.{Status}
-use Rattle.finder_program.specs.declared.status.Status.TheVariants.{Done, Memory}
+use Rattle.finder_commands.proofs.Causes.{opening-cause}
+use Rattle.finder_commands.specs.Disks.{HasStoreCause}
+use Rattle.finder_program.specs.ServeCommand.{JournalServeCompletes, JournalServeEnds, status_of_ending}
+use Rattle.finder_commands.specs.declared.status.Status.{Status}
+use Rattle.finder_commands.specs.declared.status.Status.TheVariants.{Done, Memory}
 
 ending-cause : (links : ℕ) (clock : Moment → Type 0) (ending : Ending) (old new : Outside)
     → ServeEnds links clock ending old new → HasStoreCause (status_of_ending ending) old.disk new.disk
@@ -38,3 +39,17 @@ pub serve-completes : (ending : Ending) (status : Status) (old new : Outside) �
     → ServeCompletes ending old new → JournalServeCompletes status old new
 serve-completes ending status old new is completes net out disk tell history stands =
     by_ending ending status is (completes net out disk tell history stands)
+
+-- nothing was done where memory ran out to read the words
+pub unread-served : (links : ℕ) (clock : Moment → Type 0) (seen : Outside)
+    → JournalServeEnds links clock Memory seen seen
+unread-served links clock seen = (
+  end.NotOpened opening.Memory,
+  refl,
+  record {
+    untouched = (refl, refl);
+    cause = λ tells. tt;
+    only = λ tells. reads-none seen.disk.told;
+    counts = tt;
+  },
+)

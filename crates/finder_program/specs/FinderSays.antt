@@ -2,23 +2,23 @@
 use Rattle.std.specs.Prelude.{◌≡◌, ◌⊎◌, Option, Some, None}
 use Rattle.finder_words.specs.Words.{Asked, audit, close, drill, evidence, follow, found, inherit, judge, rates}
 use Rattle.finder_words.specs.Words.{run, run_journal, serve, show, work}
-use Rattle.finder_program.specs.AuditCommand.{AuditSays}
-use Rattle.finder_program.specs.CloseCommand.{CloseSays}
-use Rattle.finder_program.specs.DrillCommand.{DrillSays}
-use Rattle.finder_program.specs.EvidenceCommand.{EvidenceSays}
-use Rattle.finder_program.specs.FollowCommand.{FollowSays}
-use Rattle.finder_program.specs.Found.{FoundSays}
-use Rattle.finder_program.specs.InheritCommand.{InheritSays}
-use Rattle.finder_program.specs.JudgeCommand.{JudgeSays}
-use Rattle.finder_program.specs.RatesCommand.{RatesSays}
-use Rattle.finder_program.specs.RunCommand.{MemoryRunSays}
-use Rattle.finder_program.specs.RunJournal.{JournalRunSays}
+use Rattle.finder_commands.specs.AuditCommand.{AuditSays}
+use Rattle.finder_commands.specs.CloseCommand.{CloseSays}
+use Rattle.finder_commands.specs.DrillCommand.{DrillSays}
+use Rattle.finder_commands.specs.EvidenceCommand.{EvidenceSays}
+use Rattle.finder_commands.specs.FollowCommand.{FollowSays}
+use Rattle.finder_commands.specs.Found.{FoundSays}
+use Rattle.finder_commands.specs.InheritCommand.{InheritSays}
+use Rattle.finder_commands.specs.JudgeCommand.{JudgeSays}
+use Rattle.finder_commands.specs.RatesCommand.{RatesSays}
+use Rattle.finder_commands.specs.RunCommand.{MemoryRunSays}
+use Rattle.finder_commands.specs.RunJournal.{JournalRunSays}
 use Rattle.finder_program.specs.ServeCommand.{ServeSays}
-use Rattle.finder_program.specs.Show.{ShowSays}
-use Rattle.finder_program.specs.WorkCommand.{WorkSays}
+use Rattle.finder_commands.specs.Show.{ShowSays}
+use Rattle.finder_commands.specs.WorkCommand.{WorkSays}
 use Rattle.finder_program.specs.World.{World, journal_outside, streams_of, work_outside}
-use Rattle.finder_program.specs.declared.status.Status.{Status}
-use Rattle.finder_program.specs.declared.status.Status.TheVariants.{Usage, Memory}
+use Rattle.finder_commands.specs.declared.status.Status.{Status}
+use Rattle.finder_commands.specs.declared.status.Status.TheVariants.{Usage, Memory}
 
 -- What the status of a call says of the world before it and after it, and that the work is done where nothing fails: a
 -- case for each subcommand. Words that ask for nothing are answered Usage, unless memory runs out to read them.

@@ -1,16 +1,16 @@
 -- What the subcommand `serve JOURNAL ADDRESS HANDLERS LINKS` does.
 use Rattle.std.specs.Prelude.{◌≡◌, ◌⊎◌, ℕ, true, List}
 use Rattle.farm_entry.specs.declared.entry.Entry.{Entry}
-use Rattle.farm_serve.specs.Outside.{Outside}
+use Rattle.outside_seen.specs.Outside.{Outside}
 use Rattle.farm_serve.specs.ServeEnds.{ServeEnds}
 use Rattle.farm_serve.specs.declared.ending.Ending.{Ending}
 use Rattle.farm_serve.specs.declared.ending.Ending.TheVariants as end
 use Rattle.farm_store.specs.Bytes.{StandsFor}
 use Rattle.farm_types.specs.declared.moment.Moment.{Moment}
 use Rattle.common_types.specs.Counts.{Rose}
-use Rattle.finder_program.specs.Opening.{status_of_opening}
-use Rattle.finder_program.specs.declared.status.Status.{Status}
-use Rattle.finder_program.specs.declared.status.Status.TheVariants.{Done, NetFault, WriteFault, Memory}
+use Rattle.finder_commands.specs.Opening.{status_of_opening}
+use Rattle.finder_commands.specs.declared.status.Status.{Status}
+use Rattle.finder_commands.specs.declared.status.Status.TheVariants.{Done, NetFault, WriteFault, Memory}
 
 -- how a call ends by how its service did
 abbrev pub status_of_ending : Ending → Status

@@ -1,17 +1,11 @@
 -- What is outside of the program, as contracts see it.
 use Rattle.std.specs.Prelude.{ℕ, List, Option}
-use Rattle.farm_serve.specs.Outside.{DiskSeen, NetworkSeen, Outside, OutputSeen, outside}
+use Rattle.outside_seen.specs.Outside.{DiskSeen, InputSeen, NetworkSeen, Outside, OutputSeen, outside}
 use Rattle.farm_types.specs.declared.key.Key.{Key}
 use Rattle.farm_types.specs.declared.moment.Moment.{Moment}
 use Rattle.link_io.specs.Streams.{Streams}
-use Rattle.link_io.specs.declared.source.Source as source
 use Rattle.worker_core.specs.Runs.{Asked}
-use Rattle.finder_program.specs.WorkCommand.{WorkSeen, work_seen}
-
--- the bytes that an input has left, where it tells, and how often it failed
-pub record InputSeen : Type 0 where
-  pub left : Option (List ℕ)
-  pub faults : ℕ
+use Rattle.finder_commands.specs.WorkCommand.{WorkSeen, work_seen}
 
 -- what a runner was asked and has answered, the newest first, where it tells, and how often it failed
 pub record RunnerSeen : Type 0 where
@@ -28,10 +22,6 @@ pub record World : Type 1 where
   pub runner : RunnerSeen
   pub keys : Option (List Key)
   pub clock : Moment → Type 0
-
--- what is seen of a source, by the meaning that its type gives to it
-abbrev pub input_seen : {S : Type 0} → source.Ghosts S → S → InputSeen
-input_seen meant input = record { left = meant.left input; faults = meant.count input }
 
 -- what is seen of a runner by what it told and its count
 abbrev pub runner_seen : Option (List Asked) → ℕ → RunnerSeen

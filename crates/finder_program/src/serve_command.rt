@@ -2,18 +2,17 @@
 
 ghost use Rattle.std.specs.Prelude.{◌≡◌, ◌≤◌, ◌<◌};
 ghost use Rattle.connection_laws.specs.Moments.{MayGive};
-ghost use Rattle.farm_serve.specs.Outside.{disk_seen, network_seen, outside, output_seen};
-ghost use Rattle.finder_program.specs.Disks.{HasStoreCause};
+ghost use Rattle.outside_seen.specs.Outside.{disk_seen, network_seen, outside, output_seen};
+ghost use Rattle.finder_commands.specs.Disks.{HasStoreCause};
 ghost use Rattle.finder_program.specs.ServeCommand.{
   JournalServeCompletes,
   JournalServeEnds,
   status_of_ending,
 };
 
-use crate::opening::status_of_opening;
-use crate::status::Status;
 use farm_disk::DatedDisk;
 use farm_serve::{Ending, serve};
+use finder_commands::{Status, status_of_opening};
 use link_io::{Clock, Network, Sink};
 use std::alloc::Global;
 use std::sync::Wait;

@@ -1,7 +1,7 @@
 use Rattle.std.proofs.Common.{refl}
 use Rattle.connection_laws.specs.Moments.{MayGive}
 use Rattle.farm_serve.proofs.Ends.{completes, opened-ends}
-use Rattle.farm_serve.specs.Outside.{output_seen}
+use Rattle.outside_seen.specs.Outside.{output_seen}
 use Rattle.farm_serve.proofs.serving.serve.Goals as goal
 
 pub returns-in-Ok-clause-ends : goal.returns-in-Ok-clause-ends

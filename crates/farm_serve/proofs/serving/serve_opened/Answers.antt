@@ -7,7 +7,7 @@ use Rattle.shared_farm.specs.Rests.{CameBy, begun_of}
 use Rattle.farm_serve.proofs.Crashes.{came-first}
 use Rattle.farm_serve.proofs.Served.{comes_to_none}
 use Rattle.farm_serve.specs.Acknowledged.{acknowledged_by}
-use Rattle.farm_serve.specs.Outside.{network_seen}
+use Rattle.outside_seen.specs.Outside.{network_seen}
 use Rattle.farm_serve.specs.Serving.{ComesTo, store_mark}
 use Rattle.farm_serve.proofs.serving.serve_opened.Goals as goal
 

@@ -3,9 +3,9 @@ use Rattle.farm_script.specs.Shown.{shown_text}
 use Rattle.link_io.specs.Streams.{streams}
 use Rattle.rates_report.specs.RateLines.{rates_text}
 use Rattle.connection_laws.specs.Moments.{MayGive}
-use Rattle.farm_serve.specs.Outside.{disk_seen, output_seen}
-use Rattle.finder_program.proofs.Completing.{close-completes, evidence-completes, found-completes, inherit-completes, run_journal-completes, shown-completes}
-use Rattle.finder_program.proofs.Inheritings.{inherit-says}
+use Rattle.outside_seen.specs.Outside.{disk_seen, output_seen}
+use Rattle.finder_commands.proofs.Completing.{close-completes, evidence-completes, found-completes, inherit-completes, run_journal-completes, shown-completes}
+use Rattle.finder_commands.proofs.Inheritings.{inherit-says}
 use Rattle.finder_program.proofs.Saying.{asked-named, asked-none, unread-says}
 use Rattle.finder_program.proofs.program.finder.Goals as goal
 

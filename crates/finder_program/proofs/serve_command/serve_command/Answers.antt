@@ -1,5 +1,5 @@
 use Rattle.connection_laws.specs.Moments.{MayGive}
-use Rattle.farm_serve.specs.Outside.{Outside, disk_seen, network_seen, outside, output_seen}
+use Rattle.outside_seen.specs.Outside.{Outside, disk_seen, network_seen, outside, output_seen}
 use Rattle.finder_program.proofs.Serving.{serve-cause, serve-completes}
 use Rattle.finder_program.proofs.serve_command.serve_command.Goals as goal
 

@@ -1,0 +1,14 @@
+pub mod Auditing
+pub mod Causes
+pub mod Closings
+pub mod Completing
+pub mod Drilling
+pub mod Following
+pub mod Foundings
+pub mod Inheritings
+pub mod JournalRuns
+pub mod Judging
+pub mod Putting
+pub mod Taken
+pub mod Unread
+pub mod Working
